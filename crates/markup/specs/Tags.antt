@@ -1,0 +1,71 @@
+-- Start tags with their attributes, and end tags (document 01, "The markup taken").
+use Prim.Native.Nat.{ℕ}
+use Prim.Native.Char.{code}
+use mathlib.Core.Bool.{Bool, true, false, cond}
+use mathlib.Core.List.{List, [], _∷_}
+use lib.Dec.{eqb}
+use lib.ListN.{drop, getD}
+use Rattle.laws.specs.Lists.{same, any}
+use Rattle.laws.specs.Loop.{Step, loop}
+use Rattle.laws.specs.Loop.Step.{stop, next}
+use Rattle.markup.specs.Bytes.{isWs, run}
+use Rattle.markup.specs.Reading.{Read, then}
+use Rattle.markup.specs.Reading.Read.{refused, read}
+use Rattle.markup.specs.Names.{skipWs, byte, name, value}
+
+-- an attribute
+pub record Pair : Type 0 where
+  pub key : List ℕ
+  pub val : List ℕ
+
+-- white space "may stand around `=`"
+unfoldable pub attribute : List ℕ → Read Pair
+attribute l =
+    then (name l) (λ n m. then (byte (code "=") (skipWs m)) (λ _ m. then (value (skipWs m)) (λ v m. read (record { key = n; val = v }) m)))
+
+-- what follows a start tag's name: the attributes in order, and whether the tag ends in `/>`
+pub record Attributes : Type 0 where
+  pub pairs : List Pair
+  pub shut : Bool
+
+abbrev pub ending : Bool → Attributes
+ending b = record { pairs = []; shut = b }
+
+abbrev pub hasKey : List ℕ → List Pair → Bool
+hasKey n ps = any (λ p. same n (p .key)) ps
+
+-- an attribute before those that follow: "Attribute names differ within a tag"
+abbrev pub before : Pair → Read Attributes → Read Attributes
+before p rest =
+    then rest (λ a m. cond (hasKey (p .key) (a .pairs)) refused (read (record { pairs = p ∷ a .pairs; shut = a .shut }) m))
+
+abbrev pub goOn : Read Pair → Step (Read Attributes)
+goOn refused = stop refused
+goOn (read p m) = next (before p) m
+
+-- after w bytes of white space: "White space is required before each attribute, and may stand .. before the closing `>` or `/>`"
+abbrev pub attributesAt : ℕ → List ℕ → Step (Read Attributes)
+attributesAt w l =
+    cond (eqb (getD l 0 0) (code ">")) (stop (read (ending false) (drop 1 l)))
+    (cond (eqb (getD l 0 0) (code "/")) (stop (then (byte (code ">") (drop 1 l)) (λ _ m. read (ending true) m)))
+    (cond (eqb w 0) (stop refused) (goOn (attribute l))))
+
+unfoldable pub attributesStep : List ℕ → Step (Read Attributes)
+attributesStep l = attributesAt (run isWs l) (skipWs l)
+
+unfoldable pub attributes : List ℕ → Read Attributes
+attributes l = loop refused attributesStep l
+
+-- a start tag
+pub record Tag : Type 0 where
+  pub named : List ℕ
+  pub pairs : List Pair
+  pub shut : Bool
+
+unfoldable pub tag : List ℕ → Read Tag
+tag l =
+    then (byte (code "<") l) (λ _ m. then (name m) (λ n m. then (attributes m) (λ a m. read (record { named = n; pairs = a .pairs; shut = a .shut }) m)))
+
+-- after `</`: "End names match"; white space may stand before the `>`
+unfoldable pub endTag : List ℕ → List ℕ → Read Unit
+endTag n l = then (name l) (λ m rest. cond (same n m) (byte (code ">") (skipWs rest)) refused)

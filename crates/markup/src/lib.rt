@@ -1,0 +1,2 @@
+// The markup reader.
+fn nothing() {}
