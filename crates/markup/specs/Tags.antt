@@ -1,7 +1,7 @@
 -- Start tags with their attributes, and end tags (document 01, "The markup taken").
 use Prim.Native.Nat.{ℕ}
 use Prim.Native.Char.{code}
-use mathlib.Core.Bool.{Bool, true, false, cond}
+use mathlib.Core.Bool.{Bool, true, false, cond, not, _&&_}
 use mathlib.Core.List.{List, [], _∷_}
 use lib.Dec.{eqb}
 use lib.ListN.{drop, getD}
@@ -31,13 +31,9 @@ pub record Attributes : Type 0 where
 abbrev pub ending : Bool → Attributes
 ending b = record { pairs = []; shut = b }
 
-abbrev pub hasKey : List ℕ → List Pair → Bool
-hasKey n ps = any (λ p. same n (p .key)) ps
-
--- an attribute before those that follow: "Attribute names differ within a tag"
+-- an attribute before those that follow
 abbrev pub before : Pair → Read Attributes → Read Attributes
-before p rest =
-    then rest (λ a m. cond (hasKey (p .key) (a .pairs)) refused (read (record { pairs = p ∷ a .pairs; shut = a .shut }) m))
+before p rest = then rest (λ a m. read (record { pairs = p ∷ a .pairs; shut = a .shut }) m)
 
 abbrev pub goOn : Read Pair → Step (Read Attributes)
 goOn refused = stop refused
@@ -56,15 +52,22 @@ attributesStep l = attributesAt (run isWs l) (skipWs l)
 unfoldable pub attributes : List ℕ → Read Attributes
 attributes l = loop refused attributesStep l
 
+-- "Attribute names differ within a tag"
+unfoldable pub differ : List Pair → Bool
+differ [] = true
+differ (p ∷ ps) = not (any (λ q. same (p .key) (q .key)) ps) && differ ps
+
 -- a start tag
 pub record Tag : Type 0 where
   pub named : List ℕ
   pub pairs : List Pair
   pub shut : Bool
 
+abbrev pub tagOf : List ℕ → Attributes → List ℕ → Read Tag
+tagOf n a l = cond (differ (a .pairs)) (read (record { named = n; pairs = a .pairs; shut = a .shut }) l) refused
+
 unfoldable pub tag : List ℕ → Read Tag
-tag l =
-    then (byte (code "<") l) (λ _ m. then (name m) (λ n m. then (attributes m) (λ a m. read (record { named = n; pairs = a .pairs; shut = a .shut }) m)))
+tag l = then (byte (code "<") l) (λ _ m. then (name m) (λ n m. then (attributes m) (tagOf n)))
 
 -- after `</`: "End names match"; white space may stand before the `>`
 unfoldable pub endTag : List ℕ → List ℕ → Read Unit
