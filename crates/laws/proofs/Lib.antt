@@ -1,3 +1,4 @@
 pub mod Reach
+pub mod Lists
 pub mod Order
 pub mod Truth

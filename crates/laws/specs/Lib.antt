@@ -1,3 +1,4 @@
+pub mod Decimal
 pub mod Lists
 pub mod Loop
 pub mod Text

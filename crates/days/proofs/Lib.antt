@@ -1,0 +1,6 @@
+pub mod Months
+pub mod Follows
+pub mod Firsts
+pub mod Years
+pub mod Digits
+pub mod Periods

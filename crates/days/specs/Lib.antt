@@ -1,0 +1,5 @@
+pub mod Calendar
+pub mod Table
+pub mod Dates
+pub mod Quarters
+pub mod View

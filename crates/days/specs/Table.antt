@@ -1,0 +1,10 @@
+-- The lent table of first-of-month day numbers (document 01, "Day numbers": "a table of 2,400 first-of-month day numbers").
+use Prim.Native.Nat.{ℕ, _<_}
+use mathlib.Core.Path.{_≡_}
+use mathlib.Core.List.{List}
+use lib.ListN.{getD}
+use Rattle.days.specs.Calendar.{firstOf}
+
+-- it holds the first day of each month
+unfoldable pub Firsts : List ℕ → Type 0
+Firsts t = (k : ℕ) → k < 2400 → getD t k 0 ≡ firstOf k

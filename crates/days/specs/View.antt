@@ -1,0 +1,27 @@
+-- What the code's answers say.
+use Prim.Native.Nat.{ℕ, _+_, _<_, _≤_}
+use mathlib.Core.Path.{_≡_}
+use mathlib.Core.Bool.{cond}
+use mathlib.Core.List.{List}
+use lib.ListN.{length, drop}
+use Rattle.days.specs.Calendar.{dayCount}
+use Rattle.days.specs.Dates.{Dated, undated, dated}
+use Rattle.days.specs.Quarters.{isPeriod, firstDay, lastDay}
+use Rattle.days.specs.declared.dates.Date.{Date}
+use Rattle.days.specs.declared.dates.Date.the-variants as date
+use Rattle.days.specs.declared.quarters.Quarter.{Quarter}
+use Rattle.days.specs.declared.quarters.Quarter.the-variants as quarter
+
+-- the day, and what is left from the next place on
+abbrev pub viewDate : List ℕ → Date → Dated
+viewDate s (date.Day n next) = dated n (drop next s)
+viewDate s date.Refused = undated
+
+-- a day that was read has its number, and the next place lies ten bytes on, within the input
+abbrev pub okDate : List ℕ → ℕ → Date → Type 0
+okDate s at (date.Day n next) = (n < dayCount) × (next ≡ at + 10) × (next ≤ length s)
+okDate s at date.Refused = Unit
+
+-- the first and the last day of an allowed period
+abbrev pub quarterOf : ℕ → ℕ → Quarter
+quarterOf y q = cond (isPeriod y q) (quarter.Days (firstDay y q) (lastDay y q)) quarter.Refused
