@@ -4,3 +4,4 @@ pub mod Firsts
 pub mod Years
 pub mod Digits
 pub mod Periods
+pub mod Reading

@@ -1,0 +1,14 @@
+pub mod MapLaws
+pub mod MapSizes
+pub mod MapPlace
+pub mod ChecksLaws
+pub mod Lists
+pub mod MachineLaws
+pub mod Histories
+pub mod Simulation
+pub mod FlowLaws
+pub mod FlowHistories
+pub mod TransmissionLaws
+pub mod Demands
+pub mod Toy
+pub mod Excluded

@@ -1,0 +1,6 @@
+pub mod Map
+pub mod Checks
+pub mod Machine
+pub mod Transmission
+pub mod Flow
+pub mod Demands
