@@ -6,8 +6,8 @@ use native.Mathlib.Omega.{arith}
 use native.Mathlib.Decide.{ℕ-discrete}
 use lib.Dec.{leb}
 use borrow.Author.Tests.{le-leb, lt-leb}
-use Rattle.days.specs.Calendar.{firstOf, yearsTo, yearOf, monthOf, monthLength, lengthOf, dayNumber, realDay}
-use Rattle.days.proofs.Months.{first-mono, years-long}
+use Rattle.days.specs.Calendar.{monthLength, monthOf, lengthOf, firstOf, dayNumber, yearsTo, yearOf}
+use Rattle.days.proofs.Months.{first-mono, first-next, month-length, years-long, RealDay}
 
 -- year j has begun on day n
 pub years-yes : (j n : ℕ) → firstOf (12 * suc j) ≤ n → yearsTo (suc j) n ≡ suc j
@@ -60,3 +60,12 @@ year-is j n b h k =
     here : (j : ℕ) → firstOf (12 * j) ≤ n → yearsTo j n ≡ j
     here zero h = years-none n
     here (suc j) h = years-yes j n h
+
+-- a date's year is the year of its day number
+pub year-of-date : (y m d : ℕ) → RealDay y m d → yearOf (dayNumber y m d) ≡ y
+year-of-date y m d r =
+    let k : ℕ = monthOf y m in
+    let l : firstOf (12 * (y - 1900)) ≤ firstOf k = first-mono (12 * (y - 1900)) k (omega arith) in
+    let u : firstOf (k + 1) ≤ firstOf (12 * suc (y - 1900)) = first-mono (k + 1) (12 * suc (y - 1900)) (omega arith) in
+    let e : lengthOf k ≡ monthLength y m = month-length y m (r .from) (r .low) (r .high) in
+    year-is (y - 1900) (dayNumber y m d) (omega arith) (omega arith) (omega (arith, first-next k)) ∙ omega arith

@@ -32,12 +32,12 @@ sub-result : tie.Need-sub-result
 sub-result c = let r = real (c .before .args .y) (c .before .args .m) (c .before .args .d) (c .before .pre .1) in omega arith
 
 add-result : tie.Need-add-result
-add-result c = 
+add-result c =
     let r = real (c .before .args .y) (c .before .args .m) (c .before .args .d) (c .before .pre .1) in
     record { fits = omega (arith, day-found (c .before .args .y) (c .before .args .m) (c .before .args .d) r) }
 
 returns : tie.Need-returns
-returns c = 
+returns c =
     let r = real (c .before .args .y) (c .before .args .m) (c .before .args .d) (c .before .pre .1) in
     (ap (λ (x : ℕ). x + (c .before .args .d - 1)) (c .first-of .ensures .0), omega (arith, c .first-of .ensures .0, day-found (c .before .args .y) (c .before .args .m) (c .before .args .d) r))
 

@@ -18,11 +18,12 @@ abbrev μ-loop : tie.MeasureT-loop
 μ-loop t day k₀ k = k
 
 loop-holds : tie.Need-loop-holds Inv-loop μ-loop
-loop-holds c = 
+loop-holds c =
     ⊎-elim
     (λ w. (omega arith, ap (λ (x : ℕ). yearsTo x (c .before .args .day)) (sym (w .1))))
     (λ w. (omega arith, search-start _ _ (w .1) (omega arith)))
     (c .if1 .came)
+
 mul-first-of : tie.Need-mul-first-of Inv-loop μ-loop
 mul-first-of c = search needs
 
