@@ -1,0 +1,31 @@
+-- A test on every element of two lists, one after the other.
+use mathlib.Core.Path.{_≡_, refl}
+use mathlib.Core.Bool.{Bool, true, false, _&&_}
+use mathlib.Core.List.{List, [], _∷_, _++_}
+use Rattle.laws.specs.Lists.{all}
+use Rattle.laws.proofs.Truth.{and-left, and-right}
+
+module _ {A : Type 0} (p : A → Bool) where
+  pub all-append : (a b : List A) → all p (a ++ b) ≡ (all p a && all p b)
+  unfolding all
+  all-append [] b = refl
+  all-append (x ∷ a) b = go (p x) (all-append a b)
+    where
+      go : (t : Bool) → all p (a ++ b) ≡ (all p a && all p b) → (t && all p (a ++ b)) ≡ ((t && all p a) && all p b)
+      go true e = e
+      go false e = refl
+
+  pub all-left : (a b : List A) → all p (a ++ b) ≡ true → all p a ≡ true
+  all-left a b h = and-left (all p a) (all p b) (rw (all-append a b) at h)
+
+  pub all-right : (a b : List A) → all p (a ++ b) ≡ true → all p b ≡ true
+  all-right a b h = and-right (all p a) (all p b) (rw (all-append a b) at h)
+
+  pub all-join : (a b : List A) → all p a ≡ true → all p b ≡ true → all p (a ++ b) ≡ true
+  all-join a b h k = rw (all-append a b, h, k)
+
+-- a test that follows from another
+pub all-map : {A : Type 0} (p q : A → Bool) → ((x : A) → p x ≡ true → q x ≡ true) → (l : List A) → all p l ≡ true → all q l ≡ true
+unfolding all
+all-map p q f [] h = refl
+all-map p q f (x ∷ l) h = rw (f x (and-left (p x) (all p l) h)) (all-map p q f l (and-right (p x) (all p l) h))

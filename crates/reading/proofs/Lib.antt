@@ -1,0 +1,16 @@
+pub mod Fuel
+pub mod All
+pub mod Cut
+pub mod Leaves
+pub mod Tags
+pub mod Elements
+pub mod Steps
+pub mod Locality
+pub mod Shrink
+pub mod Round
+pub mod Files
+pub mod Allowed
+pub mod Places
+pub mod Parts
+pub mod Many
+pub mod Examples

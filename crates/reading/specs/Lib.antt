@@ -1,0 +1,4 @@
+pub mod Places
+pub mod Within
+pub mod Print
+pub mod Many
