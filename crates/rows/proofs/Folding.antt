@@ -1,0 +1,26 @@
+-- A test of a whole list by a loop with no early way out.
+use Prim.Native.Nat.{ℕ, _+_, _≤_, _<_}
+use mathlib.Core.Path.{_≡_, refl, ap, sym, _∙_}
+use mathlib.Core.Bool.{Bool, true, false, _&&_}
+use mathlib.Core.List.{List}
+use lib.ListN.{length, drop, getD}
+use Rattle.laws.specs.Lists.{all}
+use Rattle.laws.proofs.Lists.{all-step, all-end}
+
+pub and-assoc : (a b c : Bool) → ((a && b) && c) ≡ (a && (b && c))
+and-assoc true b c = refl
+and-assoc false b c = refl
+
+pub and-true : (a : Bool) → (a && true) ≡ a
+and-true true = refl
+and-true false = refl
+
+-- what `good` says of the elements passed and the rest of the rest, `target` is
+pub fold-step : (p : ℕ → Bool) (l : List ℕ) (i : ℕ) (target good r : Bool) → i < length l → r ≡ p (getD l i 0)
+    → target ≡ (good && all p (drop i l)) → target ≡ ((good && r) && all p (drop (i + 1) l))
+fold-step p l i target good r h e inv =
+    inv ∙ ap (λ (b : Bool). good && b) (all-step p l i h ∙ ap (λ (b : Bool). b && all p (drop (i + 1) l)) (sym e))
+    ∙ sym (and-assoc good r (all p (drop (i + 1) l)))
+
+pub fold-end : (p : ℕ → Bool) (l : List ℕ) (i : ℕ) (target good : Bool) → length l ≤ i → target ≡ (good && all p (drop i l)) → good ≡ target
+fold-end p l i target good h inv = sym (inv ∙ ap (λ (b : Bool). good && b) (all-end p l i h) ∙ and-true good)

@@ -1,0 +1,6 @@
+pub mod Back
+pub mod Chars
+pub mod Ordering
+pub mod Pack
+pub mod Row
+pub mod Writer

@@ -1,0 +1,96 @@
+// The rows of the table, packed: into a buffer of any length that has room for the fields.
+ghost use mathlib.Core.Path.{_≡_};
+ghost use mathlib.Core.List.{[], _∷_, _++_};
+ghost use Prim.Native.Nat.{_+_, _*_, _^_, _≤_, _<_};
+ghost use lib.ListN.{length};
+ghost use Rattle.rows.specs.Pack.{«bits», num};
+ghost use Rattle.rows.specs.Row.{keyBits, caseBits, eventBits, keyOf, caseOf, eventOf, keyFields, caseFields, eventNumber, rowNumber, KeyFits, CaseFits, EventFits};
+ghost use Rattle.rows.specs.Writer.{count, Tidy, Wrote, start};
+use crate::writer::Bits;
+use crate::writer::finish;
+use crate::writer::put;
+use crate::writer::put_each;
+
+// Writes the key of a case.
+pub fn put_key(out: &mut [u8], region: u64, asl: &[u8], day: u64, id: &[u8]) -> Bits
+    requires { ⌜ KeyFits (keyOf region (now asl) day (now id)) ⌝ }
+    requires { ⌜ keyBits ≤ 8 * length (now out) ⌝ }
+    ensures { λ r. ⌜ Wrote (now (out .entry)) (now (out .exit)) start r (keyFields (keyOf region (now (asl .entry)) day (now (id .entry)))) ⌝ }
+    ensures { λ r. ⌜ count r ≡ keyBits ⌝ }
+{
+    let s = Bits {
+        acc: 0,
+        have: 0,
+        at: 0,
+    };
+    let s = put(out, s, 8, region);
+    let s = put_each(out, s, 7, asl);
+    let s = put(out, s, 17, day);
+    put_each(out, s, 7, id)
+}
+
+// Writes what a case has after its key.
+pub fn put_case(out: &mut [u8], s: Bits, birth: u64, prevalente: &[u8], scales: &[u8]) -> Bits
+    requires { ⌜ Tidy s ⌝ }
+    requires { ⌜ CaseFits (caseOf birth (now prevalente) (now scales)) ⌝ }
+    requires { ⌜ count s + caseBits ≤ 8 * length (now out) ⌝ }
+    ensures { λ r. ⌜ Wrote (now (out .entry)) (now (out .exit)) s r (caseFields (caseOf birth (now (prevalente .entry)) (now (scales .entry)))) ⌝ }
+    ensures { λ r. ⌜ count r ≡ count s + caseBits ⌝ }
+{
+    let s = put(out, s, 12, birth);
+    let s = put_each(out, s, 7, prevalente);
+    put_each(out, s, 2, scales)
+}
+
+// A row of the key alone: the probe that a search compares with.
+pub fn pack_key(out: &mut [u8], region: u64, asl: &[u8], day: u64, id: &[u8])
+    requires { ⌜ KeyFits (keyOf region (now asl) day (now id)) ⌝ }
+    requires { ⌜ keyBits ≤ 8 * length (now out) ⌝ }
+    ensures { λ _. ⌜ num (now (out .exit)) ≡ rowNumber (length (now (out .entry))) (keyFields (keyOf region (now (asl .entry)) day (now (id .entry)))) ⌝ }
+{
+    let s = put_key(out, region, asl, day, id);
+    finish(out, s);
+}
+
+// The row of a case.
+pub fn pack_case(
+    out: &mut [u8],
+    region: u64,
+    asl: &[u8],
+    day: u64,
+    id: &[u8],
+    birth: u64,
+    prevalente: &[u8],
+    scales: &[u8],
+)
+    requires { ⌜ KeyFits (keyOf region (now asl) day (now id)) ⌝ }
+    requires { ⌜ CaseFits (caseOf birth (now prevalente) (now scales)) ⌝ }
+    requires { ⌜ keyBits + caseBits ≤ 8 * length (now out) ⌝ }
+    ensures { λ _. ⌜ num (now (out .exit)) ≡ rowNumber (length (now (out .entry))) (keyFields (keyOf region (now (asl .entry)) day (now (id .entry))) ++ caseFields (caseOf birth (now (prevalente .entry)) (now (scales .entry)))) ⌝ }
+{
+    let s = put_key(out, region, asl, day, id);
+    let s = put_case(out, s, birth, prevalente, scales);
+    finish(out, s);
+}
+
+// The number of an event's fields.
+pub fn event_number(kind: u64, date: u64, end: u64, code: u64, accesses: u64, conferma: u64) -> u64
+    requires { ⌜ EventFits (eventOf kind date end code accesses conferma) ⌝ }
+    ensures { λ r. ⌜ (r ≡ eventNumber (eventOf kind date end code accesses conferma)) × (r < 2 ^ eventBits) ⌝ }
+{
+    let dates = ((kind << 17) + date) << 17;
+    let codes = ((dates + end) << 7) + code;
+    (((codes << 7) + accesses) << 2) + conferma
+}
+
+// The row of an event, given by its number.
+pub fn pack_event(out: &mut [u8], region: u64, asl: &[u8], day: u64, id: &[u8], event: u64)
+    requires { ⌜ KeyFits (keyOf region (now asl) day (now id)) ⌝ }
+    requires { ⌜ event < 2 ^ eventBits ⌝ }
+    requires { ⌜ keyBits + eventBits ≤ 8 * length (now out) ⌝ }
+    ensures { λ _. ⌜ num (now (out .exit)) ≡ rowNumber (length (now (out .entry))) (keyFields (keyOf region (now (asl .entry)) day (now (id .entry))) ++ (bits eventBits event ∷ [])) ⌝ }
+{
+    let s = put_key(out, region, asl, day, id);
+    let s = put(out, s, 52, event);
+    finish(out, s);
+}
