@@ -14,7 +14,7 @@ use borrow.Author.Tests.{leb-true}
 use Rattle.laws.proofs.Truth.{and-left, and-right}
 use Rattle.laws.specs.Decimal.{isDigit, decimalAfter, decimal}
 use Rattle.laws.specs.Lists.{all}
-use Rattle.laws.proofs.Lists.{front, all-step, all-end}
+use Rattle.laws.proofs.Places.{front, all-step, all-end}
 
 -- after i digits of w, which write n
 pub record Left (w : List ℕ) (n i : ℕ) : Type 0 where

@@ -1,4 +1,7 @@
-pub mod Reach
+pub mod Folding
+pub mod Fuel
 pub mod Lists
 pub mod Order
+pub mod Places
+pub mod Reach
 pub mod Truth

@@ -1,19 +1,12 @@
--- Tests on lists, at a place and in a loop.
-use Prim.Native.Nat.{ℕ, zero, suc, _+_, _≤_, _<_}
-use mathlib.Core.Path.{_≡_, refl, sym, ap, _∙_}
+-- Tests on every element of a list.
+use Prim.Native.Nat.{ℕ, zero, suc, _<_}
+use mathlib.Core.Path.{_≡_, refl}
 use mathlib.Core.Bool.{Bool, true, false, _&&_}
-use mathlib.Core.List.{List, [], _∷_}
-use native.Mathlib.Numerals.{add-one}
+use mathlib.Core.List.{List, [], _∷_, _++_}
 use native.Mathlib.Omega.{arith}
-use lib.Dec.{eqb}
-use lib.ListN.{length, drop, getD, drop-of-length-le}
-use lib.Seq.{drop-cons}
-use Rattle.laws.specs.Lists.{all, any, same}
+use lib.ListN.{length, getD}
+use Rattle.laws.specs.Lists.{all}
 use Rattle.laws.proofs.Truth.{and-left, and-right}
-
--- the list from a place within it
-pub front : (l : List ℕ) (i : ℕ) → i < length l → drop i l ≡ getD l i 0 ∷ drop (i + 1) l
-front l i h = rw (add-one, drop-cons l i 0)
 
 -- what all pass, the one at a place passes
 pub all-at : (p : ℕ → Bool) (l : List ℕ) → all p l ≡ true → (i : ℕ) → i < length l → p (getD l i 0) ≡ true
@@ -22,11 +15,28 @@ all-at p [] e i h = absurd (omega arith)
 all-at p (x ∷ l) e zero h = and-left (p x) (all p l) e
 all-at p (x ∷ l) e (suc i) h = all-at p l (and-right (p x) (all p l) e) i (omega arith)
 
--- a loop over the list: at a place, and past the end
-pub all-step : (p : ℕ → Bool) (l : List ℕ) (i : ℕ) → i < length l → all p (drop i l) ≡ (p (getD l i 0) && all p (drop (i + 1) l))
-unfolding all
-all-step p l i h = rw (front l i h)
+-- of two lists, one after the other
+module _ {A : Type 0} (p : A → Bool) where
+  pub all-append : (a b : List A) → all p (a ++ b) ≡ (all p a && all p b)
+  unfolding all
+  all-append [] b = refl
+  all-append (x ∷ a) b = go (p x) (all-append a b)
+    where
+      go : (t : Bool) → all p (a ++ b) ≡ (all p a && all p b) → (t && all p (a ++ b)) ≡ ((t && all p a) && all p b)
+      go true e = e
+      go false e = refl
 
-pub all-end : (p : ℕ → Bool) (l : List ℕ) (i : ℕ) → length l ≤ i → all p (drop i l) ≡ true
+  pub all-left : (a b : List A) → all p (a ++ b) ≡ true → all p a ≡ true
+  all-left a b h = and-left (all p a) (all p b) (rw (all-append a b) at h)
+
+  pub all-right : (a b : List A) → all p (a ++ b) ≡ true → all p b ≡ true
+  all-right a b h = and-right (all p a) (all p b) (rw (all-append a b) at h)
+
+  pub all-join : (a b : List A) → all p a ≡ true → all p b ≡ true → all p (a ++ b) ≡ true
+  all-join a b h k = rw (all-append a b, h, k)
+
+-- a test that follows from another
+pub all-map : {A : Type 0} (p q : A → Bool) → ((x : A) → p x ≡ true → q x ≡ true) → (l : List A) → all p l ≡ true → all q l ≡ true
 unfolding all
-all-end p l i h = rw (drop-of-length-le l h)
+all-map p q f [] h = refl
+all-map p q f (x ∷ l) h = rw (f x (and-left (p x) (all p l) h)) (all-map p q f l (and-right (p x) (all p l) h))

@@ -5,3 +5,5 @@ pub mod Comments
 pub mod Tags
 pub mod Elements
 pub mod Document
+pub mod Classes
+pub mod View

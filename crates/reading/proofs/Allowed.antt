@@ -19,7 +19,7 @@ use Rattle.markup.specs.Document.{document, depth}
 use Rattle.markup.specs.Reading.Read.{read}
 use Rattle.reading.specs.Within.{alone}
 use Rattle.reading.specs.Print.{pairsOn, endOn, printOn, print, placedTree, IsName, PairsOk, Prints, Printable, ValuesPlain, Plain}
-use Rattle.reading.proofs.All.{all-map, all-join}
+use Rattle.laws.proofs.Lists.{all-map, all-join}
 use Rattle.reading.proofs.Files.{printed-document}
 
 or-cases : (a b : Bool) → a || b ≡ true → (a ≡ true) ⊎ (b ≡ true)

@@ -20,7 +20,7 @@ use Rattle.markup.specs.Elements.Piece.{words, aside, closing, child}
 use Rattle.reading.specs.Places.{up, upTree}
 use Rattle.reading.specs.Print.{IsName}
 use Rattle.reading.specs.Within.{kidOn}
-use Rattle.reading.proofs.Fuel.{Shrinks}
+use Rattle.laws.proofs.Fuel.{Shrinks}
 use Rattle.reading.proofs.Cut.{never, then-is, read-in, still, Cut, Cuts, Local, cond-cuts, cons-cuts, less-cuts, look-cuts, map-cut, cuts-is}
 use Rattle.reading.proofs.Cut.{then-local, map-local, past-local, refused-cuts, only, only-cuts, read-local, Goes, goes-of, stopped, goes-less, loop-local}
 use Rattle.reading.proofs.Leaves.{not-byte, run-local}

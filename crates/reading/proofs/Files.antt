@@ -19,7 +19,7 @@ use Rattle.markup.specs.Comments.{opensOther, dashed, declared}
 use Rattle.markup.specs.Elements.{Tree, element}
 use Rattle.markup.specs.Document.{declares, declaration, goOn, miscStep, misc, depth, atEnd, document}
 use Rattle.reading.specs.Print.{print, placedTree, Printable}
-use Rattle.reading.proofs.Fuel.{Shrinks, loop-next, loop-stop, by-steps}
+use Rattle.laws.proofs.Fuel.{Shrinks, loop-next, loop-stop, by-steps}
 use Rattle.reading.proofs.Cut.{never, then-is, cond-is, read-in}
 use Rattle.reading.proofs.Leaves.{not-byte}
 use Rattle.reading.proofs.Tags.{dashed-local}

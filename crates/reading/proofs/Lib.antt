@@ -1,5 +1,3 @@
-pub mod Fuel
-pub mod All
 pub mod Cut
 pub mod Leaves
 pub mod Tags

@@ -16,7 +16,7 @@ use Rattle.reading.specs.Places.{upTree}
 use Rattle.reading.specs.Within.{mk, alone, kids, Every}
 use Rattle.reading.specs.Print.{endOn}
 use Rattle.reading.specs.Many.{wrappedTree, belowRoot, PartIn, Parted, fileOfOne, Single, said, records, Files}
-use Rattle.reading.proofs.All.{all-left, all-right}
+use Rattle.laws.proofs.Lists.{all-left, all-right}
 use Rattle.reading.proofs.Cut.{read-in}
 use Rattle.reading.proofs.Elements.{Ends}
 use Rattle.reading.proofs.Steps.{Built, built, element-from}

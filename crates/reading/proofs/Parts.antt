@@ -15,7 +15,7 @@ use Rattle.markup.specs.Document.{document}
 use Rattle.reading.specs.Places.{upTree}
 use Rattle.reading.specs.Print.{IsName, endOn}
 use Rattle.reading.specs.Many.{Part, Start, spell, trees, wrapped, wrappedTree, Allowed, belowRoot}
-use Rattle.reading.proofs.All.{all-join}
+use Rattle.laws.proofs.Lists.{all-join}
 use Rattle.reading.proofs.Tags.{tag-local, tag-opens}
 use Rattle.reading.proofs.Elements.{child-back, element-opens, element-local}
 use Rattle.reading.proofs.Steps.{build, on-close, on-child}

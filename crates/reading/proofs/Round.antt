@@ -21,7 +21,7 @@ use Rattle.markup.specs.Elements.Inside.{end, says, note, elem}
 use Rattle.markup.specs.Elements.Piece.{words, aside, closing, child}
 use Rattle.reading.specs.Print.{pairsOn, endOn, printOn, treeOn, print, placed, placedTree, IsName, PairsOk, TagOk, NoText, Prints, Printable}
 use Rattle.reading.specs.Within.{alone}
-use Rattle.reading.proofs.Fuel.{loop-next, loop-stop}
+use Rattle.laws.proofs.Fuel.{loop-next, loop-stop}
 use Rattle.reading.proofs.Cut.{never}
 use Rattle.reading.proofs.Leaves.{not-byte, front-back, after-back, run-none, byte-back, name-back}
 use Rattle.reading.proofs.Tags.{attributes-less}

@@ -12,7 +12,7 @@ use Rattle.markup.specs.Elements.{Inside, Tree, Piece, piece, onto, afterPiece,
 use Rattle.markup.specs.Elements.Inside.{end, says, note}
 use Rattle.markup.specs.Elements.Piece.{words, aside, closing, child}
 use Rattle.reading.specs.Within.{mk, kidOn}
-use Rattle.reading.proofs.Fuel.{Shrinks, loop-next, loop-stop, by-steps}
+use Rattle.laws.proofs.Fuel.{Shrinks, loop-next, loop-stop, by-steps}
 use Rattle.reading.proofs.Cut.{never, then-is, read-in}
 use Rattle.reading.proofs.Elements.{Ends, child-same, content-goes, content-less, element-opens, element-local}
 

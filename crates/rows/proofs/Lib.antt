@@ -8,5 +8,4 @@ pub mod Steps
 pub mod Writing
 pub mod Reading
 pub mod Comparing
-pub mod Folding
 pub mod Examples

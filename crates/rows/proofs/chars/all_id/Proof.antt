@@ -4,7 +4,7 @@ use mathlib.Core.Bool.{_&&_}
 use lib.ListN.{length, drop}
 use Rattle.laws.specs.Lists.{all}
 use Rattle.rows.specs.Chars.{idChar}
-use Rattle.rows.proofs.Folding.{fold-step, fold-end}
+use Rattle.laws.proofs.Folding.{fold-step, fold-end}
 use borrow.Author.Needs.{needs}
 use native.Mathlib.Omega.{arith}
 use Rattle.rows.proofs.chars.all_id.Statement.{statement}

@@ -1,19 +1,11 @@
 -- A test of a whole list by a loop with no early way out.
 use Prim.Native.Nat.{ℕ, _+_, _≤_, _<_}
 use mathlib.Core.Path.{_≡_, refl, ap, sym, _∙_}
-use mathlib.Core.Bool.{Bool, true, false, _&&_}
+use mathlib.Core.Bool.{Bool, _&&_, and-assoc, and-true}
 use mathlib.Core.List.{List}
 use lib.ListN.{length, drop, getD}
 use Rattle.laws.specs.Lists.{all}
-use Rattle.laws.proofs.Lists.{all-step, all-end}
-
-pub and-assoc : (a b c : Bool) → ((a && b) && c) ≡ (a && (b && c))
-and-assoc true b c = refl
-and-assoc false b c = refl
-
-pub and-true : (a : Bool) → (a && true) ≡ a
-and-true true = refl
-and-true false = refl
+use Rattle.laws.proofs.Places.{all-step, all-end}
 
 -- what `good` says of the elements passed and the rest of the rest, `target` is
 pub fold-step : (p : ℕ → Bool) (l : List ℕ) (i : ℕ) (target good r : Bool) → i < length l → r ≡ p (getD l i 0)

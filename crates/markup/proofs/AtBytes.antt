@@ -1,0 +1,83 @@
+-- Runs of bytes and parts of the input, at a place of it.
+use Prim.Native.Nat.{ℕ, suc, _+_, _-_, _<_, _≤_}
+use mathlib.Core.Path.{_≡_, refl, sym, ap, _∙_}
+use mathlib.Core.List.{List, [], _∷_}
+use mathlib.Core.Bool.{Bool, true, false, cond, not, _&&_, and-self}
+use native.Mathlib.Omega.{arith}
+use native.Mathlib.Nat.{add-sub-cancel-left}
+use lib.ListN.{length, drop, take, getD, length-drop, drop-of-length-le}
+use lib.Seq.{drop-drop, take-all, take-nil}
+use lib.Dec.{eqb}
+use borrow.Author.Tests.{eqb-true, ne-eqb}
+use Rattle.laws.proofs.Places.{front}
+use Rattle.markup.specs.Bytes.{isWs, isText, inValue, run}
+use Rattle.markup.specs.Names.{isQuote, skipWs}
+use Rattle.markup.specs.Classes.{class}
+use Rattle.markup.specs.View.{part}
+
+module _ (p : ℕ → Bool) where
+  pub run-le : (l : List ℕ) → run p l ≤ length l
+  unfolding run
+  run-le [] = omega arith
+  run-le (b ∷ bs) = go (p b) (run-le bs)
+    where
+      go : (t : Bool) → run p bs ≤ length bs → cond t (suc (run p bs)) 0 ≤ suc (length bs)
+      go true h = omega arith
+      go false h = omega arith
+
+  pub run-yes : (s : List ℕ) (at : ℕ) → at < length s → p (getD s at 0) ≡ true → run p (drop at s) ≡ suc (run p (drop (at + 1) s))
+  unfolding run
+  run-yes s at h e = rw (front s at h, e)
+
+  pub run-no : (s : List ℕ) (at : ℕ) → at < length s → p (getD s at 0) ≡ false → run p (drop at s) ≡ 0
+  unfolding run
+  run-no s at h e = rw (front s at h, e)
+
+  pub run-end : (s : List ℕ) (at : ℕ) → length s ≤ at → run p (drop at s) ≡ 0
+  unfolding run
+  run-end s at h = rw (drop-of-length-le s h)
+
+  -- where the first byte passes, the run goes on from there and ends within the input
+  pub run-ahead : (s : List ℕ) (at e : ℕ) → at < length s → p (getD s at 0) ≡ true → e ≡ at + run p (drop at s) → (at < e) × (e ≤ length s)
+  run-ahead s at e h y k = (omega (arith, run-yes s at h y), omega (arith, run-le (drop at s), length-drop at s))
+
+  -- the run and what follows it, by its end
+  pub run-part : (s : List ℕ) (at e : ℕ) → e ≡ at + run p (drop at s) → part s at e ≡ take (run p (drop at s)) (drop at s)
+  run-part s at e k = rw (k, add-sub-cancel-left)
+
+  pub run-after : (s : List ℕ) (at e : ℕ) → e ≡ at + run p (drop at s) → drop e s ≡ drop (run p (drop at s)) (drop at s)
+  run-after s at e k = ap (λ (n : ℕ). drop n s) k ∙ sym (drop-drop (run p (drop at s)) at s)
+
+pub skip-at : (s : List ℕ) (from at : ℕ) → at ≡ from + run (class 0) (drop from s) → drop at s ≡ skipWs (drop from s)
+unfolding skipWs class
+skip-at s from at k = run-after isWs s from at k
+
+class-else : (k : ℕ) → eqb k 0 ≡ false → eqb k 1 ≡ false → class k ≡ cond (eqb k 60) isText (inValue k)
+unfolding class
+class-else k z o = rw (z, o)
+
+pub class-quote : (q : ℕ) → isQuote q ≡ true → class q ≡ inValue q
+class-quote q t = go (eqb q 34) refl
+  where
+    go : (b : Bool) → eqb q 34 ≡ b → class q ≡ inValue q
+    go true e = rw (eqb-true q 34 e) (class-else 34 refl refl)
+    go false e = rw (eqb-true q 39 (rw e at t)) (class-else 39 refl refl)
+
+-- every byte but k and `<`, where k is `<`: every byte but `<`
+pub class-other : (k b : ℕ) → (k ≡ 0 → ⊥) → (k ≡ 1 → ⊥) → (not (eqb b k) && not (eqb b 60)) ≡ class k b
+class-other k b z o = rw (class-else k (ne-eqb k 0 z) (ne-eqb k 1 o)) (go (eqb k 60) refl)
+  where
+    go : (t : Bool) → eqb k 60 ≡ t → (not (eqb b k) && not (eqb b 60)) ≡ cond t isText (inValue k) b
+    go true e = rw (eqb-true k 60 e) (and-self (not (eqb b 60)))
+    go false e = refl
+
+pub part-none : (s : List ℕ) (a e : ℕ) → e ≤ a → [] ≡ part s a e
+part-none s a e h = let z : e - a ≡ 0 = omega arith in rw z
+
+pub part-out : (s : List ℕ) (a e : ℕ) → length s ≤ a → [] ≡ part s a e
+part-out s a e h = rw (drop-of-length-le s h, take-nil)
+
+pub part-rest : (s : List ℕ) (a e : ℕ) → length s ≤ e → take (length s - a) (drop a s) ≡ part s a e
+part-rest s a e h =
+    let d : length (drop a s) ≡ length s - a = length-drop a s in
+    take-all (length s - a) (drop a s) (omega arith) ∙ sym (take-all (e - a) (drop a s) (omega arith))

@@ -1,0 +1,95 @@
+-- Start tags and end tags at a place of the input, and what the code's answers say of a tag's attributes.
+use Prim.Native.Nat.{ℕ, _+_, _≤_}
+use mathlib.Core.Path.{_≡_, refl, sym, _∙_}
+use mathlib.Core.List.{List, [], _∷_}
+use mathlib.Core.Bool.{Bool, true, false, cond}
+use native.Mathlib.Decide.{ℕ-discrete}
+use native.Mathlib.Omega.{arith}
+use lib.ListN.{drop, getD}
+use lib.Seq.{drop-drop}
+use lib.Dec.{eqb}
+use borrow.Author.Tests.{eq-eqb, ne-eqb}
+use Rattle.laws.specs.Lists.{any, same}
+use Rattle.laws.specs.Loop.Step.{stop, next}
+use Rattle.laws.proofs.Places.{first}
+use Rattle.laws.proofs.Truth.{cond-both}
+use Rattle.markup.specs.Bytes.{isWs, run}
+use Rattle.markup.specs.Reading.{Read, then}
+use Rattle.markup.specs.Reading.Read.{refused, read}
+use Rattle.markup.specs.Names.{byte}
+use Rattle.markup.specs.Tags.{Pair, Attributes, ending, before, attribute, goOn, attributesStep, attributes, differ, tagOf}
+use Rattle.markup.specs.Classes.{class}
+use Rattle.markup.specs.View.{okEnding, endingOf, pairsIn, OfPairs}
+use Rattle.markup.specs.declared.Ending.{Ending}
+use Rattle.markup.specs.declared.Ending.the-variants as end
+use Rattle.markup.proofs.AtBytes.{skip-at}
+use Rattle.markup.proofs.Shorter.{attributes-turn}
+
+same-count : (from w at : ℕ) → at ≡ from + w → eqb w 0 ≡ eqb at from
+same-count from w at h = go (ℕ-discrete at from)
+  where
+    go : Dec (at ≡ from) → eqb w 0 ≡ eqb at from
+    go (Dec.yes e) = eq-eqb w 0 (omega arith) ∙ sym (eq-eqb at from e)
+    go (Dec.no f) = ne-eqb w 0 (λ z. f (omega arith)) ∙ sym (ne-eqb at from f)
+
+-- the white space ends at `at`, before the byte b
+pub attributes-at : (s : List ℕ) (from at b : ℕ) → at ≡ from + run (class 0) (drop from s) → b ≡ getD s at 0
+    → attributesStep (drop from s) ≡ cond (eqb b 62) (stop (read (ending false) (drop (at + 1) s)))
+    (cond (eqb b 47) (stop (then (byte 62 (drop (at + 1) s)) (λ _ m. read (ending true) m))) (cond (eqb at from) (stop refused) (goOn (attribute (drop at s)))))
+unfolding attributesStep class
+attributes-at s from at b h k =
+    rw (← skip-at s from at h, first s at, ← k, drop-drop 1 at s, same-count from (run isWs (drop from s)) at h)
+
+pub ending-before : (p : Pair) (r : Read Attributes) → endingOf (before p r) ≡ endingOf r
+ending-before p refused = refl
+ending-before p (read a m) = refl
+
+pub ending-done : (r : Read Bool) → endingOf (then r (λ b m. read (ending b) m)) ≡ r
+ending-done refused = refl
+ending-done (read b m) = refl
+
+-- what is said of the attributes from l on, by the step that is taken there
+module _ (f : List Pair → Bool) (l : List ℕ) where
+  pub of-done : (v : Read Bool) → stop (then v (λ b m. read (ending b) m)) ≡ attributesStep l → OfPairs f l (f [])
+  of-done v e a m h = go v (sym (rw (attributes-turn l, ← e) at h))
+    where
+      go : (v : Read Bool) → read a m ≡ then v (λ b m. read (ending b) m) → f [] ≡ f (a .pairs)
+      go refused e = absurd (let z : _≡_ {A = ℕ} 0 1 = cc in omega arith)
+      go (read b k) e = let j : a ≡ ending b = cc in rw j
+
+  pub of-next : {p : Pair} {k : List ℕ} {b : Bool} → next (before p) k ≡ attributesStep l → ((a : Attributes) (m : List ℕ) → attributes k ≡ read a m → b ≡ f (p ∷ a .pairs)) → OfPairs f l b
+  of-next {p} {k} {b} e g a m h = go (attributes k) refl (sym (rw (attributes-turn l, ← e) at h))
+    where
+      go : (r : Read Attributes) → attributes k ≡ r → read a m ≡ before p r → b ≡ f (a .pairs)
+      go refused i e = absurd (let z : _≡_ {A = ℕ} 0 1 = cc in omega arith)
+      go (read c n) i e = let j : a ≡ record { pairs = p ∷ c .pairs; shut = c .shut } = cc in rw j (g c n i)
+
+-- one more attribute before those of which it is said whether the name is among them
+module _ (n : List ℕ) (p : Pair) (ps : List Pair) where
+  pub among-yes : same n (p .key) ≡ true → true ≡ any (λ q. same n (q .key)) (p ∷ ps)
+  unfolding any
+  among-yes e = rw e
+
+  pub among-no : same n (p .key) ≡ false → any (λ q. same n (q .key)) (p ∷ ps) ≡ any (λ q. same n (q .key)) ps
+  unfolding any
+  among-no e = rw e
+
+module _ (p : Pair) (ps : List Pair) where
+  pub differ-no : any (λ q. same (p .key) (q .key)) ps ≡ true → false ≡ differ (p ∷ ps)
+  unfolding differ
+  differ-no e = rw e
+
+  pub differ-yes : any (λ q. same (p .key) (q .key)) ps ≡ false → differ (p ∷ ps) ≡ differ ps
+  unfolding differ
+  differ-yes e = rw e
+
+-- a tag's end, and whether the names of its attributes differ
+pub tag-end : (n : List ℕ) (r : Read Attributes) (v : Read Bool) (b : Bool) → v ≡ endingOf r → ((a : Attributes) (m : List ℕ) → r ≡ read a m → b ≡ differ (a .pairs))
+    → then r (tagOf n) ≡ cond b (then v (λ sh m. read (record { named = n; pairs = pairsIn r; shut = sh }) m)) refused
+tag-end n refused v b e d = rw e (cond-both b refused)
+tag-end n (read a m) v b e d = rw (e, d a m refl)
+
+pub okEnding-back : (s : List ℕ) (a b : ℕ) (r : Ending) → a ≤ b → okEnding s b r → okEnding s a r
+okEnding-back s a b (end.Open c) h k = omega arith
+okEnding-back s a b (end.Shut c) h k = omega arith
+okEnding-back s a b end.Refused h k = tt
