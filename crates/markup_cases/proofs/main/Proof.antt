@@ -1,0 +1,50 @@
+use Prim.Native.Nat.{_-_}
+use borrow.Author.Needs.{needs}
+use native.Mathlib.Omega.{arith}
+use Rattle.markup_cases.proofs.main.Statement.{statement}
+use Rattle.markup_cases.proofs.main.Tie as tie
+use Rattle.markup_cases.proofs.main.Reads as reads
+use Rattle.markup_cases.proofs.main.Lts as lts
+use Rattle.os.proofs.arg_count.Reads as arg-count-reads
+use Rattle.markup_cases.proofs.one.Reads as one-reads
+
+abbrev Inv-loop : tie.InvT-loop
+Inv-loop n i₀ i = Unit {0}
+
+abbrev μ-loop : tie.MeasureT-loop
+μ-loop n i₀ i = n - i
+
+arg-count-requires : tie.Need-arg-count-requires Inv-loop μ-loop
+arg-count-requires c κs = search needs
+
+loop-holds : tie.Need-loop-holds Inv-loop μ-loop
+loop-holds c = search needs
+
+one-requires : tie.Need-one-requires Inv-loop μ-loop
+one-requires c κs = search needs
+
+add-i : tie.Need-add-i Inv-loop μ-loop
+add-i c = search needs
+
+loop-less : tie.Need-loop-less Inv-loop μ-loop
+loop-less c = search needs
+
+loop-again : tie.Need-loop-again Inv-loop μ-loop
+loop-again c = search needs
+
+returns : tie.Need-returns Inv-loop μ-loop
+returns c = search needs
+
+pub main-spec : {M : Type 1} → statement M
+main-spec =
+    tie.close
+    (tie.spec
+    Inv-loop
+    μ-loop
+    arg-count-requires
+    loop-holds
+    one-requires
+    add-i
+    loop-less
+    loop-again
+    returns)
