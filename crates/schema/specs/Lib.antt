@@ -1,0 +1,4 @@
+pub mod Texts
+pub mod Schema
+pub mod Shape
+pub mod Table

@@ -1,0 +1,44 @@
+-- A schema as a value (document 01, "The shape of a record"; document 000, 4.5.2 and 4.6.2).
+use Prim.Native.Nat.{ℕ}
+use Prim.Native.String as string
+use mathlib.Core.Bool.{Bool}
+use mathlib.Core.List.{List, []}
+use Rattle.laws.specs.Text.{bytes}
+use Rattle.schema.specs.Texts.{Texts}
+
+-- an attribute: its name, whether it is required, and its values
+pub record Attr : Type 0 where
+  pub named : List ℕ
+  pub required : Bool
+  pub texts : Texts
+
+-- an element: its name, how often it may stand in its place (most 0: any number of times), its attributes
+pub record Head : Type 0 where
+  pub named : List ℕ
+  pub least : ℕ
+  pub most : ℕ
+  pub attrs : List Attr
+
+mutual
+  -- "A leaf is an element whose schema type has no child elements"; a group's children come in order; a record is held against its own node
+  pub data Node : Type 0 where
+    leaf : Head → Texts → Node
+    group : Head → Nodes → Node
+    another : Head → Node
+
+  pub data Nodes : Type 0 where
+    none : Nodes
+    _▸_ : Node → Nodes → Nodes
+
+infixr 20 _▸_
+abbrev pub headOf : Node → Head
+headOf (leaf h t) = h
+headOf (group h ns) = h
+headOf (another h) = h
+
+-- a file's schema: the root's name, how the names of its attributes may begin, its children with the records among them, and the record
+pub record Schema : Type 0 where
+  pub root : List ℕ
+  pub free : List (List ℕ)
+  pub nodes : Nodes
+  pub each : Node

@@ -1,0 +1,10 @@
+pub mod Sets
+pub mod Texts
+pub mod Paths
+pub mod Admissions
+pub mod Events
+pub mod WellRead
+pub mod Fits
+pub mod Bits
+pub mod Padded
+pub mod Examples

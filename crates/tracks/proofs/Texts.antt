@@ -1,0 +1,101 @@
+-- What a text that fits tells, one law for each kind of text.
+use Prim.Native.Nat.{ℕ, _+_, _-_, _*_, _^_, _≤_, _<_}
+use Prim.Native.Char.{code}
+use mathlib.Core.Path.{_≡_}
+use mathlib.Core.Bool.{Bool, true, _&&_}
+use mathlib.Core.List.{List, [], _∷_}
+use native.Mathlib.Nat.{pow-suc, mul-le-mul-right}
+use native.Mathlib.Omega.{arith}
+use lib.Dec.{eqb, leb}
+use lib.ListN.{length, getD}
+use borrow.Author.Tests.{leb-true, eqb-true}
+use Rattle.laws.specs.Decimal.{isDigit, decimalAfter, decimal}
+use Rattle.laws.specs.Lists.{all}
+use Rattle.laws.proofs.Truth.{and-left, and-right}
+use Rattle.days.specs.Calendar.{realDay, dayCount}
+use Rattle.days.specs.Dates.{yearText, monthText, dayText, hasDateForm, isDate, dayOf}
+use Rattle.days.proofs.Months.{real}
+use Rattle.days.proofs.Firsts.{day-found}
+use Rattle.laws.proofs.Lists.{all-map}
+use Rattle.schema.specs.Texts.{Range, inRanges, chars, number, date, plain, wide, digitsIn, unpadded, fitsText}
+use Rattle.tracks.specs.WellRead.{Spelled}
+
+-- ---- characters of a set
+
+pub record Chars (rs : List Range) (least most : ℕ) (t : List ℕ) : Type 0 where
+  pub low : least ≤ length t
+  pub high : length t ≤ most
+  pub bytes : all (inRanges rs) t ≡ true
+
+pub chars-fit : (rs : List Range) (a z : ℕ) (t : List ℕ) → fitsText (chars rs a z) t ≡ true → Chars rs a z t
+unfolding fitsText
+chars-fit rs a z t e =
+    let l = and-left (leb a (length t) && leb (length t) z) (all (inRanges rs) t) e in
+    record {
+      low = leb-true a (length t) (and-left (leb a (length t)) (leb (length t) z) l);
+      high = leb-true (length t) z (and-right (leb a (length t)) (leb (length t) z) l);
+      bytes = and-right (leb a (length t) && leb (length t) z) (all (inRanges rs) t) e;
+    }
+
+pub spelled : (rs : List Range) (set : ℕ → Bool) (n : ℕ) (t : List ℕ) → ((b : ℕ) → inRanges rs b ≡ true → set b ≡ true) → fitsText (chars rs n n) t ≡ true
+    → Spelled set n t
+spelled rs set n t h e =
+    let c = chars-fit rs n n t e in
+    record { long = omega arith; bytes = all-map (inRanges rs) set h t (c .bytes) }
+
+-- one character: what is known of it, and of the number that it writes
+pub one-char : (rs : List Range) (q : ℕ → Bool) (t : List ℕ) → ((b : ℕ) → inRanges rs b ≡ true → q b ≡ true) → fitsText (chars rs 1 1) t ≡ true → q (getD t 0 0) ≡ true
+unfolding all
+one-char rs q [] h e = let c = chars-fit rs 1 1 [] e in absurd (omega (arith, c .low))
+one-char rs q (b ∷ t) h e = h b (and-left (inRanges rs b) (all (inRanges rs) t) (chars-fit rs 1 1 (b ∷ t) e .bytes))
+
+pub one-digit : (rs : List Range) (q : ℕ → Bool) (t : List ℕ) → ((b : ℕ) → inRanges rs b ≡ true → q (b - code "0") ≡ true) → fitsText (chars rs 1 1) t ≡ true
+    → q (decimal t) ≡ true
+unfolding all decimalAfter
+one-digit rs q [] h e = let c = chars-fit rs 1 1 [] e in absurd (omega (arith, c .low))
+one-digit rs q (b ∷ []) h e =
+    let z : 0 * 10 + (b - code "0") ≡ b - code "0" = omega arith in
+    rw z (h b (and-left (inRanges rs b) true (chars-fit rs 1 1 (b ∷ []) e .bytes)))
+one-digit rs q (b ∷ c ∷ t) h e = let c = chars-fit rs 1 1 (b ∷ c ∷ t) e in absurd (omega (arith, c .high))
+
+-- ---- numbers
+
+digits-number : (rs : List Range) (t : List ℕ) → digitsIn rs t ≡ true → (all isDigit t ≡ true) × (inRanges rs (decimal t) ≡ true)
+digits-number rs t e =
+    let r = and-right (leb 1 (length t)) (all isDigit t && inRanges rs (decimal t)) e in
+    (and-left (all isDigit t) (inRanges rs (decimal t)) r, and-right (all isDigit t) (inRanges rs (decimal t)) r)
+
+pub plain-fit : (rs : List Range) (t : List ℕ) → fitsText (number plain rs) t ≡ true → inRanges rs (decimal t) ≡ true
+unfolding fitsText
+plain-fit rs t e = digits-number rs t (and-right (unpadded t) (digitsIn rs t) e) .1
+
+pub wide-fit : (n : ℕ) (rs : List Range) (t : List ℕ) → fitsText (number (wide n) rs) t ≡ true → Spelled isDigit n t × (inRanges rs (decimal t) ≡ true)
+unfolding fitsText
+wide-fit n rs t e =
+    let d = digits-number rs t (and-right (eqb (length t) n) (digitsIn rs t) e) in
+    (record { long = eqb-true (length t) n (and-left (eqb (length t) n) (digitsIn rs t) e); bytes = d .0 }, d .1)
+
+-- so many digits write a number below that power of ten
+digits-after : (n : ℕ) (t : List ℕ) → all isDigit t ≡ true → decimalAfter n t < (n + 1) * 10 ^ length t
+unfolding all decimalAfter
+digits-after n [] e = omega arith
+digits-after n (b ∷ t) e =
+    let d = and-left (isDigit b) (all isDigit t) e in
+    let z = leb-true b (code "9") (and-right (leb (code "0") b) (leb b (code "9")) d) in
+    let s = b - code "0" in
+    let i = digits-after (n * 10 + (b - code "0")) t (and-right (isDigit b) (all isDigit t) e) in
+    let l : n * 10 + (b - code "0") + 1 ≤ n * 10 + 10 = omega arith in
+    let m = mul-le-mul-right (10 ^ length t) l in
+    rw (pow-suc 10 (length t)) (omega arith)
+
+pub digits-below : (t : List ℕ) → all isDigit t ≡ true → decimal t < 10 ^ length t
+digits-below t e = omega (arith, digits-after 0 t e)
+
+-- ---- dates
+
+pub date-fit : (t : List ℕ) → fitsText date t ≡ true → dayOf t < dayCount
+unfolding fitsText isDate dayOf
+date-fit t e =
+    day-found (decimal (yearText t)) (decimal (monthText t)) (decimal (dayText t))
+    (real (decimal (yearText t)) (decimal (monthText t)) (decimal (dayText t))
+    (and-right (hasDateForm t) (realDay (decimal (yearText t)) (decimal (monthText t)) (decimal (dayText t))) e))

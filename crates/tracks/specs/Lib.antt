@@ -1,0 +1,5 @@
+pub mod Types
+pub mod Track1
+pub mod Track2
+pub mod Record
+pub mod WellRead

@@ -1,0 +1,93 @@
+-- Track 1 (document 000, 4.5.2), element by element.
+use mathlib.Core.List.{[], _∷_}
+use Rattle.laws.specs.Text.{bytes}
+use Rattle.schema.specs.Texts.{date}
+use Rattle.schema.specs.Schema.{Node, group, another, Nodes, none, _▸_, Schema}
+use Rattle.tracks.specs.Types
+
+abbrev pub residenza : Node
+residenza =
+    Types.all-of "Residenza" []
+    (Types.one "Regione" Types.regioneResidenza ▸
+    Types.one "ASL" Types.codASL ▸
+    Types.one "Comune" Types.comune ▸
+    Types.maybe "StatoEstero" Types.statoEstero ▸
+    none)
+
+abbrev pub assistito : Node
+assistito =
+    Types.all-of "Assistito" []
+    (Types.all-of "DatiAnagrafici" []
+    (Types.one "CUNI" Types.cuni ▸
+    Types.one "validitaCI" Types.validitaCI ▸
+    Types.one "tipologiaCI" Types.tipologiaCI ▸
+    Types.one "AnnoNascita" Types.anno ▸
+    Types.one "Genere" Types.genere ▸
+    Types.one "Cittadinanza" Types.cittadinanza ▸
+    Types.one "StatoCivile" Types.statoCivile ▸
+    residenza ▸
+    none) ▸
+    none)
+
+abbrev pub conviventi : Node
+conviventi =
+    Types.all-of "Conviventi" []
+    (Types.one "NucleoFamiliare" Types.nucleoFamiliare ▸
+    Types.one "AssistenteNonFamiliare" Types.assistenteNonFamiliare ▸
+    none)
+
+abbrev pub presaInCarico : Node
+presaInCarico =
+    Types.all-of "PresaInCarico" (Types.required "data" date ∷ Types.required "soggettoRichiedente" Types.soggettoRichiedente ∷ [])
+    (Types.one "Id_Rec" Types.idRec ▸ none)
+
+abbrev pub valutazione : Node
+valutazione =
+    Types.all-of "Valutazione" (Types.required "data" date ∷ [])
+    (Types.patologie ▸
+    Types.maybe "Autonomia" Types.autonomia ▸
+    Types.maybe "GradoMobilita" Types.gradoMobilita ▸
+    Types.all-of "Disturbi" [] Types.disturbi ▸
+    Types.maybe "SupportoSociale" Types.supportoSociale ▸
+    Types.maybe "RischioInfettivo" Types.rischioInfettivo ▸
+    Types.one "DrenaggioPosturale" Types.bisogno ▸
+    Types.one "OssigenoTerapia" Types.bisogno ▸
+    Types.one "Ventiloterapia" Types.bisogno ▸
+    Types.one "Tracheostomia" Types.bisogno ▸
+    Types.alimentazione ▸
+    Types.one "GestioneStomia" Types.bisogno ▸
+    Types.one "ElimiUrinariaIntestinale" Types.bisogno ▸
+    Types.one "AlterRitmoSonnoVeglia" Types.bisogno ▸
+    Types.one "IntEduTerapeutica" Types.bisogno ▸
+    Types.one "CuraUlcereCutanee12Grado" Types.bisogno ▸
+    Types.one "CuraUlcereCutanee34Grado" Types.bisogno ▸
+    Types.one "PrelieviVenosiNonOcc" Types.bisogno ▸
+    Types.one "ECG" Types.bisogno ▸
+    Types.one "Telemetria" Types.bisogno ▸
+    Types.one "TerSottocutIntraMusInfus" Types.bisogno ▸
+    Types.one "GestioneCatetere" Types.bisogno ▸
+    Types.one "Trasfusioni" Types.bisogno ▸
+    Types.one "ControlloDolore" Types.bisogno ▸
+    Types.one "AssistStatoTerminaleOnc" Types.bisogno ▸
+    Types.one "AssistStatoTerminaleNonOnc" Types.bisogno ▸
+    Types.trattamentiRiab ▸
+    Types.maybe "SupervisioneContinua" Types.bisogno ▸
+    Types.maybe "AssistenzaIADL" Types.bisogno ▸
+    Types.maybe "AssistenzaADL" Types.bisogno ▸
+    Types.maybe "SupportoCareGiver" Types.bisogno ▸
+    none)
+
+-- "Trasmissione, Assistito, Conviventi, Erogatore, Eventi (PresaInCarico, Valutazione)"
+abbrev pub assistenza : Node
+assistenza =
+    group (Types.times 1 0 "Assistenza" [])
+    (Types.trasmissione ▸
+    assistito ▸
+    conviventi ▸
+    Types.erogatore ▸
+    Types.all-of "Eventi" [] (presaInCarico ▸ valutazione ▸ none) ▸
+    none)
+
+unfoldable pub track1 : Schema
+track1 =
+    record { root = bytes "FlsAssDom_1"; free = Types.rootFree; nodes = another (Types.times 1 0 "Assistenza" []) ▸ none; each = assistenza }
