@@ -1,0 +1,14 @@
+pub mod Cases
+pub mod From
+pub mod RowBytes
+pub mod States
+pub mod Seams
+pub mod Changes
+pub mod Shift
+pub mod Header
+pub mod Keys
+pub mod Halving
+pub mod Places
+pub mod Storing
+pub mod Stores
+pub mod Found

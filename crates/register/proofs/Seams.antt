@@ -1,0 +1,94 @@
+-- A part of a list that is lent and comes back, where the list is written as lists one after the other.
+use Prim.Native.Nat.{ℕ, _+_, _-_, _*_, _≤_}
+use mathlib.Core.Path.{_≡_, sym, ap, ap₂, _∙_}
+use mathlib.Core.List.{List, [], _++_, append-assoc, append-nil}
+use native.Mathlib.Omega.{arith}
+use lib.ListN.{length, take, drop, replicate, length-append, length-drop, length-replicate, length-take, drop-of-length-le, replicate-append-replicate}
+use lib.Seq.{take-at, drop-at}
+use borrow.Rule.Slice.PartMut.{putMid}
+use Rattle.register.specs.Moves.{onPart, openedBy, closedUp}
+
+module _ (x y z : List ℕ) (a k : ℕ) (e : length x ≡ a) (f : length y ≡ k) where
+  pub mid-seam : take k (drop a (x ++ (y ++ z))) ≡ y
+  mid-seam = ap (take k) (drop-at x (y ++ z) a e) ∙ take-at y z k f
+
+  pub post-seam : drop k (drop a (x ++ (y ++ z))) ≡ z
+  post-seam = ap (drop k) (drop-at x (y ++ z) a e) ∙ drop-at y z k f
+
+  -- what stands in the place of the part
+  pub put-seam : (t : List ℕ) → putMid a k (x ++ (y ++ z)) t ≡ x ++ (t ++ z)
+  put-seam t =
+      ap (λ (l : List ℕ). l ++ (t ++ drop k (drop a (x ++ (y ++ z))))) (take-at x (y ++ z) a e)
+      ∙ ap (λ (l : List ℕ). x ++ (t ++ l)) post-seam
+
+  pub on-seam : (g : List ℕ → List ℕ) → onPart g a k (x ++ (y ++ z)) ≡ x ++ (g y ++ z)
+  unfolding onPart
+  on-seam g = put-seam (g (take k (drop a (x ++ (y ++ z))))) ∙ ap (λ (l : List ℕ). x ++ (g l ++ z)) mid-seam
+
+pub zeros-split : (k z : ℕ) → k ≤ z → replicate {A = ℕ} z 0 ≡ replicate k 0 ++ replicate (z - k) 0
+zeros-split k z h =
+    let e : z ≡ k + (z - k) = omega arith in
+    ap (λ (n : ℕ). replicate {A = ℕ} n 0) e ∙ sym (replicate-append-replicate {A = ℕ} k (z - k) 0)
+
+-- a row comes in between x and y, and goes from there; behind y stand zeros
+module _ (x row y : List ℕ) (w a k z : ℕ) (ex : length x ≡ a) (er : length row ≡ w) (ek : length y + w ≡ k) (h : w ≤ z) where
+  zeros-apart : x ++ (y ++ replicate z 0) ≡ x ++ ((y ++ replicate w 0) ++ replicate (z - w) 0)
+  zeros-apart =
+      ap (λ (l : List ℕ). x ++ l)
+      (ap (λ (l : List ℕ). y ++ l) (zeros-split w z h) ∙ sym (append-assoc y (replicate w 0) (replicate (z - w) 0)))
+
+  row-apart : x ++ (row ++ (y ++ replicate (z - w) 0)) ≡ x ++ ((row ++ y) ++ replicate (z - w) 0)
+  row-apart = ap (λ (l : List ℕ). x ++ l) (sym (append-assoc row y (replicate (z - w) 0)))
+
+  pub opens : onPart (openedBy row) a k (x ++ (y ++ replicate z 0)) ≡ x ++ (row ++ (y ++ replicate (z - w) 0))
+  unfolding openedBy
+  opens =
+      let p : List ℕ = y ++ replicate w 0 in
+      let lp : length p ≡ length y + w = length-append y (replicate w 0) ∙ ap (λ (n : ℕ). length y + n) (length-replicate {A = ℕ} w 0) in
+      let lk : length p ≡ k = lp ∙ ek in
+      let t : length y ≡ length p - length row = omega arith in
+      ap (onPart (openedBy row) a k) zeros-apart
+      ∙ on-seam x p (replicate (z - w) 0) a k ex lk (openedBy row)
+      ∙ ap (λ (l : List ℕ). x ++ ((row ++ l) ++ replicate (z - w) 0)) (take-at y (replicate w 0) (length p - length row) t)
+      ∙ sym row-apart
+
+  pub closes : onPart (closedUp w) a k (x ++ (row ++ (y ++ replicate (z - w) 0))) ≡ x ++ (y ++ replicate z 0)
+  unfolding closedUp
+  closes =
+      let lk : length (row ++ y) ≡ k = length-append row y ∙ omega arith in
+      ap (onPart (closedUp w) a k) row-apart
+      ∙ on-seam x (row ++ y) (replicate (z - w) 0) a k ex lk (closedUp w)
+      ∙ ap (λ (l : List ℕ). x ++ ((l ++ replicate w 0) ++ replicate (z - w) 0)) (drop-at row y w er)
+      ∙ sym zeros-apart
+
+-- the shift by w, and then the last w bytes cleared
+pub shifts-closed : (w : ℕ) (p q z : List ℕ) → w ≤ length p → q ≡ drop w p ++ drop (length p - w) p
+    → z ≡ replicate (length (take (length q - (length q - w)) (drop (length q - w) q))) 0
+    → putMid (length q - w) (length q - (length q - w)) q z ≡ drop w p ++ replicate w 0
+shifts-closed w p q z h e f =
+    let x : List ℕ = drop w p in
+    let y : List ℕ = drop (length p - w) p in
+    let eq : q ≡ x ++ (y ++ []) = e ∙ ap (λ (l : List ℕ). x ++ l) (sym (append-nil y)) in
+    let lx : length x ≡ length p - w = length-drop w p in
+    let ly : length y ≡ w = length-drop (length p - w) p ∙ omega arith in
+    let lq : length q ≡ length p = ap length e ∙ length-append x y ∙ omega arith in
+    let a : length x ≡ length q - w = omega arith in
+    let k : length y ≡ length q - (length q - w) = omega arith in
+    let m : take (length q - (length q - w)) (drop (length q - w) q) ≡ y
+    = ap (λ (l : List ℕ). take (length q - (length q - w)) (drop (length q - w) l)) eq ∙ mid-seam x y [] (length q - w) (length q - (length q - w)) a k in
+    let fz : z ≡ replicate w 0 = f ∙ ap (λ (l : List ℕ). replicate (length l) 0) m ∙ ap (λ (n : ℕ). replicate n 0) ly in
+    ap (λ (l : List ℕ). putMid (length q - w) (length q - (length q - w)) l z) eq
+    ∙ put-seam x y [] (length q - w) (length q - (length q - w)) a k z
+    ∙ ap (λ (l : List ℕ). x ++ l) (append-nil z ∙ fz)
+
+-- a row written over the part that it fills
+pub row-over : (a w : ℕ) (reg row last : List ℕ) → length row ≡ w → last ≡ row ++ drop (length row) (take (a + w - a) (drop a reg))
+    → putMid a (a + w - a) reg last ≡ onPart (λ p. row) a w reg
+unfolding onPart
+row-over a w reg row last e f =
+    let k : a + w - a ≡ w = omega arith in
+    let h : length (take w (drop a reg)) ≤ length row = rw (length-take, e) (omega arith) in
+    let n : drop (length row) (take (a + w - a) (drop a reg)) ≡ []
+    = ap (λ (j : ℕ). drop (length row) (take j (drop a reg))) k ∙ drop-of-length-le (take w (drop a reg)) h in
+    let g : last ≡ row = f ∙ ap (λ (l : List ℕ). row ++ l) n ∙ append-nil row in
+    ap₂ (λ (l : List ℕ) (j : ℕ). take a reg ++ (l ++ drop j (drop a reg))) g k

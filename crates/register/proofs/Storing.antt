@@ -1,0 +1,216 @@
+-- What storing does to the bytes is what it does to the state.
+use Prim.Native.Nat.{ℕ, suc, _+_, _-_, _*_, _/_, _^_, _≤_, _<_}
+use mathlib.Core.Path.{_≡_, refl, sym, ap, ap₂, subst, _∙_}
+use mathlib.Core.Bool.{Bool, true, false, not}
+use mathlib.Core.List.{List, [], _∷_, _++_}
+use mathlib.Core.Option.{none}
+use native.Mathlib.Omega.{arith}
+use lib.Dec.{eqb}
+use lib.ListN.{length, length-append}
+use Rattle.rows.specs.Pack.{num, digits, each, Fit}
+use Rattle.rows.proofs.Bytes.{digits-num, num-lt}
+use Rattle.model.specs.Map.{Row, Map, Asc, isSome, find, has, put, del}
+use Rattle.model.specs.Flow.{State}
+use Rattle.model.proofs.MapLaws.{asc-put, asc-keep, keep-all}
+use Rattle.model.proofs.MapPlace.{AllBelow, put-in, put-over, find-out, del-out}
+use Rattle.register.specs.Layout.{Layout}
+use Rattle.register.specs.Bytes.{rowNumber, split, room, rowAt, encode}
+use Rattle.register.specs.Stored.{Laid, Fits, Stored, Group, cases, events, rowsOf, keyBitsOf, restOf, withRows}
+use Rattle.register.specs.Search.{keyOf}
+use Rattle.register.specs.Moves.{inserted, replaced, removed, withCount}
+use Rattle.register.specs.OnBytes.{PutDone, DropDone}
+use Rattle.register.specs.OnBytes.PutDone.{unfit, full, over, new}
+use Rattle.register.specs.OnBytes.DropDone.{misfit, absent, gone}
+use Rattle.register.proofs.RowBytes.{number-split, split-sizes, fits-append, fits-left, fits-right}
+use Rattle.register.proofs.States.{laid-case, laid-event, room-holds, stored-few, stored-end}
+use Rattle.register.proofs.Changes.{countAt, startOf, afterOf, insert-encode, remove-encode, replace-encode}
+use Rattle.register.proofs.Places.{Apart, Within, apart, within, good-rows, fits-rows}
+
+-- ---- the group's numbers
+
+with-self : (g : Group) (s : State ℕ ℕ) → withRows g (rowsOf g s) s ≡ s
+with-self cases s = refl
+with-self events s = refl
+
+total-rows : (g : Group) (s : State ℕ ℕ) → startOf g s + length (rowsOf g s) + afterOf g s ≡ length (s .cases) + length (s .events)
+total-rows cases s = omega arith
+total-rows events s = omega arith
+
+group-bits : (g : Group) {l : Layout} → Laid l → keyBitsOf g l + restOf g l ≡ 8 * l .bytes
+group-bits cases lay = laid-case lay
+group-bits events lay = laid-event lay
+
+pub key-number : (g : Group) (l : Layout) (row : List ℕ) → keyOf (l .bytes) (keyBitsOf g l) row ≡ num row / 2 ^ restOf g l
+unfolding keyOf
+key-number cases l row = refl
+key-number events l row = refl
+
+module _ (l : Layout) (g : Group) (row : List ℕ) (e : length row ≡ l .bytes) (f : Fit (each 8 row)) where
+  -- a row's bytes, from its key and the rest
+  row-bytes : digits (l .bytes) (rowNumber (restOf g l) (split (restOf g l) (num row))) ≡ row
+  row-bytes =
+      ap (digits (l .bytes)) (number-split (restOf g l) (num row)) ∙ ap (λ (k : ℕ). digits k (num row)) (sym e) ∙ digits-num row f
+
+  row-fits : Laid l → (split (restOf g l) (num row) .key < 2 ^ keyBitsOf g l) × (split (restOf g l) (num row) .val < 2 ^ restOf g l)
+  row-fits lay =
+      let b : 8 * length row ≡ keyBitsOf g l + restOf g l = ap (λ (k : ℕ). 8 * k) e ∙ sym (group-bits g lay) in
+      split-sizes (keyBitsOf g l) (restOf g l) (num row) (rw b at (num-lt row f))
+
+fits-in : (k w : ℕ) (us vs : Map ℕ) (r : Row ℕ) → (r .key < 2 ^ k) × (r .val < 2 ^ w) → Fits k w (us ++ vs) → Fits k w (us ++ r ∷ vs)
+unfolding Fits
+fits-in k w us vs r p f = fits-append k w us (r ∷ vs) (fits-left k w us vs f) (p, fits-right k w us vs f)
+
+fits-out : (k w : ℕ) (us vs : Map ℕ) (r : Row ℕ) → Fits k w (us ++ r ∷ vs) → Fits k w (us ++ vs)
+unfolding Fits
+fits-out k w us vs r f = fits-append k w us vs (fits-left k w us (r ∷ vs) f) (fits-right k w us (r ∷ vs) f .1)
+
+module _ (l : Layout) (lay : Laid l) (g : Group) (a : List ℕ) (s : State ℕ ℕ) (h : Stored l a s) where
+  abbrev m : Map ℕ
+  m = rowsOf g s
+
+  abbrev n : ℕ
+  n = length (s .cases) + length (s .events)
+
+  -- other rows in the group
+  stored-with : (q : Map ℕ) (b : List ℕ) → Asc 0 q → Fits (keyBitsOf g l) (restOf g l) q → startOf g s + length q + afterOf g s ≤ room l (length a) →
+      length b ≡ length a → b ≡ encode l (length a) (withRows g q s) → Stored l b (withRows g q s)
+  stored-with = go g
+    where
+      go : (g : Group) (q : Map ℕ) (b : List ℕ) → Asc 0 q → Fits (keyBitsOf g l) (restOf g l) q → startOf g s + length q + afterOf g s ≤ room l (length a) →
+          length b ≡ length a → b ≡ encode l (length a) (withRows g q s) → Stored l b (withRows g q s)
+      go cases q b up fit few len e =
+          record {
+            bytes = e ∙ ap (λ (k : ℕ). encode l k (withRows cases q s)) (sym len);
+            good = (up, h .good .1);
+            few = rw len (omega arith);
+            cases-fit = fit;
+            events-fit = h .events-fit;
+            long = omega (arith, h .long);
+          }
+      go events q b up fit few len e =
+          record {
+            bytes = e ∙ ap (λ (k : ℕ). encode l k (withRows events q s)) (sym len);
+            good = (h .good .0, up);
+            few = rw len (omega arith);
+            cases-fit = h .cases-fit;
+            events-fit = fit;
+            long = omega (arith, h .long);
+          }
+
+  -- the bytes, with the group's rows cut somewhere
+  cut-bytes : (q : Map ℕ) → m ≡ q → a ≡ encode l (length a) (withRows g q s)
+  cut-bytes q e = h .bytes ∙ ap (encode l (length a)) (sym (with-self g s) ∙ ap (λ (x : Map ℕ). withRows g x s) e)
+
+  -- where a key does not stand, it is not found
+  out : (v c : ℕ) → Apart m v c → find v m ≡ none
+  out v c p = ap (λ (x : Map ℕ). find v x) (p .whole) ∙ find-out v (p .us) (p .vs) (p .below) (p .above)
+
+  -- ---- a row put in
+  module _ (row : List ℕ) (er : length row ≡ l .bytes) (f : Fit (each 8 row)) where
+    abbrev v : ℕ
+    v = keyOf (l .bytes) (keyBitsOf g l) row
+
+    abbrev r : Row ℕ
+    r = split (restOf g l) (num row)
+
+    put-new : (b : List ℕ) (i hi : ℕ) → hi ≡ startOf g s + length m → startOf g s ≤ i → Apart m v (i - startOf g s) → rowAt l (n + 1) ≤ length a → n < room l (length a) →
+        length b ≡ length a → b ≡ withCount (countAt g) (hi - startOf g s + 1) (inserted (l .bytes) i n row a) → Stored l b (withRows g (put r m) s)
+    put-new b i hi eh low p fits few len e =
+        let us : Map ℕ = p .us in
+        let vs : Map ℕ = p .vs in
+        let ks : v ≡ r .key = key-number g l row in
+        let lm : length m ≡ length us + length vs = ap length (p .whole) ∙ length-append us vs in
+        let lu : length us ≡ i - startOf g s = p .count in
+        let tot = total-rows g s in
+        let pe : put r m ≡ us ++ r ∷ vs
+        = ap (put r) (p .whole) ∙ put-in r us vs (subst (λ (k : ℕ). AllBelow k us) ks (p .below)) (subst (λ (k : ℕ). Asc (suc k) vs) ks (p .above)) in
+        let lp : length (put r m) ≡ length m + 1 = ap length pe ∙ length-append us (r ∷ vs) ∙ omega arith in
+        let ec : hi - startOf g s + 1 ≡ length us + length vs + 1 = omega arith in
+        let fm : Fits (keyBitsOf g l) (restOf g l) (us ++ vs) = subst (Fits (keyBitsOf g l) (restOf g l)) (p .whole) (fits-rows l lay g a s h) in
+        stored-with (put r m) b (asc-put 0 r m (omega arith) (good-rows l lay g a s h))
+        (rw pe (fits-in (keyBitsOf g l) (restOf g l) us vs r (row-fits l g row er f lay) fm))
+        (omega arith) len
+        (e
+        ∙ ap₂ (λ (k : ℕ) (x : List ℕ). withCount (countAt g) k (inserted (l .bytes) i n row x)) ec (cut-bytes (us ++ vs) (p .whole))
+        ∙ ap (λ (x : List ℕ). withCount (countAt g) (length us + length vs + 1) (inserted (l .bytes) i n x (encode l (length a) (withRows g (us ++ vs) s)))) (sym (row-bytes l g row er f))
+        ∙ insert-encode l g (length a) s us vs r i n (omega arith) (omega arith) fits
+        ∙ ap (λ (x : Map ℕ). encode l (length a) (withRows g x s)) (sym pe))
+
+    put-old : (b : List ℕ) (i : ℕ) → startOf g s ≤ i → Within m v (i - startOf g s) → length b ≡ length a → b ≡ replaced (l .bytes) i row a →
+        Stored l b (withRows g (put r m) s)
+    put-old b i low p len e =
+        let us : Map ℕ = p .us in
+        let x : Row ℕ = p .row in
+        let vs : Map ℕ = p .vs in
+        let ks : v ≡ r .key = key-number g l row in
+        let lm : length m ≡ length us + suc (length vs) = ap length (p .whole) ∙ length-append us (x ∷ vs) in
+        let lu : length us ≡ i - startOf g s = p .count in
+        let tot = total-rows g s in
+        let pe : put r m ≡ us ++ r ∷ vs
+        = ap (put r) (p .whole) ∙ put-over r us x vs (subst (λ (k : ℕ). AllBelow k us) ks (p .below)) (sym ks ∙ sym (p .is)) in
+        let lp : length (put r m) ≡ length m = ap length pe ∙ length-append us (r ∷ vs) ∙ omega arith in
+        let fm : Fits (keyBitsOf g l) (restOf g l) (us ++ x ∷ vs) = subst (Fits (keyBitsOf g l) (restOf g l)) (p .whole) (fits-rows l lay g a s h) in
+        stored-with (put r m) b (asc-put 0 r m (omega arith) (good-rows l lay g a s h))
+        (rw pe (fits-in (keyBitsOf g l) (restOf g l) us vs r (row-fits l g row er f lay) (fits-out (keyBitsOf g l) (restOf g l) us vs x fm)))
+        (omega (arith, h .few)) len
+        (e
+        ∙ ap (replaced (l .bytes) i row) (cut-bytes (us ++ x ∷ vs) (p .whole))
+        ∙ ap (λ (y : List ℕ). replaced (l .bytes) i y (encode l (length a) (withRows g (us ++ x ∷ vs) s))) (sym (row-bytes l g row er f))
+        ∙ replace-encode l g (length a) s us vs x r i (omega arith)
+        ∙ ap (λ (y : Map ℕ). encode l (length a) (withRows g y s)) (sym pe))
+
+    -- by what the bytes say
+    pub put-done : (b : List ℕ) (ok : Bool) (hi k : ℕ) → hi ≡ startOf g s + length m → k ≡ n → length b ≡ length a →
+        PutDone (l .bytes) (keyBitsOf g l) (countAt g) (startOf g s) hi k row a b ok →
+        (has (num row / 2 ^ restOf g l) m ≡ false → n < room l (length a)) → (ok ≡ true) × Stored l b (withRows g (put r m) s)
+    put-done b ok hi k eh ek len (unfit x q e) ready =
+        absurd (x (omega (arith, stored-few l lay a s h)) (rw ek (stored-end l lay a s h)))
+    put-done b ok hi k eh ek len (full i pl st x q e) ready =
+        let p : Apart m v (i - startOf g s) = apart l lay g a s h v hi i eh pl st in
+        let d : n < room l (length a) = ready (ap isSome (ap (λ (y : ℕ). find y m) (sym (key-number g l row)) ∙ out v (i - startOf g s) p)) in
+        let z = room-holds l (length a) (n + 1) (h .long) (omega arith) in
+        absurd (x (omega arith) (rw ek (z .1)))
+    put-done b ok hi k eh ek len (over i pl st q e) ready =
+        (q, put-old b i (pl .low) (within l lay g a s h v hi i eh pl st) len e)
+    put-done b ok hi k eh ek len (new i pl st few fits q e) ready =
+        let p : Apart m v (i - startOf g s) = apart l lay g a s h v hi i eh pl st in
+        let d : n < room l (length a) = ready (ap isSome (ap (λ (y : ℕ). find y m) (sym (key-number g l row)) ∙ out v (i - startOf g s) p)) in
+        (q, put-new b i hi eh (pl .low) p (rw ek at fits) d len (rw ek at e))
+
+  -- ---- a row taken out
+  module _ (probe : List ℕ) where
+    abbrev u : ℕ
+    u = keyOf (l .bytes) (keyBitsOf g l) probe
+
+    drop-gone : (b : List ℕ) (i hi : ℕ) → hi ≡ startOf g s + length m → startOf g s ≤ i → Within m u (i - startOf g s) → length b ≡ length a →
+        b ≡ withCount (countAt g) (hi - startOf g s - 1) (removed (l .bytes) i n a) → Stored l b (withRows g (del u m) s)
+    drop-gone b i hi eh low p len e =
+        let us : Map ℕ = p .us in
+        let x : Row ℕ = p .row in
+        let vs : Map ℕ = p .vs in
+        let lm : length m ≡ length us + suc (length vs) = ap length (p .whole) ∙ length-append us (x ∷ vs) in
+        let lu : length us ≡ i - startOf g s = p .count in
+        let tot = total-rows g s in
+        let de : del u m ≡ us ++ vs
+        = ap₂ (λ (k : ℕ) (y : Map ℕ). del k y) (sym (p .is)) (p .whole) ∙ del-out us x vs (subst (λ (k : ℕ). AllBelow k us) (sym (p .is)) (p .below)) (p .above) in
+        let ld : length (del u m) ≡ length us + length vs = ap length de ∙ length-append us vs in
+        let ec : hi - startOf g s - 1 ≡ length us + length vs = omega arith in
+        let en : n ≡ n - 1 + 1 = omega arith in
+        let fm : Fits (keyBitsOf g l) (restOf g l) (us ++ x ∷ vs) = subst (Fits (keyBitsOf g l) (restOf g l)) (p .whole) (fits-rows l lay g a s h) in
+        stored-with (del u m) b (asc-keep 0 (λ j. not (eqb j u)) m (good-rows l lay g a s h))
+        (rw de (fits-out (keyBitsOf g l) (restOf g l) us vs x fm))
+        (omega (arith, h .few)) len
+        (e
+        ∙ ap₂ (λ (k : ℕ) (y : List ℕ). withCount (countAt g) k (removed (l .bytes) i n y)) ec (cut-bytes (us ++ x ∷ vs) (p .whole))
+        ∙ ap (λ (k : ℕ). withCount (countAt g) (length us + length vs) (removed (l .bytes) i k (encode l (length a) (withRows g (us ++ x ∷ vs) s)))) en
+        ∙ remove-encode l g (length a) s us vs x i (n - 1) (omega arith) (omega arith) (subst (λ (k : ℕ). rowAt l k ≤ length a) en (stored-end l lay a s h))
+        ∙ ap (λ (y : Map ℕ). encode l (length a) (withRows g y s)) (sym de))
+
+    pub drop-done : (b : List ℕ) (ok : Bool) (hi k : ℕ) → hi ≡ startOf g s + length m → k ≡ n → length b ≡ length a →
+        DropDone (l .bytes) (keyBitsOf g l) (countAt g) (startOf g s) hi k probe a b ok → (ok ≡ true) × Stored l b (withRows g (del u m) s)
+    drop-done b ok hi k eh ek len (misfit x q e) = absurd (x (omega (arith, stored-few l lay a s h)) (rw ek (stored-end l lay a s h)))
+    drop-done b ok hi k eh ek len (absent i pl st q e) =
+        let p : Apart m u (i - startOf g s) = apart l lay g a s h u hi i eh pl st in
+        let d : del u m ≡ m = keep-all u m (out u (i - startOf g s) p) in
+        (q, rw (e, d, with-self g s) h)
+    drop-done b ok hi k eh ek len (gone i pl st q e) = (q, drop-gone b i hi eh (pl .low) (within l lay g a s h u hi i eh pl st) len (rw ek at e))

@@ -1,0 +1,12 @@
+pub mod Layout
+pub mod Bytes
+pub mod Fields
+pub mod Events
+pub mod Allowed
+pub mod Sound
+pub mod Calls
+pub mod Stored
+pub mod Moves
+pub mod Search
+pub mod OnBytes
+pub mod Storing
