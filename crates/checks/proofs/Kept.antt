@@ -1,0 +1,251 @@
+-- An accepted record leaves a sound state sound.
+use Prim.Native.Nat.{ℕ, _+_, _≤_, _<_, _^_}
+use mathlib.Core.Path.{_≡_, refl, sym, ap, _∙_, subst}
+use mathlib.Core.Logic.{⊎-elim}
+use mathlib.Core.Bool.{Bool, true, false, cond, not, _&&_, _||_, true≢false}
+use mathlib.Core.List.{List, [], _∷_, map}
+use mathlib.Core.Option.{Option, none}
+use native.Mathlib.Decide.{ℕ-discrete}
+use lib.Dec.{eqb, ltb}
+use lib.ListN.{length}
+use borrow.Author.Tests.{eqb-true, ltb-true, not-false}
+use Rattle.laws.specs.Lists.{all, any}
+use Rattle.laws.proofs.Truth.{and-left, and-right, or-left, or-right}
+use Rattle.rows.specs.Row.{keyBits, eventKeyBits, eventBits, keyNumber}
+use Rattle.rows.proofs.Table.{key-lt}
+use Rattle.model.specs.Map.{Row, Map, find, has, putAll, delAll}
+use Rattle.model.specs.Checks.{first, testOf}
+use Rattle.model.specs.Transmission.{Kind, insert, vary, cancel, isCancel}
+use Rattle.model.specs.Flow.{State, Good, applied, shown, machine}
+use Rattle.model.proofs.ChecksLaws.{clear}
+use Rattle.model.proofs.MapLaws.{find-keep, keep-true, asc-keep, ext, has-put, has-keep, keep-has, has-putAll, has-delAll, key-any}
+use Rattle.model.proofs.FlowLaws.{event-found, good-applied}
+use Rattle.model.proofs.FlowHistories.{fits-law}
+use Rattle.register.specs.Layout.{siad, caseRest, eventRest, caseOf}
+use Rattle.register.specs.Bytes.{room}
+use Rattle.register.specs.Fields.{takenIn, eventIn, eventRow, dateOf, endOf}
+use Rattle.register.specs.Events.{isSuspension, t23, t25}
+use Rattle.register.specs.Allowed.{caseRowAllowed, eventAllowed, eventRowAllowed}
+use Rattle.register.specs.Sound.{eventsOf, eventsFree, valid, siadRules}
+use Rattle.register.specs.Stored.{Fits}
+use Rattle.register.proofs.Every.{and-tell}
+use Rattle.tracks.specs.Record.{Head, Admission, Said, Record, admission, events}
+use Rattle.checks.specs.Flow.{kindOf, caseRow, eventRows, flow, next}
+use Rattle.checks.specs.Tests.{Context, eventsIn}
+use Rattle.checks.specs.Checks.{checksOf, afterwards}
+use Rattle.checks.specs.Readable.{Readable, KeyReadable, CaseReadable, eventReadable}
+use Rattle.checks.proofs.Accepted.{numbered, lawful, not17}
+use Rattle.checks.proofs.RowTests.{all-cases, all-events, sized, sized-fits, fits-sized, kept-all}
+use Rattle.checks.proofs.ReadBack.{taken-read, event-read}
+use Rattle.checks.proofs.RowsAllowed.{case-row-sized, case-row-allowed, each-row, event-row-allowed, event-row-sized, row-case}
+use Rattle.checks.proofs.Valid.{Sound, Parts, parts-of, valid-of, freeOf, free-any, ends, all-ends, five, free-23}
+
+-- nothing is carried away besides
+abbrev nothing : ℕ → Bool
+nothing k = false
+
+module _ (s : State ℕ ℕ) where
+  same-events : (cs : Map ℕ) (t : Kind) → applied t cs [] nothing s .events ≡ s .events
+  unfolding putAll delAll
+  same-events cs insert = refl
+  same-events cs vary = refl
+  same-events cs cancel = keep-true (λ k. not false) (s .events) (λ k. refl)
+
+  same-cases : (es : Map ℕ) (t : Kind) → applied t [] es nothing s .cases ≡ s .cases
+  unfolding putAll delAll
+  same-cases es insert = refl
+  same-cases es vary = refl
+  same-cases es cancel = refl
+
+or-so : (a b : Bool) → b ≡ true → a || b ≡ true
+or-so true b h = refl
+or-so false b h = h
+
+-- what holds of every row whose suspension doesn't end before it begins holds of the rows of a record free of 23
+new-ends : (c : ℕ) (q : Row ℕ → Bool) → ((r : Row ℕ) → ends r ≡ true → q r ≡ true) →
+    (es : List Said) → all eventReadable es ≡ true → t23 (eventsIn es) ≡ false → all q (eventRows c es) ≡ true
+unfolding all any eventsIn eventRows
+new-ends c q f [] w h = refl
+new-ends c q f (e ∷ es) w h =
+    let r : eventReadable e ≡ true = and-left (eventReadable e) (all eventReadable es) w in
+    let l : e .event < 2 ^ eventBits = ltb-true (e .event) (2 ^ eventBits) (and-left (ltb (e .event) (2 ^ eventBits)) (eventAllowed (e .event)) r) in
+    let now : Bool = isSuspension (e .event) && ltb (endOf (e .event)) (dateOf (e .event)) in
+    and-tell (q (eventRow c (e .event))) (all q (eventRows c es))
+    (f (eventRow c (e .event))
+    (ap (λ (x : ℕ). not (isSuspension x && ltb (endOf x) (dateOf x))) (event-read c (e .event) l) ∙ ap not (or-left now (t23 (eventsIn es)) h)))
+    (new-ends c q f es (and-right (eventReadable e) (all eventReadable es) w) (or-right now (t23 (eventsIn es)) h))
+
+module _ (n : ℕ) (s : State ℕ ℕ) (p : Parts n s) where
+  -- every event's case stands: after a case's row, where 16 doesn't hold
+  tied1 : (x : Row ℕ) (t : Kind) → isCancel t && any (λ e. eqb (caseOf siad (e .key)) (x .key)) (s .events) ≡ false → (k : ℕ) →
+      has k (s .events) ≡ true → has (caseOf siad k) (applied t (x ∷ []) [] nothing s .cases) ≡ true
+  unfolding putAll delAll
+  tied1 x insert q k h = has-put (caseOf siad k) x (s .cases) (p .tied k h)
+  tied1 x vary q k h = has-put (caseOf siad k) x (s .cases) (p .tied k h)
+  tied1 x cancel q k h =
+      keep-has (caseOf siad k) (λ j. not (eqb j (x .key))) (s .cases) (p .tied k h) (ap not (other (eqb (caseOf siad k) (x .key)) refl))
+    where
+      other : (b : Bool) → eqb (caseOf siad k) (x .key) ≡ b → eqb (caseOf siad k) (x .key) ≡ false
+      other true e = absurd (true≢false (sym (key-any (λ j. eqb (caseOf siad j) (x .key)) (s .events) k h e) ∙ q))
+      other false e = e
+
+  -- after events' rows, where 24 doesn't hold
+  module _ (c : ℕ) (es : List Said) (w : all eventReadable es ≡ true) where
+    tied2 : (t : Kind) → not (has c (s .cases)) ≡ false → (k : ℕ) →
+        has k (applied t [] (eventRows c es) nothing s .events) ≡ true → has (caseOf siad k) (s .cases) ≡ true
+    tied2 insert q k h = ⊎-elim (λ g. rw (row-case c es w k g) (not-false _ q)) (p .tied k) (has-putAll k (eventRows c es) (s .events) h)
+    tied2 vary q k h = ⊎-elim (λ g. rw (row-case c es w k g) (not-false _ q)) (p .tied k) (has-putAll k (eventRows c es) (s .events) h)
+    tied2 cancel q k h =
+        p .tied k (has-delAll k (eventRows c es) (s .events) (has-keep k (λ k. not false) (delAll (eventRows c es) (s .events)) h .0))
+
+    -- another case's events are as they were
+    others : (t : Kind) (d : ℕ) → (d ≡ c → ⊥) → eventsOf siad d (applied t [] (eventRows c es) nothing s .events) ≡ eventsOf siad d (s .events)
+    others t d ne =
+        ext 0 (eventsOf siad d (applied t [] (eventRows c es) nothing s .events)) (eventsOf siad d (s .events))
+        (asc-keep 0 _ _ (good-applied [] (eventRows c es) nothing s t (p .good) .1))
+        (asc-keep 0 _ _ (p .good .1))
+        (λ k.
+        find-keep k (λ k. eqb (caseOf siad k) d) _ ∙
+        ap (λ (o : Option ℕ). cond (eqb (caseOf siad k) d) o none) (event-found [] (eventRows c es) nothing s t k) ∙
+        go k (eqb (caseOf siad k) d) refl (has k (eventRows c es)) refl t ∙
+        sym (find-keep k (λ k. eqb (caseOf siad k) d) (s .events)))
+      where
+        go : (k : ℕ) (b : Bool) → eqb (caseOf siad k) d ≡ b → (x : Bool) → has k (eventRows c es) ≡ x → (t : Kind) →
+            cond b (cond (x || (isCancel t && false)) (shown t (find k (eventRows c es))) (find k (s .events))) none ≡ cond b (find k (s .events)) none
+        go k false e x h t = refl
+        go k true e true h t = absurd (ne (sym (eqb-true (caseOf siad k) d e) ∙ row-case c es w k h))
+        go k true e false h insert = refl
+        go k true e false h vary = refl
+        go k true e false h cancel = refl
+
+    -- none of the case's suspensions ends before it begins: 23 was judged of the record's, and the others stood
+    abbrev ending : Row ℕ → Bool
+    ending r = not (eqb (caseOf siad (r .key)) c) || ends r
+
+    own-ends : t23 (eventsIn es) ≡ false → all ending (eventRows c es) ≡ true
+    own-ends q = new-ends c ending (λ r h. or-so (not (eqb (caseOf siad (r .key)) c)) (ends r) h) es w q
+
+    ended : (t : Kind) → t23 (eventsIn es) ≡ false → t23 (map eventIn (eventsOf siad c (applied t [] (eventRows c es) nothing s .events))) ≡ false
+    ended t q =
+        let m : Map ℕ = applied t [] (eventRows c es) nothing s .events in
+        let old : all ends (eventsOf siad c (s .events)) ≡ true =
+        not-false _ (sym (all-ends (eventsOf siad c (s .events))) ∙ free-23 (takenIn c) (map eventIn (eventsOf siad c (s .events))) (free-any n s p c)) in
+        let all-old : all ending (s .events) ≡ true = sym (kept-all (λ k. eqb (caseOf siad k) c) ends (s .events)) ∙ old in
+        let all-new : all ending m ≡ true = all-events [] (eventRows c es) nothing s ending t (own-ends q) all-old in
+        all-ends (eventsOf siad c m) ∙ ap not (kept-all (λ k. eqb (caseOf siad k) c) ends m ∙ all-new)
+
+-- ---- the two tracks
+
+module _ (c : Context) (n : ℕ) (r-is : c .room ≡ room siad n) (s : State ℕ ℕ) (v : valid siad siadRules n s ≡ true) where
+  p : Parts n s
+  p = parts-of n s v
+
+  -- order and room, of either track
+  goes : (r : Record) → first (checksOf c r) s ≡ 0 → Good (next r s) × (length (next r s .cases) + length (next r s .events) ≤ room siad n)
+  unfolding machine
+  goes r e =
+      let g = fits-law flow (checksOf c) (lawful c) (c .room) (not17 c) s r (p .good, rw r-is (p .few)) e in
+      (g .0, rw r-is at (g .1))
+
+  module _ (h : Head) (a : Admission) (kr : KeyReadable (h .key)) (cr : CaseReadable (a .case)) (e : first (checksOf c (admission h a)) s ≡ 0) where
+    abbrev x : Row ℕ
+    x = caseRow (h .key) (a .case)
+
+    abbrev t1 : Kind
+    t1 = kindOf (h .tipo)
+
+    passed1 : (k : ℕ) → testOf k (checksOf c (admission h a)) s ≡ false
+    passed1 k = clear k (checksOf c (admission h a)) s (numbered c (admission h a)) e
+
+    single : (q : Row ℕ → Bool) → q x ≡ true → all q (x ∷ []) ≡ true
+    unfolding all
+    single q g = and-tell (q x) true g refl
+
+    valid1 : Parts n (next (admission h a) s)
+    valid1 =
+        let g = goes (admission h a) e in
+        let se : applied t1 (x ∷ []) [] nothing s .events ≡ s .events = same-events s (x ∷ []) t1 in
+        record {
+          few = g .1;
+          cases-allowed =
+              all-cases (x ∷ []) [] nothing s caseRowAllowed t1
+              (single caseRowAllowed (case-row-allowed (h .key) (a .case) kr cr (passed1 11) (passed1 13))) (p .cases-allowed);
+          events-allowed = ap (all eventRowAllowed) se ∙ p .events-allowed;
+          good = g .0;
+          tied = λ k q. tied1 n s p x t1 (passed1 16) k (sym (ap (λ (m : Map ℕ). has k m) se) ∙ q);
+          free = λ k q. ap (freeOf k) se ∙ free-any n s p k;
+        }
+
+    fits1 : Fits keyBits (caseRest siad) (s .cases) → Fits keyBits (caseRest siad) (next (admission h a) s .cases)
+    fits1 f =
+        sized-fits keyBits (caseRest siad) (next (admission h a) s .cases)
+        (all-cases (x ∷ []) [] nothing s (sized keyBits (caseRest siad)) t1
+        (single (sized keyBits (caseRest siad)) (case-row-sized (h .key) (a .case) kr cr (passed1 11))) (fits-sized keyBits (caseRest siad) (s .cases) f))
+
+  module _ (h : Head) (es : List Said) (kr : KeyReadable (h .key)) (w : all eventReadable es ≡ true) (e : first (checksOf c (events h es)) s ≡ 0) where
+    abbrev own : ℕ
+    own = keyNumber (h .key)
+
+    abbrev t2 : Kind
+    t2 = kindOf (h .tipo)
+
+    abbrev rows : Map ℕ
+    rows = eventRows own es
+
+    passed2 : (k : ℕ) → testOf k (checksOf c (events h es)) s ≡ false
+    passed2 k = clear k (checksOf c (events h es)) s (numbered c (events h es)) e
+
+    -- the record's own case: 25 to 28 looked at what it would have afterwards
+    own-free : freeOf own (next (events h es) s .events) ≡ true
+    own-free =
+        let after : List ℕ = afterwards next h (events h es) s in
+        five (takenIn own) after (ended n s p own es w t2 (passed2 23)) (ap (λ (d : ℕ). t25 d after) (taken-read (h .key) (kr .fits)) ∙ passed2 25)
+        (passed2 26) (passed2 27) (passed2 28)
+
+    all-free : (k : ℕ) → Dec (k ≡ own) → freeOf k (next (events h es) s .events) ≡ true
+    all-free k (yes q) = ap (λ (j : ℕ). freeOf j (next (events h es) s .events)) q ∙ own-free
+    all-free k (no ne) = ap (λ (m : Map ℕ). eventsFree (takenIn k) (map eventIn m)) (others n s p own es w t2 k ne) ∙ free-any n s p k
+
+    valid2 : Parts n (next (events h es) s)
+    valid2 =
+        let g = goes (events h es) e in
+        let sc : applied t2 [] rows nothing s .cases ≡ s .cases = same-cases s rows t2 in
+        record {
+          few = g .1;
+          cases-allowed = ap (all caseRowAllowed) sc ∙ p .cases-allowed;
+          events-allowed =
+              all-events [] rows nothing s eventRowAllowed t2 (each-row own eventRowAllowed es w (event-row-allowed own)) (p .events-allowed);
+          good = g .0;
+          tied = λ k q. ap (λ (m : Map ℕ). has (caseOf siad k) m) sc ∙ tied2 n s p own es w t2 (passed2 24) k q;
+          free = λ k q. all-free k (ℕ-discrete k own);
+        }
+
+    fits2 : Fits eventKeyBits (eventRest siad) (s .events) → Fits eventKeyBits (eventRest siad) (next (events h es) s .events)
+    fits2 f =
+        sized-fits eventKeyBits (eventRest siad) (next (events h es) s .events)
+        (all-events [] rows nothing s (sized eventKeyBits (eventRest siad)) t2
+        (each-row own (sized eventKeyBits (eventRest siad)) es w (event-row-sized own (key-lt (h .key) (kr .fits))))
+        (fits-sized eventKeyBits (eventRest siad) (s .events) f))
+
+  -- an accepted record that was read leaves a valid state
+  pub valid-kept : (r : Record) → Readable r → first (checksOf c r) s ≡ 0 → valid siad siadRules n (next r s) ≡ true
+  valid-kept (admission h a) w e = valid-of n (next (admission h a) s) (valid1 h a (w .0) (w .1) e)
+  valid-kept (events h es) w e = valid-of n (next (events h es) s) (valid2 h es (w .0) (w .1) e)
+
+  -- and rows that have their sizes
+  pub cases-fit-kept : (r : Record) → Readable r → first (checksOf c r) s ≡ 0 → Fits keyBits (caseRest siad) (s .cases) → Fits keyBits (caseRest siad) (next r s .cases)
+  cases-fit-kept (admission h a) w e f = fits1 h a (w .0) (w .1) e f
+  cases-fit-kept (events h es) w e f = subst (Fits keyBits (caseRest siad)) (sym (same-cases s (eventRows (keyNumber (h .key)) es) (kindOf (h .tipo)))) f
+
+  pub events-fit-kept : (r : Record) → Readable r → first (checksOf c r) s ≡ 0 → Fits eventKeyBits (eventRest siad) (s .events) → Fits eventKeyBits (eventRest siad) (next r s .events)
+  events-fit-kept (admission h a) w e f = subst (Fits eventKeyBits (eventRest siad)) (sym (same-events s (caseRow (h .key) (a .case) ∷ []) (kindOf (h .tipo)))) f
+  events-fit-kept (events h es) w e f = fits2 h es (w .0) (w .1) e f
+
+-- SOUNDNESS KEPT: an accepted record that was read leaves a sound state sound
+pub kept : (c : Context) (n : ℕ) → c .room ≡ room siad n → (s : State ℕ ℕ) → Sound n s → (r : Record) → Readable r → first (checksOf c r) s ≡ 0 → Sound n (next r s)
+kept c n q s i r w e =
+    record {
+      is-valid = valid-kept c n q s (i .is-valid) r w e;
+      cases-fit = cases-fit-kept c n q s (i .is-valid) r w e (i .cases-fit);
+      events-fit = events-fit-kept c n q s (i .is-valid) r w e (i .events-fit);
+    }

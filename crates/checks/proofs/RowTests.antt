@@ -1,0 +1,132 @@
+-- Tests of every row and of every key of a map, as rows are put in and taken out.
+use Prim.Native.Nat.{ℕ, _^_}
+use mathlib.Core.Path.{_≡_, refl, ap, _∙_}
+use mathlib.Core.Bool.{Bool, true, false, cond, not, _&&_, _||_, false≢true}
+use mathlib.Core.List.{[], _∷_}
+use mathlib.Core.Option.{some}
+use lib.Dec.{eqb, ltb}
+use borrow.Author.Tests.{eqb-true, eq-eqb, ltb-true, lt-ltb}
+use Rattle.laws.specs.Lists.{all}
+use Rattle.laws.proofs.Truth.{and-left, and-right}
+use Rattle.model.specs.Map.{Row, Map, isSome, find, has, put, keep, putAll, delAll}
+use Rattle.model.specs.Transmission.{Kind, insert, vary, cancel}
+use Rattle.model.specs.Flow.{State, applied}
+use Rattle.register.specs.Stored.{Fits}
+use Rattle.register.proofs.Every.{and-tell}
+
+-- a test of every row
+module _ {F : Type 0} (q : Row F → Bool) where
+  pub all-put : (r : Row F) (m : Map F) → q r ≡ true → all q m ≡ true → all q (put r m) ≡ true
+  unfolding all put
+  all-put r [] a b = rw a
+  all-put r (x ∷ m) a b =
+      let e : q x ≡ true = and-left (q x) (all q m) b in
+      let f : all q m ≡ true = and-right (q x) (all q m) b in
+      go (ltb (r .key) (x .key)) (eqb (r .key) (x .key)) e f (all-put r m a f)
+    where
+      go : (c d : Bool) → q x ≡ true → all q m ≡ true → all q (put r m) ≡ true →
+          all q (cond c (r ∷ x ∷ m) (cond d (r ∷ m) (x ∷ put r m))) ≡ true
+      go true d e f ih = rw a b
+      go false true e f ih = rw a f
+      go false false e f ih = rw e ih
+
+  pub all-keep : (p : ℕ → Bool) (m : Map F) → all q m ≡ true → all q (keep p m) ≡ true
+  unfolding all keep
+  all-keep p [] b = refl
+  all-keep p (x ∷ m) b = go (p (x .key)) (all-keep p m (and-right (q x) (all q m) b))
+    where
+      go : (c : Bool) → all q (keep p m) ≡ true → all q (cond c (x ∷ keep p m) (keep p m)) ≡ true
+      go true ih = rw (and-left (q x) (all q m) b) ih
+      go false ih = ih
+
+  pub all-putAll : (rs m : Map F) → all q rs ≡ true → all q m ≡ true → all q (putAll rs m) ≡ true
+  unfolding all putAll
+  all-putAll [] m a b = b
+  all-putAll (r ∷ rs) m a b =
+      all-put r (putAll rs m) (and-left (q r) (all q rs) a) (all-putAll rs m (and-right (q r) (all q rs) a) b)
+
+  pub all-delAll : (rs m : Map F) → all q m ≡ true → all q (delAll rs m) ≡ true
+  unfolding delAll
+  all-delAll [] m b = b
+  all-delAll (r ∷ rs) m b = all-keep (λ j. not (eqb j (r .key))) (delAll rs m) (all-delAll rs m b)
+
+-- the rows that a record leaves: its own, and those that stood
+module _ {F E : Type 0} (cs : Map F) (es : Map E) (w : ℕ → Bool) (s : State F E) where
+  pub all-cases : (q : Row F → Bool) (t : Kind) → all q cs ≡ true → all q (s .cases) ≡ true → all q (applied t cs es w s .cases) ≡ true
+  all-cases q insert a b = all-putAll q cs (s .cases) a b
+  all-cases q vary a b = all-putAll q cs (s .cases) a b
+  all-cases q cancel a b = all-delAll q cs (s .cases) b
+
+  pub all-events : (q : Row E → Bool) (t : Kind) → all q es ≡ true → all q (s .events) ≡ true → all q (applied t cs es w s .events) ≡ true
+  all-events q insert a b = all-putAll q es (s .events) a b
+  all-events q vary a b = all-putAll q es (s .events) a b
+  all-events q cancel a b = all-keep q (λ k. not (w k)) (delAll es (s .events)) (all-delAll q es (s .events) b)
+
+-- a key of the rows behind the first, and the first one's
+module _ {F : Type 0} (x : Row F) (m : Map F) where
+  pub has-more : (k : ℕ) → has k m ≡ true → has k (x ∷ m) ≡ true
+  unfolding find
+  has-more k h = go (eqb k (x .key))
+    where
+      go : (b : Bool) → isSome (cond b (some (x .val)) (find k m)) ≡ true
+      go true = refl
+      go false = h
+
+  pub has-first : has (x .key) (x ∷ m) ≡ true
+  unfolding find
+  has-first = simp (eq-eqb (x .key) (x .key) refl)
+
+-- a test of every key
+module _ {F : Type 0} (p : ℕ → Bool) where
+  pub all-key : (m : Map F) → all (λ x. p (x .key)) m ≡ true → (k : ℕ) → has k m ≡ true → p k ≡ true
+  unfolding all find
+  all-key [] a k h = absurd (false≢true h)
+  all-key (x ∷ m) a k h = go (eqb k (x .key)) refl (all-key m (and-right (p (x .key)) (all (λ x. p (x .key)) m) a) k)
+    where
+      go : (b : Bool) → eqb k (x .key) ≡ b → (has k m ≡ true → p k ≡ true) → p k ≡ true
+      go true e ih = ap p (eqb-true k (x .key) e) ∙ and-left (p (x .key)) (all (λ x. p (x .key)) m) a
+      go false e ih = ih (simp e at h)
+
+  pub key-all : (m : Map F) → ((k : ℕ) → has k m ≡ true → p k ≡ true) → all (λ x. p (x .key)) m ≡ true
+  unfolding all
+  key-all [] h = refl
+  key-all (x ∷ m) h =
+      and-tell (p (x .key)) (all (λ x. p (x .key)) m) (h (x .key) (has-first x m)) (key-all m (λ k g. h k (has-more x m k g)))
+
+  -- rows none of whose keys passes
+  pub keep-no : (m : Map F) → ((k : ℕ) → has k m ≡ true → p k ≡ false) → keep p m ≡ []
+  unfolding keep
+  keep-no [] h = refl
+  keep-no (x ∷ m) h = rw (h (x .key) (has-first x m)) (keep-no m (λ k g. h k (has-more x m k g)))
+
+  -- a test of the rows whose keys pass, as one of every row
+  pub kept-all : (q : Row F → Bool) (m : Map F) → all q (keep p m) ≡ all (λ x. not (p (x .key)) || q x) m
+  unfolding all keep
+  kept-all q [] = refl
+  kept-all q (x ∷ m) = go (p (x .key)) (kept-all q m)
+    where
+      go : (b : Bool) → all q (keep p m) ≡ all (λ x. not (p (x .key)) || q x) m →
+          all q (cond b (x ∷ keep p m) (keep p m)) ≡ (not b || q x) && all (λ x. not (p (x .key)) || q x) m
+      go true ih = ap (λ (c : Bool). q x && c) ih
+      go false ih = ih
+
+-- rows have their sizes: as a test of every row
+abbrev pub sized : ℕ → ℕ → Row ℕ → Bool
+sized k w r = ltb (r .key) (2 ^ k) && ltb (r .val) (2 ^ w)
+
+pub sized-fits : (k w : ℕ) (m : Map ℕ) → all (sized k w) m ≡ true → Fits k w m
+unfolding all Fits
+sized-fits k w [] a = tt
+sized-fits k w (r ∷ m) a =
+    let e : sized k w r ≡ true = and-left (sized k w r) (all (sized k w) m) a in (
+      (ltb-true (r .key) (2 ^ k) (and-left (ltb (r .key) (2 ^ k)) (ltb (r .val) (2 ^ w)) e), ltb-true (r .val) (2 ^ w) (and-right (ltb (r .key) (2 ^ k)) (ltb (r .val) (2 ^ w)) e)),
+      sized-fits k w m (and-right (sized k w r) (all (sized k w) m) a),
+    )
+
+pub fits-sized : (k w : ℕ) (m : Map ℕ) → Fits k w m → all (sized k w) m ≡ true
+unfolding all Fits
+fits-sized k w [] f = refl
+fits-sized k w (r ∷ m) f =
+    and-tell (sized k w r) (all (sized k w) m)
+    (and-tell (ltb (r .key) (2 ^ k)) (ltb (r .val) (2 ^ w)) (lt-ltb (r .key) (2 ^ k) (f .0 .0)) (lt-ltb (r .val) (2 ^ w) (f .0 .1)))
+    (fits-sized k w m (f .1))

@@ -1,0 +1,110 @@
+-- The rows of a record that was read, and that 11 and 13 let pass, are rows that soundness allows.
+use Prim.Native.Nat.{ℕ, zero, suc, _*_, _^_, _≤_, _<_}
+use mathlib.Core.Path.{_≡_, refl, ap, ap₂, _∙_}
+use mathlib.Core.Bool.{Bool, true, false, cond, not, _&&_}
+use mathlib.Core.List.{List, [], _∷_}
+use native.Mathlib.Omega.{arith}
+use lib.Dec.{eqb, ltb, leb}
+use lib.ListN.{getD}
+use borrow.Author.Tests.{eqb-true, ltb-true, ltb-false, lt-ltb, le-leb, eq-eqb}
+use Rattle.laws.specs.Lists.{all}
+use Rattle.laws.proofs.Truth.{and-left, and-right, or-left, or-right}
+use Rattle.days.specs.Calendar.{yearOf, yearsTo, firstOf}
+use Rattle.rows.specs.Row.{Key, Case, keyBits, eventKeyBits, eventBits, keyNumber, caseNumber, CaseFits}
+use Rattle.rows.proofs.Table.{key-lt, case-lt}
+use Rattle.model.specs.Map.{Row, has}
+use Rattle.register.specs.Layout.{siad, caseRest, eventRest, caseOf}
+use Rattle.register.specs.Fields.{casePad, eventIn, eventPad, eventRow}
+use Rattle.register.specs.Allowed.{keyAllowed, prevalenteAllowed, caseAllowed, caseRowAllowed, eventAllowed, eventRowAllowed}
+use Rattle.register.proofs.Every.{and-tell, not-tell}
+use Rattle.tracks.specs.Record.{Said}
+use Rattle.checks.specs.Flow.{caseRow, eventRows}
+use Rattle.checks.specs.Tests.{t11, zeroKept}
+use Rattle.checks.specs.Readable.{KeyReadable, CaseReadable, eventReadable}
+use Rattle.checks.proofs.RowTests.{sized, all-key}
+use Rattle.checks.proofs.ReadBack.{key-read, case-read, case-pad, event-case, event-read, event-pad, event-key-lt, event-val-lt}
+
+-- the year of a day is at most 2099
+years-le : (k n : ℕ) → yearsTo k n ≤ k
+unfolding yearsTo
+years-le zero n = omega arith
+years-le (suc k) n = go (leb (firstOf (12 * suc k)) n) (years-le k n)
+  where
+    go : (b : Bool) → yearsTo k n ≤ k → cond b (suc k) (yearsTo k n) ≤ suc k
+    go true h = omega arith
+    go false h = omega arith
+
+-- ---- a case's row
+
+module _ (k : Key) (c : Case) (kr : KeyReadable k) (cr : CaseReadable c) (no11 : t11 k c ≡ false) where
+  born : (1880 ≤ c .birth) × (c .birth ≤ yearOf (k .taken))
+  born = (
+    ltb-false (c .birth) 1880 (or-left (ltb (c .birth) 1880) (ltb (yearOf (k .taken)) (c .birth)) no11),
+    ltb-false (yearOf (k .taken)) (c .birth) (or-right (ltb (c .birth) 1880) (ltb (yearOf (k .taken)) (c .birth)) no11),
+  )
+
+  -- 11 bounds the birth year
+  pub case-fits : CaseFits c
+  case-fits =
+      record {
+        birth = omega (arith, born .1, years-le 199 (k .taken));
+        prevalente = cr .prevalente-fits;
+        prevalente-length = cr .prevalente-length;
+        scales = cr .scales-fit;
+        scales-length = cr .scales-length;
+      }
+
+  pub case-row-sized : sized keyBits (caseRest siad) (caseRow k c) ≡ true
+  case-row-sized =
+      and-tell (ltb (keyNumber k) (2 ^ keyBits)) (ltb (caseRow k c .val) (2 ^ caseRest siad))
+      (lt-ltb (keyNumber k) (2 ^ keyBits) (key-lt k (kr .fits)))
+      (lt-ltb (caseRow k c .val) (2 ^ caseRest siad) (omega (arith, case-lt c case-fits)))
+
+  module _ (no13 : zeroKept (c .prevalente) ≡ false) where
+    fields-allowed : caseAllowed k c ≡ true
+    fields-allowed =
+        and-tell (leb 1880 (c .birth) && leb (c .birth) (yearOf (k .taken))) (prevalenteAllowed (c .prevalente) && leb (getD (c .scales) 5 0) 2)
+        (and-tell (leb 1880 (c .birth)) (leb (c .birth) (yearOf (k .taken))) (le-leb 1880 (c .birth) (born .0)) (le-leb (c .birth) (yearOf (k .taken)) (born .1)))
+        (and-tell (prevalenteAllowed (c .prevalente)) (leb (getD (c .scales) 5 0) 2)
+        (and-tell _ (not (zeroKept (c .prevalente))) (cr .prevalente) (not-tell (zeroKept (c .prevalente)) no13))
+        (le-leb (getD (c .scales) 5 0) 2 (cr .rischio)))
+
+    pub case-row-allowed : caseRowAllowed (caseRow k c) ≡ true
+    case-row-allowed =
+        let v : ℕ = caseRow k c .val in
+        let pad : Bool = eqb (casePad v) 0 in
+        ap₂ (λ (j : Key) (d : Case). keyAllowed j && (caseAllowed j d && pad)) (key-read k (kr .fits)) (case-read c case-fits)
+        ∙ (and-tell (keyAllowed k) (caseAllowed k c && eqb (casePad (caseRow k c .val)) 0) (kr .allowed)
+        (and-tell (caseAllowed k c) (eqb (casePad (caseRow k c .val)) 0) fields-allowed (eq-eqb (casePad (caseRow k c .val)) 0 (case-pad (caseNumber c)))))
+
+-- ---- the rows of events
+
+module _ (c : ℕ) where
+  -- what holds of each event's row holds of all
+  pub each-row : (q : Row ℕ → Bool) (es : List Said) → all eventReadable es ≡ true →
+      ((e : ℕ) → e < 2 ^ eventBits → eventAllowed e ≡ true → q (eventRow c e) ≡ true) → all q (eventRows c es) ≡ true
+  unfolding all eventRows
+  each-row q [] a f = refl
+  each-row q (e ∷ es) a f =
+      let r : eventReadable e ≡ true = and-left (eventReadable e) (all eventReadable es) a in
+      let l : e .event < 2 ^ eventBits = ltb-true (e .event) (2 ^ eventBits) (and-left (ltb (e .event) (2 ^ eventBits)) (eventAllowed (e .event)) r) in
+      and-tell (q (eventRow c (e .event))) (all q (eventRows c es))
+      (f (e .event) l (and-right (ltb (e .event) (2 ^ eventBits)) (eventAllowed (e .event)) r))
+      (each-row q es (and-right (eventReadable e) (all eventReadable es) a) f)
+
+  pub event-row-allowed : (e : ℕ) → e < 2 ^ eventBits → eventAllowed e ≡ true → eventRowAllowed (eventRow c e) ≡ true
+  event-row-allowed e l a =
+      and-tell (eventAllowed (eventIn (eventRow c e))) (eqb (eventPad (eventRow c e)) 0)
+      (ap eventAllowed (event-read c e l) ∙ a) (eq-eqb (eventPad (eventRow c e)) 0 (event-pad c e l))
+
+  pub event-row-sized : c < 2 ^ keyBits → (e : ℕ) → e < 2 ^ eventBits → eventAllowed e ≡ true → sized eventKeyBits (eventRest siad) (eventRow c e) ≡ true
+  event-row-sized g e l a =
+      and-tell (ltb (eventRow c e .key) (2 ^ eventKeyBits)) (ltb (eventRow c e .val) (2 ^ eventRest siad))
+      (lt-ltb (eventRow c e .key) (2 ^ eventKeyBits) (event-key-lt c e l g)) (lt-ltb (eventRow c e .val) (2 ^ eventRest siad) (event-val-lt c e l))
+
+  -- a key of the rows is a key of the case c
+  pub row-case : (es : List Said) → all eventReadable es ≡ true → (k : ℕ) → has k (eventRows c es) ≡ true → caseOf siad k ≡ c
+  row-case es a k h =
+      eqb-true (caseOf siad k) c
+      (all-key (λ j. eqb (caseOf siad j) c) (eventRows c es)
+      (each-row (λ r. eqb (caseOf siad (r .key)) c) es a (λ e l g. eq-eqb (caseOf siad (eventRow c e .key)) c (event-case c e l))) k h)

@@ -1,0 +1,95 @@
+-- A history over one case's real 662-bit key, computed: the answers that document 01 gives, and what stands afterwards.
+use Prim.Native.Nat.{ℕ}
+use Prim.Native.Char.{Char, code}
+use Prim.Native.String as string
+use mathlib.Core.Path.{_≡_, refl}
+use mathlib.Core.Bool.{false}
+use mathlib.Core.List.{List, [], _∷_, map}
+use lib.ListN.{replicate}
+use Rattle.laws.specs.Lists.{all, any, same}
+use Rattle.laws.specs.Text.{bytes}
+use Rattle.days.specs.Calendar.{firstOf, dayNumber, yearsTo}
+use Rattle.days.specs.Quarters.{firstDay, lastDay}
+use Rattle.rows.specs.Pack.{packs}
+use Rattle.rows.specs.Row.{Key, Event, never, eventOf, eventNumber}
+use Rattle.model.specs.Map.{find, put, keep, putAll, delAll, anyIn, allIn, twice}
+use Rattle.model.specs.Checks.{first}
+use Rattle.model.specs.Machine.{run, answers}
+use Rattle.model.specs.Flow.{empty, machine}
+use Rattle.register.specs.Events.{pair}
+use Rattle.tracks.specs.Record.{Head, Said, Record, padded, admission, events}
+use Rattle.checks.specs.Flow.{eventRows}
+use Rattle.checks.specs.Tests.{Context, eventsIn}
+use Rattle.checks.specs.Checks.{siadMachine}
+
+-- quarter 2 of 2018, and room for four rows
+abbrev context : Context
+context = record { first = firstDay 2018 2; last = lastDay 2018 2; room = 4 }
+
+-- region 010, ASL 101, taken in on 2018-05-01, 88 letters A
+abbrev key : Key
+key = record { region = 10; asl = bytes "101"; taken = dayNumber 2018 5 1; id = replicate 88 (code "A") }
+
+abbrev head : Char → Head
+head t = record { tipo = code t; key = key }
+
+-- Track 1: born in 1940, with this prevalente
+abbrev case : Char → string.String → Record
+case t prevalente =
+    admission (head t)
+    (record {
+      case = record { birth = 1940; prevalente = padded (bytes prevalente); scales = 1 ∷ 2 ∷ 3 ∷ 1 ∷ 2 ∷ 0 ∷ [] };
+      residence = record { region = bytes "010"; asl = bytes "101"; comune = bytes "001001"; stato = [] };
+    })
+
+-- Track 2, by days counted from 1 May on
+abbrev day : ℕ → ℕ
+day n = dayNumber 2018 5 n
+
+abbrev visit : ℕ → ℕ → Event
+visit d accesses = eventOf 1 (day d) never 3 accesses 0
+
+abbrev suspension : ℕ → ℕ → Event
+suspension a b = eventOf 2 (day a) (day b) 1 0 0
+
+abbrev conclusion : ℕ → Event
+conclusion d = eventOf 3 (day d) never 1 0 0
+
+abbrev said : Event → Said
+said e = record { event = eventNumber e; valued = false; prevalente = [] }
+
+abbrev send : Char → List Event → Record
+send t es = events (head t) (map said es)
+
+abbrev history : List Record
+history =
+    send "I" (visit 10 1 ∷ []) ∷
+    case "I" "000" ∷
+    case "I" "0000" ∷
+    case "I" "0000" ∷
+    send "I" [] ∷
+    send "I" (visit 10 1 ∷ []) ∷
+    send "I" (visit 10 1 ∷ []) ∷
+    send "V" (visit 11 2 ∷ []) ∷
+    send "V" (visit 10 2 ∷ []) ∷
+    send "I" (suspension 12 14 ∷ []) ∷
+    send "I" (suspension 14 20 ∷ []) ∷
+    send "I" (suspension 20 18 ∷ []) ∷
+    send "I" (conclusion 50 ∷ []) ∷
+    send "I" (visit 51 1 ∷ []) ∷
+    send "I" (conclusion 49 ∷ []) ∷
+    send "I" (visit 62 1 ∷ []) ∷
+    send "I" (visit 49 1 ∷ []) ∷
+    case "C" "0000" ∷
+    send "C" (visit 10 1 ∷ suspension 12 13 ∷ conclusion 50 ∷ []) ∷
+    case "C" "0000" ∷
+    []
+
+pub answered : answers (siadMachine context) empty history ≡
+    24 ∷ 13 ∷ 0 ∷ 14 ∷ 20 ∷ 0 ∷ 14 ∷ 15 ∷ 0 ∷ 0 ∷ 26 ∷ 23 ∷ 0 ∷ 28 ∷ 27 ∷ 10 ∷ 17 ∷ 16 ∷ 0 ∷ 0 ∷ []
+unfolding answers machine first find put keep putAll delAll anyIn allIn twice eventRows eventsIn all any same pair packs yearsTo firstOf
+answered = refl
+
+pub back : run (siadMachine context) empty history ≡ empty
+unfolding run machine first find put keep putAll delAll anyIn allIn twice eventRows eventsIn all any same pair packs yearsTo firstOf
+back = refl

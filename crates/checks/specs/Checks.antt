@@ -1,0 +1,63 @@
+-- "Anomalies of a record, the first that holds" (document 01): both tracks' lists, in the paper's order.
+use Prim.Native.Nat.{ℕ}
+use mathlib.Core.Bool.{Bool, not, _&&_}
+use mathlib.Core.List.{List, [], _∷_, map}
+use lib.Dec.{eqb}
+use lib.ListN.{length}
+use Rattle.laws.specs.Lists.{any}
+use Rattle.rows.specs.Row.{keyNumber}
+use Rattle.model.specs.Map.{Map, has}
+use Rattle.model.specs.Checks.{Check, check}
+use Rattle.model.specs.Transmission.{isCancel}
+use Rattle.model.specs.Machine.{Machine}
+use Rattle.model.specs.Flow.{State, machine, t14, t15, t17, t22}
+use Rattle.register.specs.Layout.{siad, caseOf}
+use Rattle.register.specs.Fields.{eventIn}
+use Rattle.register.specs.Events.{t23, t25, t26, t27, t28}
+use Rattle.register.specs.Sound.{eventsOf}
+use Rattle.tracks.specs.Record.{Head, Admission, Said, Record, admission, events}
+use Rattle.checks.specs.Flow.{kindOf, flow, next}
+use Rattle.checks.specs.Tests.{Context, outOfQuarter, dayFor, t11, t12, zeroKept, zeroWritten, badConferma, eventsIn}
+
+-- 16: "type C, and an event of the case stands"
+abbrev pub t16 : Head → State ℕ ℕ → Bool
+t16 h s = isCancel (kindOf (h .tipo)) && any (λ e. eqb (caseOf siad (e .key)) (keyNumber (h .key))) (s .events)
+
+-- "25 to 28 look at the events which the case would have afterwards"; `then r s` is the state afterwards
+abbrev pub afterwards : (Record → State ℕ ℕ → State ℕ ℕ) → Head → Record → State ℕ ℕ → List ℕ
+afterwards then h r s = map eventIn (eventsOf siad (keyNumber (h .key)) (then r s .events))
+
+abbrev pub checksWith : (Record → State ℕ ℕ → State ℕ ℕ) → Context → Record → List (Check (State ℕ ℕ))
+checksWith then c (admission h a) =
+    check 10 (λ s. outOfQuarter c (h .key .taken)) ∷
+    check 11 (λ s. t11 (h .key) (a .case)) ∷
+    check 12 (λ s. t12 (a .residence)) ∷
+    check 13 (λ s. zeroKept (a .case .prevalente)) ∷
+    check 14 (t14 flow (admission h a)) ∷
+    check 15 (t15 flow (admission h a)) ∷
+    check 16 (t16 h) ∷
+    check 17 (t17 flow (c .room) (admission h a)) ∷
+    []
+checksWith then c (events h es) =
+    check 20 (λ s. eqb (length es) 0) ∷
+    check 10 (λ s. any (λ e. outOfQuarter c (dayFor e)) (eventsIn es)) ∷
+    check 21 (λ s. any badConferma es) ∷
+    check 13 (λ s. any zeroWritten es) ∷
+    check 22 (λ s. t22 flow (events h es)) ∷
+    check 23 (λ s. t23 (eventsIn es)) ∷
+    check 24 (λ s. not (has (keyNumber (h .key)) (s .cases))) ∷
+    check 14 (t14 flow (events h es)) ∷
+    check 15 (t15 flow (events h es)) ∷
+    check 25 (λ s. t25 (h .key .taken) (afterwards then h (events h es) s)) ∷
+    check 26 (λ s. t26 (afterwards then h (events h es) s)) ∷
+    check 27 (λ s. t27 (afterwards then h (events h es) s)) ∷
+    check 28 (λ s. t28 (afterwards then h (events h es) s)) ∷
+    check 17 (t17 flow (c .room) (events h es)) ∷
+    []
+
+abbrev pub checksOf : Context → Record → List (Check (State ℕ ℕ))
+checksOf c r = checksWith next c r
+
+-- judging by the checks, and what an accepted record does
+abbrev pub siadMachine : Context → Machine (State ℕ ℕ) Record
+siadMachine c = machine flow (checksOf c)

@@ -1,0 +1,46 @@
+-- The home-care flow: what a record inserts, varies or cancels (document 01, "The register", "Anomalies of a record").
+use Prim.Native.Nat.{ℕ, _-_, _*_, _^_}
+use Prim.Native.Char.{code}
+use mathlib.Core.Bool.{false, cond}
+use mathlib.Core.List.{List, [], _∷_}
+use lib.Dec.{eqb}
+use Rattle.rows.specs.Row.{Key, Case, caseBits, keyNumber, caseNumber}
+use Rattle.model.specs.Map.{Row, Map}
+use Rattle.model.specs.Transmission.{Kind, insert, vary, cancel}
+use Rattle.model.specs.Flow.{State, Flow, applied}
+use Rattle.register.specs.Layout.{siad, caseRest}
+use Rattle.register.specs.Fields.{eventRow}
+use Rattle.tracks.specs.Record.{Head, Said, Record, admission, events}
+
+-- "`tipo` is I, V or C"
+abbrev pub kindOf : ℕ → Kind
+kindOf b = cond (eqb b (code "I")) insert (cond (eqb b (code "V")) vary cancel)
+
+abbrev pub headIn : Record → Head
+headIn (admission h a) = h
+headIn (events h es) = h
+
+-- the row of a case: the key, the fields, zero bits
+abbrev pub caseRow : Key → Case → Row ℕ
+caseRow k c = record { key = keyNumber k; val = caseNumber c * 2 ^ (caseRest siad - caseBits) }
+
+-- the rows of the events of the case c
+unfoldable pub eventRows : ℕ → List Said → Map ℕ
+eventRows c [] = []
+eventRows c (e ∷ es) = eventRow c (e .event) ∷ eventRows c es
+
+abbrev pub caseRowsIn : Record → Map ℕ
+caseRowsIn (admission h a) = caseRow (h .key) (a .case) ∷ []
+caseRowsIn (events h es) = []
+
+abbrev pub eventRowsIn : Record → Map ℕ
+eventRowsIn (admission h a) = []
+eventRowsIn (events h es) = eventRows (keyNumber (h .key)) es
+
+-- a cancellation carries nothing away but what it names
+abbrev pub flow : Flow ℕ ℕ Record
+flow = record { kind = λ r. kindOf (headIn r .tipo); caseRows = caseRowsIn; eventRows = eventRowsIn; away = λ r k. false }
+
+-- the state that a record would leave
+abbrev pub next : Record → State ℕ ℕ → State ℕ ℕ
+next r s = applied (flow .kind r) (flow .caseRows r) (flow .eventRows r) (flow .away r) s

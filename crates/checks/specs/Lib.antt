@@ -1,0 +1,4 @@
+pub mod Flow
+pub mod Tests
+pub mod Checks
+pub mod Readable

@@ -1,0 +1,122 @@
+-- Any history of calls on an emptied register: its bytes are those of what the accepted records left, and DEMAND 3 holds of them.
+use Prim.Native.Nat.{ℕ, _≤_}
+use mathlib.Core.Path.{_≡_, refl, sym, ap, ap₂, _∙_}
+use mathlib.Core.List.{List, [], _∷_, map}
+use lib.ListN.{replicate}
+use borrow.Author.Tests.{ne-eqb}
+use Rattle.model.specs.Machine.{Machine, step, run, answers, runAll, calls}
+use Rattle.model.specs.Flow.{State, empty, machine, Lawful}
+use Rattle.model.specs.Demands.{Demand3, Sequences}
+use Rattle.model.proofs.MachineLaws.{Every, run-keeps-ok, runAll-keeps-ok}
+use Rattle.model.proofs.Demands.{demand3}
+use Rattle.model.proofs.TransmissionLaws.{sequences}
+use Rattle.register.specs.Layout.{siad}
+use Rattle.register.specs.Bytes.{room, encode}
+use Rattle.tracks.specs.Record.{Record}
+use Rattle.checks.specs.Tests.{Context}
+use Rattle.checks.specs.Checks.{siadMachine}
+use Rattle.checks.specs.Readable.{Readable}
+use Rattle.checks.proofs.Accepted.{lawful}
+use Rattle.checks.proofs.Valid.{Sound}
+use Rattle.intake.specs.Submitted.{Submitted, contextOf}
+use Rattle.intake.specs.Order.{recordsIn}
+use Rattle.intake.specs.Histories.{Sub, call, Entry, entry, entryFlow, entryChecks, entryMachine, entriesFor, stateAfter}
+use Rattle.intake.proofs.Outcome.{Outcome, stopped, passed, outcome}
+use Rattle.intake.proofs.SoundBytes.{state-long, state-back, sound-empty, empty-bytes}
+use Rattle.intake.proofs.Sound.{all-readable, step-kept}
+
+-- ---- bytes that go as a state does, where only some records keep what is kept
+module _ {S R X B : Type 0} (m : Machine S R) (entries : S → X → List R) (call : B → X → B) (encode : S → B) (Inv : S → Type 0) (Ok : R → Type 0)
+    (keeps : (s : S) (r : R) → Inv s → Ok r → m .judge s r ≡ 0 → Inv (m .act s r))
+    (ok : (s : S) (x : X) → Every Ok (entries s x))
+    (right : (s : S) (x : X) → Inv s → call (encode s) x ≡ encode (run m s (entries s x))) where
+  pub calls-encode-ok : (s : S) (xs : List X) → Inv s → calls call (encode s) xs ≡ encode (runAll m entries s xs)
+  unfolding calls runAll
+  calls-encode-ok s [] h = refl
+  calls-encode-ok s (x ∷ xs) h =
+      rw (right s x h) (calls-encode-ok (run m s (entries s x)) xs (run-keeps-ok m Inv Ok keeps s (entries s x) h (ok s x)))
+
+-- ---- one machine for the whole history
+
+entry-lawful : Lawful entryFlow entryChecks
+entry-lawful =
+    record {
+      not14 = λ s e z. lawful (e .context) .not14 s (e .said) z;
+      not15 = λ s e z. lawful (e .context) .not15 s (e .said) z;
+      not22 = λ s e z. lawful (e .context) .not22 s (e .said) z;
+    }
+
+-- a file's records run alike, with their context and without
+run-entries : (c : Context) (s : State ℕ ℕ) (rs : List Record) → run entryMachine s (map (entry c) rs) ≡ run (siadMachine c) s rs
+unfolding run machine
+run-entries c s [] = refl
+run-entries c s (r ∷ rs) = run-entries c (step (siadMachine c) s r) rs
+
+pub answers-entries : (c : Context) (s : State ℕ ℕ) (rs : List Record) → answers entryMachine s (map (entry c) rs) ≡ answers (siadMachine c) s rs
+unfolding answers machine
+answers-entries c s [] = refl
+answers-entries c s (r ∷ rs) = ap (λ (l : List ℕ). siadMachine c .judge s r ∷ l) (answers-entries c (step (siadMachine c) s r) rs)
+
+each-entry : (c : Context) (n : ℕ) → c .room ≡ room siad n → (rs : List Record) → Every Readable rs →
+    Every (λ e. Readable (e .said) × (e .context .room ≡ room siad n)) (map (entry c) rs)
+each-entry c n q [] h = tt
+each-entry c n q (r ∷ rs) h = ((h .0, q), each-entry c n q rs (h .1))
+
+module _ (n : ℕ) where
+  -- DEMAND 3, of the state that any history leaves and of its bytes
+  pub history-demand3 : Demand3 entryFlow entryMachine (entriesFor n) (encode siad n)
+  history-demand3 = demand3 entryFlow entryChecks entry-lawful (entriesFor n) (encode siad n)
+
+  -- document 003, section 4.3, over any history
+  pub history-sequences : Sequences entryFlow entryMachine (entriesFor n)
+  history-sequences = sequences entryFlow entryChecks entry-lawful (entriesFor n)
+
+  abbrev Ok : Entry → Type 0
+  Ok e = Readable (e .said) × (e .context .room ≡ room siad n)
+
+  entry-kept : (s : State ℕ ℕ) (e : Entry) → Sound n s → Ok e → entryMachine .judge s e ≡ 0 → Sound n (entryMachine .act s e)
+  unfolding machine
+  entry-kept s e i w z = step-kept (e .context) n (w .1) s (e .said) i (w .0) z
+
+  -- the records of a file that is taken are readable, and judged in the register's room
+  entries-ok : (s : State ℕ ℕ) (x : Sub) → Every Ok (entriesFor n s x)
+  entries-ok s x = go (outcome (x .file) (x .track) (x .year) (x .quarter) (encode siad n s) (x .answerList))
+    where
+      go : Outcome (x .file) (x .track) (x .year) (x .quarter) (encode siad n s) (x .answerList) → Every Ok (entriesFor n s x)
+      go (stopped a k e z _) = rw (ap (λ (r : Submitted). r .answer) e, ne-eqb a 0 z) tt
+      go (passed p) =
+          rw (ap (λ (r : Submitted). r .answer) (p .gives))
+          (each-entry (contextOf (x .year) (x .quarter) n) n refl (recordsIn (x .track) (x .file))
+          (all-readable (x .file) (x .track) (p .tree) (p .left) (p .records) (p .track-is) (p .markup) (p .shape)))
+
+  module _ (long : 4 ≤ n) where
+    -- a call does to a sound state's bytes what the machine does to the state
+    pub call-right : (s : State ℕ ℕ) (x : Sub) → Sound n s → call (encode siad n s) x ≡ encode siad n (run entryMachine s (entriesFor n s x))
+    unfolding run
+    call-right s x i = go (outcome (x .file) (x .track) (x .year) (x .quarter) (encode siad n s) (x .answerList))
+      where
+        rs : List Record
+        rs = recordsIn (x .track) (x .file)
+
+        c : ℕ → Context
+        c k = contextOf (x .year) (x .quarter) k
+
+        go : Outcome (x .file) (x .track) (x .year) (x .quarter) (encode siad n s) (x .answerList) →
+            call (encode siad n s) x ≡ encode siad n (run entryMachine s (entriesFor n s x))
+        go (stopped a k e z _) =
+            let nil : entriesFor n s x ≡ [] = rw (ap (λ (r : Submitted). r .answer) e, ne-eqb a 0 z) in
+            ap (λ (r : Submitted). r .register) e ∙ sym (ap (λ (es : List Entry). encode siad n (run entryMachine s es)) nil)
+        go (passed p) =
+            let full : entriesFor n s x ≡ map (entry (c n)) rs = rw (ap (λ (r : Submitted). r .answer) (p .gives)) in
+            ap (λ (r : Submitted). r .register) (p .gives)
+            ∙ ap₂ (λ (k : ℕ) (t : State ℕ ℕ). encode siad k (run (siadMachine (c k)) t rs)) (state-long n long s i) (state-back n long s i)
+            ∙ sym (ap (encode siad n) (ap (run entryMachine s) full ∙ run-entries (c n) s rs))
+
+    -- the register after any history of calls on an emptied one
+    pub history-bytes : (xs : List Sub) → calls call (replicate n 0) xs ≡ encode siad n (stateAfter n xs)
+    history-bytes xs =
+        ap (λ (b : List ℕ). calls call b xs) (empty-bytes n long)
+        ∙ calls-encode-ok entryMachine (entriesFor n) call (encode siad n) (Sound n) Ok entry-kept entries-ok call-right empty xs (sound-empty n)
+
+    pub history-kept : (xs : List Sub) → Sound n (stateAfter n xs)
+    history-kept xs = runAll-keeps-ok entryMachine (Sound n) Ok entry-kept (entriesFor n) entries-ok empty xs (sound-empty n)

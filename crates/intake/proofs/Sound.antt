@@ -1,0 +1,165 @@
+-- A call leaves a sound register sound, and its counts are conserved.
+use Prim.Native.Nat.{ℕ}
+use mathlib.Core.Path.{_≡_, refl, sym, ap, _∙_, subst}
+use mathlib.Core.Logic.{_⊎_, inl, inr, ⊎-elim, _≢_}
+use mathlib.Core.Bool.{Bool, true, false, _||_}
+use mathlib.Core.List.{List, [], _∷_, map}
+use native.Mathlib.Omega.{arith}
+use lib.Dec.{eqb}
+use lib.ListN.{length}
+use borrow.Author.Tests.{eqb-true}
+use Rattle.rows.specs.Pack.{each, Fit}
+use Rattle.markup.specs.Reading.Read.{read}
+use Rattle.markup.specs.Elements.{Tree}
+use Rattle.markup.specs.Document.{document}
+use Rattle.reading.specs.Within as within
+use Rattle.model.specs.Machine as machine
+use Rattle.model.specs.Machine.{Machine, run}
+use Rattle.model.specs.Flow as flows
+use Rattle.model.specs.Flow.{State}
+use Rattle.model.proofs.MachineLaws.{Every, run-keeps-ok, taken-zeros}
+use Rattle.register.specs.Layout.{siad}
+use Rattle.register.specs.Bytes.{room, stateOf, encode}
+use Rattle.register.specs.Stored.{Stored}
+use Rattle.register.specs.Sound.{isSound}
+use Rattle.register.proofs.States.{laid-siad, cases-held, events-held}
+use Rattle.schema.specs.Shape.{recordsOf, fine, shapeOf}
+use Rattle.tracks.specs.Track1.{track1}
+use Rattle.tracks.specs.Track2.{track2}
+use Rattle.tracks.specs.Record.{Record, recordOf}
+use Rattle.tracks.specs.WellRead.{WellRead}
+use Rattle.tracks.proofs.WellRead.{file-read-1, file-read-2}
+use Rattle.checks.specs.Tests.{Context}
+use Rattle.checks.specs.Checks.{siadMachine}
+use Rattle.checks.specs.Readable.{Readable}
+use Rattle.checks.proofs.Accepted.{siad-discarded, siad-conserved}
+use Rattle.checks.proofs.Valid.{Sound}
+use Rattle.checks.proofs.Kept.{kept}
+use Rattle.checks.proofs.WellReadable.{readable}
+use Rattle.intake.specs.Submitted.{Submitted, schemaOf, entriesOf, contextOf, submitted}
+use Rattle.intake.specs.Order.{recordsIn}
+use Rattle.intake.specs.Demands.{Conserved}
+use Rattle.intake.proofs.Outcome.{Passed, Outcome, stopped, passed, outcome}
+use Rattle.intake.proofs.SoundBytes.{sound-long, sound-stored, sound-state, encode-fit, state-long, state-stored, state-sound}
+use Rattle.intake.proofs.Files.{taken-passed}
+
+-- ---- the records of a file that is of the shape are readable
+
+each-record : (k : ℕ) (ts : List Tree) → within.Every (λ t. WellRead (recordOf k t)) ts → Every Readable (map (recordOf k) ts)
+each-record k [] h = tt
+each-record k (t ∷ ts) h = (readable (recordOf k t) (h .0), each-record k ts (h .1))
+
+either : (a b : Bool) → a || b ≡ true → (a ≡ true) ⊎ (b ≡ true)
+either true b h = inl refl
+either false b h = inr h
+
+pub all-readable : (sub : List ℕ) (track : ℕ) (t : Tree) (l : List ℕ) (n : ℕ) → eqb track 1 || eqb track 2 ≡ true →
+    document sub ≡ read t l → shapeOf (schemaOf track) t ≡ fine n → Every Readable (recordsIn track sub)
+all-readable sub track t l n k d f =
+    rw d (⊎-elim (λ e. first-track (eqb-true track 1 e)) (λ e. second-track (eqb-true track 2 e)) (either (eqb track 1) (eqb track 2) k))
+  where
+    first-track : track ≡ 1 → Every Readable (entriesOf track t)
+    first-track e =
+        subst (λ (j : ℕ). Every Readable (entriesOf j t)) (sym e)
+        (each-record 1 (recordsOf track1 t) (file-read-1 sub t l n d (subst (λ (j : ℕ). shapeOf (schemaOf j) t ≡ fine n) e f)))
+
+    second-track : track ≡ 2 → Every Readable (entriesOf track t)
+    second-track e =
+        subst (λ (j : ℕ). Every Readable (entriesOf j t)) (sym e)
+        (each-record 2 (recordsOf track2 t) (file-read-2 sub t l n d (subst (λ (j : ℕ). shapeOf (schemaOf j) t ≡ fine n) e f)))
+
+-- ---- a run of readable records keeps a state sound
+
+pub step-kept : (c : Context) (n : ℕ) → c .room ≡ room siad n → (s : State ℕ ℕ) (r : Record) → Sound n s → Readable r →
+    siadMachine c .judge s r ≡ 0 → Sound n (siadMachine c .act s r)
+unfolding flows.machine
+step-kept c n e s r i w z = kept c n e s i r w z
+
+pub run-kept : (c : Context) (n : ℕ) → c .room ≡ room siad n → (s : State ℕ ℕ) (rs : List Record) → Sound n s → Every Readable rs → Sound n (run (siadMachine c) s rs)
+run-kept c n e s rs i w = run-keeps-ok (siadMachine c) (Sound n) Readable (step-kept c n e) s rs i w
+
+-- a discarded record leaves the register's bytes as they were
+pub discarded-keeps : (c : Context) (n : ℕ) (s : State ℕ ℕ) (r : Record) → siadMachine c .judge s r ≢ 0 →
+    encode siad n (run (siadMachine c) s (r ∷ [])) ≡ encode siad n s
+discarded-keeps c n s r z = ap (encode siad n) (siad-discarded c .as-it-was s r z)
+
+-- ---- one call
+
+module _ (sub : List ℕ) (track year quarter : ℕ) (reg answerList : List ℕ) (f : Fit (each 8 reg)) where
+  abbrev call : Submitted
+  call = submitted sub track year quarter reg answerList
+
+  abbrev m : Machine (State ℕ ℕ) Record
+  m = siadMachine (contextOf year quarter (length reg))
+
+  abbrev s : State ℕ ℕ
+  s = stateOf siad reg
+
+  abbrev t : State ℕ ℕ
+  t = run m s (recordsIn track sub)
+
+  module _ (p : Passed sub track year quarter reg answerList) where
+    left-sound : Sound (length reg) t
+    left-sound =
+        run-kept (contextOf year quarter (length reg)) (length reg) refl s (recordsIn track sub) (sound-state reg f (p .sound))
+        (all-readable sub track (p .tree) (p .left) (p .records) (p .track-is) (p .markup) (p .shape))
+
+    register-is : call .register ≡ encode siad (length reg) t
+    register-is = ap (λ (r : Submitted). r .register) (p .gives)
+
+    left-stored : Stored siad (call .register) t
+    left-stored =
+        subst (λ (b : List ℕ). Stored siad b t) (sym register-is) (state-stored (length reg) (sound-long reg f (p .sound)) t left-sound)
+
+  -- a register that is sound before a call is sound after it, of the same length, and bytes
+  pub sound-kept : isSound reg ≡ true → isSound (call .register) ≡ true
+  sound-kept h = go (outcome sub track year quarter reg answerList)
+    where
+      go : Outcome sub track year quarter reg answerList → isSound (call .register) ≡ true
+      go (stopped a n e _ _) = ap (λ (r : Submitted). isSound (r .register)) e ∙ h
+      go (passed p) = ap isSound (register-is p) ∙ state-sound (length reg) (sound-long reg f h) t (left-sound p)
+
+  pub length-kept : length (call .register) ≡ length reg
+  length-kept = go (outcome sub track year quarter reg answerList)
+    where
+      go : Outcome sub track year quarter reg answerList → length (call .register) ≡ length reg
+      go (stopped a n e _ _) = ap (λ (r : Submitted). length (r .register)) e
+      go (passed p) = ap length (register-is p) ∙ state-long (length reg) (sound-long reg f (p .sound)) t (left-sound p)
+
+  pub bytes-kept : Fit (each 8 (call .register))
+  bytes-kept = go (outcome sub track year quarter reg answerList)
+    where
+      go : Outcome sub track year quarter reg answerList → Fit (each 8 (call .register))
+      go (stopped a n e _ _) = subst (λ (r : Submitted). Fit (each 8 (r .register))) (sym e) f
+      go (passed p) = subst (λ (b : List ℕ). Fit (each 8 b)) (sym (register-is p)) (encode-fit (length reg) t)
+
+  -- "Conserved by each file"
+  pub file-conserved : call .answer ≡ 0 → Conserved sub track year quarter reg answerList call
+  file-conserved z =
+      let p = taken-passed sub track year quarter reg answerList z in
+      let b = sound-stored reg f (p .sound) in
+      let a = left-stored p in
+      let c = siad-conserved (contextOf year quarter (length reg)) s (recordsIn track sub) (b .good) in
+      record {
+        cases =
+            omega (arith, cases-held siad laid-siad (call .register) t a, cases-held siad laid-siad reg s b, c .cases);
+        events =
+            omega (arith, events-held siad laid-siad (call .register) t a, events-held siad laid-siad reg s b, c .plain (λ r k. refl));
+      }
+
+  -- where no record is accepted, every byte of the register is as it was
+  pub none-accepted : call .accepted ≡ 0 → call .register ≡ reg
+  unfolding run
+  none-accepted z = go (outcome sub track year quarter reg answerList)
+    where
+      nil : (rs : List Record) → length rs ≡ 0 → rs ≡ []
+      nil [] e = refl
+      nil (r ∷ rs) e = absurd (omega arith)
+
+      go : Outcome sub track year quarter reg answerList → call .register ≡ reg
+      go (stopped a n e _ _) = ap (λ (r : Submitted). r .register) e
+      go (passed p) =
+          let rs : List Record = recordsIn track sub in
+          let none : machine.taken m s rs ≡ [] = nil (machine.taken m s rs) (taken-zeros m s rs ∙ sym (ap (λ (r : Submitted). r .accepted) (p .gives)) ∙ z) in
+          let same : t ≡ s = sym (siad-discarded (contextOf year quarter (length reg)) .without s rs) ∙ ap (run m s) none in
+          register-is p ∙ ap (encode siad (length reg)) same ∙ sym (sound-stored reg f (p .sound) .bytes)

@@ -1,0 +1,4 @@
+pub mod Submitted
+pub mod Order
+pub mod Demands
+pub mod Histories
