@@ -1,1 +1,3 @@
-fn nothing() {}
+// Sets of characters and code lists (document 01, "The shape of a record").
+pub mod chars;
+pub mod lists;

@@ -1,8 +1,8 @@
 -- "keys strictly ascending", as a test and as the model's fact; parts of what ascends.
-use Prim.Native.Nat.{ℕ, suc, _+_, _-_, _≤_, _<_}
-use mathlib.Core.Path.{_≡_, refl, sym, ap, _∙_}
+use Prim.Native.Nat.{ℕ, suc, _+_, _-_, _≤_}
+use mathlib.Core.Path.{_≡_, refl}
 use mathlib.Core.Logic.{_↔_}
-use mathlib.Core.Bool.{Bool, true, false, _&&_}
+use mathlib.Core.Bool.{Bool, true}
 use mathlib.Core.List.{List, [], _∷_, _++_}
 use native.Mathlib.Omega.{arith}
 use lib.Dec.{ltb}
@@ -14,7 +14,7 @@ use Rattle.model.proofs.MapLaws.{asc-weaken}
 use Rattle.register.specs.Bytes.{from}
 use Rattle.register.specs.Sound.{ascending}
 use Rattle.register.proofs.Every.{Every, every-map, all-told, all-tell, and-tell}
-use Rattle.register.proofs.Walks.{from-cut}
+use Rattle.register.proofs.From.{from-cut}
 
 -- keys that ascend are above the first
 asc-above : (b : ℕ) (m : Map ℕ) → Asc b m → Every (λ s. b ≤ s .key) m

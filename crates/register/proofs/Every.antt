@@ -1,7 +1,6 @@
 -- Tests of whole lists as facts of every element, and two tests that hold together.
-use Prim.Native.Nat.{ℕ}
-use mathlib.Core.Path.{_≡_, refl, sym, _∙_}
-use mathlib.Core.Bool.{Bool, true, false, not, _&&_, _||_, true≢false, false≢true}
+use mathlib.Core.Path.{_≡_, refl, sym}
+use mathlib.Core.Bool.{Bool, true, false, not, _&&_, _||_, false≢true}
 use mathlib.Core.List.{List, [], _∷_}
 use Rattle.laws.specs.Lists.{all, any}
 use Rattle.laws.proofs.Truth.{or-left, or-right, and-left, and-right}

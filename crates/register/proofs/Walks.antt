@@ -2,7 +2,7 @@
 use Prim.Native.Nat.{ℕ, zero, suc, _+_, _-_, _*_, _/_, _^_, _≤_, _<_}
 use mathlib.Core.Path.{_≡_, refl, sym, ap, ap₂, _∙_}
 use mathlib.Core.Bool.{Bool, true, false, _&&_, false≢true}
-use mathlib.Core.List.{List, [], _∷_, _++_}
+use mathlib.Core.List.{List, [], _∷_}
 use native.Mathlib.Nat.{mul-le-mul-left}
 use native.Mathlib.Numerals.{add-one}
 use native.Mathlib.Omega.{arith}
@@ -14,7 +14,7 @@ use Rattle.laws.specs.Lists.{all}
 use Rattle.laws.proofs.Order.{Tri, below, equal, above, tri}
 use Rattle.laws.proofs.Truth.{and-left, and-right}
 use Rattle.rows.specs.Pack.{num}
-use Rattle.model.specs.Map.{Row, Map, Asc}
+use Rattle.model.specs.Map.{Row, Map}
 use Rattle.register.specs.Layout.{Layout, siad}
 use Rattle.register.specs.Bytes.{from, split, rowAt, rowIn}
 use Rattle.register.specs.Search.{keyAt, keyOf}
@@ -40,21 +40,6 @@ module _ {A : Type 0} (f : ℕ → A) where
   pub from-none : (i hi : ℕ) → hi ≤ i → from f i (hi - i) ≡ []
   unfolding from
   from-none i hi h = let e : hi - i ≡ 0 = omega arith in ap (from f i) e
-
-  -- two parts of a walk
-  pub from-cut : (i e hi : ℕ) → i ≤ e → e ≤ hi → from f i (hi - i) ≡ from f i (e - i) ++ from f e (hi - e)
-  unfolding from
-  from-cut i e hi h g =
-      let q : hi - i ≡ (e - i) + (hi - e) = omega arith in
-      let r : i + (e - i) ≡ e = omega arith in
-      ap (from f i) q ∙ cut i (e - i) (hi - e) ∙ ap (λ (k : ℕ). from f i (e - i) ++ from f k (hi - e)) r
-    where
-      cut : (i j k : ℕ) → from f i (j + k) ≡ from f i j ++ from f (i + j) k
-      cut i zero k = let p : 0 + k ≡ k = omega arith in let q : i ≡ i + 0 = omega arith in ap (from f i) p ∙ ap (λ (z : ℕ). from f z k) q
-      cut i (suc j) k =
-          let p : suc j + k ≡ suc (j + k) = omega arith in
-          let q : suc i + j ≡ i + suc j = omega arith in
-          ap (from f i) p ∙ ap (λ (l : List A). f i ∷ l) (cut (suc i) j k ∙ ap (λ (z : ℕ). from f (suc i) j ++ from f z k) q)
 
   -- what holds of each row of a walk
   pub from-every : (P : A → Type 0) (i k : ℕ) → ((j : ℕ) → i ≤ j → j < i + k → P (f j)) → Every P (from f i k)

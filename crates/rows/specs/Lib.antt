@@ -1,5 +1,4 @@
 pub mod Back
-pub mod Chars
 pub mod Ordering
 pub mod Pack
 pub mod Row

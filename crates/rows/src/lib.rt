@@ -1,5 +1,4 @@
 // The register's rows: fields bit-packed, read back, compared (document 01, "The register").
-pub mod chars;
 pub mod pack;
 pub mod reader;
 pub mod writer;

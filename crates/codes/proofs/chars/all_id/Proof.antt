@@ -3,12 +3,12 @@ use mathlib.Core.Path.{_≡_}
 use mathlib.Core.Bool.{_&&_}
 use lib.ListN.{length, drop}
 use Rattle.laws.specs.Lists.{all}
-use Rattle.rows.specs.Chars.{idChar}
+use Rattle.codes.specs.Chars.{idChar}
 use Rattle.laws.proofs.Folding.{fold-step, fold-end}
 use borrow.Author.Needs.{needs}
 use native.Mathlib.Omega.{arith}
-use Rattle.rows.proofs.chars.all_id.Statement.{statement}
-use Rattle.rows.proofs.chars.all_id.Tie as tie
+use Rattle.codes.proofs.chars.all_id.Statement.{statement}
+use Rattle.codes.proofs.chars.all_id.Tie as tie
 
 abbrev Inv-loop : tie.InvT-loop
 Inv-loop s good₀ i₀ good i = (i ≤ length s) × (all idChar s ≡ (good && all idChar (drop i s)))

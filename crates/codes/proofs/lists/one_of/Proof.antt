@@ -1,0 +1,52 @@
+use Prim.Native.Nat.{_-_, _≤_}
+use mathlib.Core.Path.{_≡_, refl}
+use mathlib.Core.Bool.{_||_}
+use lib.Dec.{eqb}
+use lib.ListN.{length, drop}
+use Rattle.laws.proofs.Folding.{some-step, some-end}
+use Rattle.codes.specs.Codes.{isOneOf}
+use borrow.Author.Needs.{needs}
+use native.Mathlib.Omega.{arith}
+use Rattle.codes.proofs.lists.one_of.Statement.{statement}
+use Rattle.codes.proofs.lists.one_of.Tie as tie
+
+abbrev Inv-loop : tie.InvT-loop
+Inv-loop list n found₀ i₀ found i = (i ≤ length list) × (isOneOf list n ≡ (found || isOneOf (drop i list) n))
+
+abbrev μ-loop : tie.MeasureT-loop
+μ-loop list n found₀ i₀ found i = length list - i
+
+loop-holds : tie.Need-loop-holds Inv-loop μ-loop
+loop-holds c = search needs
+
+mul-found : tie.Need-mul-found Inv-loop μ-loop
+mul-found c = search needs
+
+shared-slice-read-found : tie.Need-shared-slice-read-found Inv-loop μ-loop
+shared-slice-read-found c = search needs
+
+add-i : tie.Need-add-i Inv-loop μ-loop
+add-i c = search needs
+
+loop-less : tie.Need-loop-less Inv-loop μ-loop
+loop-less c = search needs
+
+loop-again : tie.Need-loop-again Inv-loop μ-loop
+loop-again c = (omega arith, some-step (λ m. eqb m (c .before .before .before .args .n)) (c .before .before .before .args .list .now) (c .before .before .loop .i) _ (c .before .before .loop .found) _ (omega arith) refl (c .before .before .loop .inv .1))
+
+returns : tie.Need-returns Inv-loop μ-loop
+returns c = some-end (λ m. eqb m (c .before .before .args .n)) (c .before .before .args .list .now) (c .before .loop .i) _ (c .before .loop .found) (omega arith) (c .before .loop .inv .1)
+
+pub one-of-spec : {M : Type 1} → statement M
+one-of-spec =
+    tie.close
+    (tie.spec
+    Inv-loop
+    μ-loop
+    loop-holds
+    mul-found
+    shared-slice-read-found
+    add-i
+    loop-less
+    loop-again
+    returns)

@@ -1,0 +1,16 @@
+pub mod EventFacts
+pub mod Neighbours
+pub mod CaseRuns
+pub mod EventTests
+pub mod TextTests
+pub mod Runs
+pub mod RowFields
+pub mod CaseEvents
+pub mod GroupWalk
+pub mod Deciding
+pub mod KeyTexts
+pub mod FindPlace
+pub mod ProbeTexts
+pub mod FindAnswers
+pub mod RoundTrips
+pub mod SoundLaws

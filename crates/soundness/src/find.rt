@@ -1,0 +1,127 @@
+// Finding a case by the texts of its key (document 01, "What is built").
+ghost use mathlib.Core.Path.{_≡_};
+ghost use mathlib.Core.Bool.{true, cond, _&&_};
+ghost use Prim.Native.Nat.{_-_, _≤_, _<_};
+ghost use lib.Dec.{eqb, ltb};
+ghost use lib.ListN.{length};
+ghost use Rattle.laws.specs.Decimal.{decimal, isDigit};
+ghost use Rattle.laws.specs.Lists.{all};
+ghost use Rattle.days.specs.Table.{Firsts};
+ghost use Rattle.rows.specs.Row.{rowBytes, keyBits, keyNumber};
+ghost use Rattle.model.specs.Map.{has, keep};
+ghost use Rattle.register.specs.Bytes.{rowAt, casesHeld, stateOf};
+ghost use Rattle.register.specs.Calls.{textsAllowed, keyOfTexts, found};
+ghost use Rattle.register.specs.Layout.{siad};
+ghost use Rattle.register.specs.Search.{keyOf};
+ghost use Rattle.register.specs.Sound.{ascending};
+ghost use Rattle.soundness.specs.View.{viewFind};
+use register::counts::count;
+use register::search::place;
+use register::search::stands;
+use crate::sound::sound;
+use crate::walk::ROW;
+use days::dates::Date;
+
+pub enum Lookup {
+    At(usize),
+    Unsound,
+    Nowhere,
+}
+
+// The value of a digit, and 10 for any other byte.
+fn digit(b: u8) -> u64
+    ensures { λ r. ⌜ (r ≡ cond (isDigit b) (b - 48) 10) × (r ≤ 10) ⌝ }
+{
+    if b < b'0' {
+        return 10;
+    }
+    if b'9' < b {
+        return 10;
+    }
+    (b - b'0') as u64
+}
+
+// The number of a text of three digits; 0, which is no region, for any other text.
+fn region_of(s: &[u8]) -> u64
+    ensures { λ r. ⌜ r ≡ cond (eqb (length (now (s .entry))) 3 && all isDigit (now (s .entry))) (decimal (now (s .entry))) 0 ⌝ }
+{
+    if s.len() != 3 {
+        return 0;
+    }
+    let a = digit(s[0]);
+    let b = digit(s[1]);
+    let c = digit(s[2]);
+    if (9 < a) | ((9 < b) | (9 < c)) {
+        return 0;
+    }
+    (a * 10 + b) * 10 + c
+}
+
+// The case with the probe's key.
+fn find_key(reg: &[u8], probe: &[u8]) -> Lookup
+    requires { ⌜ (4 ≤ length (now reg)) × (rowAt siad (casesHeld (now reg)) ≤ length (now reg)) × (length (now probe) ≡ rowBytes) ⌝ }
+    ensures { λ r. ⌜ (ascending (stateOf siad (now (reg .entry)) .cases) ≡ true
+        → viewFind r ≡ cond (has (keyOf rowBytes keyBits (now (probe .entry))) (stateOf siad (now (reg .entry)) .cases))
+        (record { answer = 0; place = rowAt siad (length (keep (λ k. ltb k (keyOf rowBytes keyBits (now (probe .entry)))) (stateOf siad (now (reg .entry)) .cases))) })
+        (record { answer = 30; place = 0 })) ⌝ }
+{
+    let cases = count(reg, 0);
+    let i = place(reg, ROW, 0, cases, probe, 662, 0);
+    if !stands(reg, ROW, i, cases, probe, 662) {
+        return Lookup::Nowhere;
+    }
+    Lookup::At(4 + ROW * i)
+}
+
+// The probe row of the texts' key, where they are allowed.
+fn probe_of(
+    t: &[u32; 2400],
+    out: &mut [u8],
+    region: &[u8],
+    asl: &[u8],
+    date: &[u8],
+    id: &[u8],
+) -> bool
+    requires { ⌜ Firsts (now t) × (length (now out) ≡ rowBytes) ⌝ }
+    ensures { λ r. ⌜ (r ≡ textsAllowed (now (region .entry)) (now (asl .entry)) (now (date .entry)) (now (id .entry)))
+        × (r ≡ true → keyOf rowBytes keyBits (now (out .exit)) ≡ keyNumber (keyOfTexts (now (region .entry)) (now (asl .entry)) (now (date .entry)) (now (id .entry)))) ⌝ }
+{
+    if (asl.len() != 3) | ((date.len() != 10) | (id.len() != 88)) {
+        return false;
+    }
+    let number = region_of(region);
+    if !(codes::lists::is_region(number)
+        & (codes::chars::all_alnum(asl) & codes::chars::all_id(id))) {
+        return false;
+    }
+    let read = days::dates::read_date(t, date, 0);
+    match read {
+        Date::Day { day, next: _ } => {
+            rows::pack::pack_key(out, number, asl, day as u64, id);
+            true
+        }
+        Date::Refused => false,
+    }
+}
+
+// A case by its texts: unsound registers first, then texts that are not allowed or a key that does not stand.
+pub fn find(
+    t: &[u32; 2400],
+    reg: &[u8],
+    region: &[u8],
+    asl: &[u8],
+    date: &[u8],
+    id: &[u8],
+) -> Lookup
+    requires { ⌜ Firsts (now t) ⌝ }
+    ensures { λ r. ⌜ viewFind r ≡ found (now (reg .entry)) (now (region .entry)) (now (asl .entry)) (now (date .entry)) (now (id .entry)) ⌝ }
+{
+    if !sound(t, reg) {
+        return Lookup::Unsound;
+    }
+    let mut probe = [0u8; 91];
+    if !probe_of(t, &mut probe, region, asl, date, id) {
+        return Lookup::Nowhere;
+    }
+    find_key(reg, &probe)
+}
