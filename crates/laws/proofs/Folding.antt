@@ -1,7 +1,7 @@
 -- A test of a whole list by a loop with no early way out: all pass, or some do.
 use Prim.Native.Nat.{ℕ, _+_, _≤_, _<_}
 use mathlib.Core.Path.{_≡_, refl, ap, sym, _∙_}
-use mathlib.Core.Bool.{Bool, true, false, _&&_, _||_, and-assoc, and-true}
+use mathlib.Core.Bool.{Bool, _&&_, _||_, and-assoc, and-true, or-assoc, or-false}
 use mathlib.Core.List.{List}
 use lib.ListN.{length, drop, getD, drop-of-length-le}
 use Rattle.laws.specs.Lists.{all, any}
@@ -16,14 +16,6 @@ fold-step p l i target good r h e inv =
 
 pub fold-end : (p : ℕ → Bool) (l : List ℕ) (i : ℕ) (target good : Bool) → length l ≤ i → target ≡ (good && all p (drop i l)) → good ≡ target
 fold-end p l i target good h inv = sym (inv ∙ ap (λ (b : Bool). good && b) (all-end p l i h) ∙ and-true good)
-
-or-assoc : (a b c : Bool) → (a || b) || c ≡ a || (b || c)
-or-assoc true b c = refl
-or-assoc false b c = refl
-
-or-false : (a : Bool) → a || false ≡ a
-or-false true = refl
-or-false false = refl
 
 pub some-step : (p : ℕ → Bool) (l : List ℕ) (i : ℕ) (target found r : Bool) → i < length l → r ≡ p (getD l i 0)
     → target ≡ (found || any p (drop i l)) → target ≡ ((found || r) || any p (drop (i + 1) l))

@@ -1,5 +1,6 @@
 // The register (document 01, "The register").
 pub mod counts;
+pub mod layout;
 pub mod moving;
 pub mod search;
 pub mod store;

@@ -20,12 +20,20 @@ use crate::fields::end_of;
 use crate::fields::kind_of;
 use crate::fields::read_run;
 use crate::texts::prevalente_allowed;
+use register::layout::AFTER_CASE;
+use register::layout::AFTER_EVENT;
+use register::layout::ASL;
+use register::layout::BIRTH;
+use register::layout::DAYS;
+use register::layout::EVENT;
+use register::layout::ID;
+use register::layout::INFECTION;
+use register::layout::NEVER;
+use register::layout::PREVALENTE;
+use register::layout::REGION;
+use register::layout::TAKEN;
 
-// The days of 1900 to 2099; all ones stands for no end.
-const DAYS: u64 = 73049;
-
-const NEVER: u64 = 131071;
-
+// An event's fields; the code is one of its kind's list.
 pub fn event_allowed(e: u64) -> bool
     ensures { λ r. ⌜ r ≡ eventAllowed e ⌝ }
 {
@@ -45,7 +53,7 @@ pub fn event_of(row: &[u8]) -> u64
     requires { ⌜ length (now row) ≡ rowBytes ⌝ }
     ensures { λ r. ⌜ (r ≡ eventIn (split (eventRest siad) (num (now (row .entry))))) × (r < 2 ^ 52) ⌝ }
 {
-    rows::reader::get(row, 662, 52)
+    rows::reader::get(row, EVENT, 52)
 }
 
 // An event's row.
@@ -53,7 +61,7 @@ pub fn event_row_allowed(row: &[u8]) -> bool
     requires { ⌜ length (now row) ≡ rowBytes ⌝ }
     ensures { λ r. ⌜ r ≡ eventRowAllowed (split (eventRest siad) (num (now (row .entry)))) ⌝ }
 {
-    let pad = rows::reader::get(row, 714, 14);
+    let pad = rows::reader::get(row, AFTER_EVENT, 14);
     event_allowed(event_of(row)) & (pad == 0)
 }
 
@@ -64,10 +72,10 @@ pub fn key_allowed(row: &[u8]) -> bool
 {
     let mut asl = [0u8; 3];
     let mut id = [0u8; 88];
-    read_run(row, 8, &mut asl);
-    read_run(row, 46, &mut id);
-    let region = rows::reader::get(row, 0, 8);
-    let taken = rows::reader::get(row, 29, 17);
+    read_run(row, ASL, &mut asl);
+    read_run(row, ID, &mut id);
+    let region = rows::reader::get(row, REGION, 8);
+    let taken = rows::reader::get(row, TAKEN, 17);
     codes::lists::is_region(region)
         & (codes::chars::all_alnum(&asl) & ((taken < DAYS) & codes::chars::all_id(&id)))
 }
@@ -78,10 +86,10 @@ fn rest_allowed(row: &[u8], year: u64) -> bool
     ensures { λ r. ⌜ ((k : Key) → year ≡ yearOf (k .taken) → r ≡ caseAllowed k (caseIn (num (now (row .entry)) % 2 ^ caseRest siad)) && eqb (casePad (num (now (row .entry)) % 2 ^ caseRest siad)) 0) ⌝ }
 {
     let mut prevalente = [0u8; 5];
-    read_run(row, 674, &mut prevalente);
-    let birth = rows::reader::get(row, 662, 12);
-    let infection = rows::reader::get(row, 719, 2);
-    let pad = rows::reader::get(row, 721, 7);
+    read_run(row, PREVALENTE, &mut prevalente);
+    let birth = rows::reader::get(row, BIRTH, 12);
+    let infection = rows::reader::get(row, INFECTION, 2);
+    let pad = rows::reader::get(row, AFTER_CASE, 7);
     (((1880 <= birth) & (birth <= year)) & (prevalente_allowed(&prevalente) & (infection <= 2)))
         & (pad == 0)
 }
@@ -94,7 +102,7 @@ pub fn case_row_allowed(t: &[u32; 2400], row: &[u8]) -> bool
     if !key_allowed(row) {
         return false;
     }
-    let taken = rows::reader::get(row, 29, 17);
+    let taken = rows::reader::get(row, TAKEN, 17);
     let year = days::calendar::year_of(t, taken as u32);
     rest_allowed(row, year as u64)
 }

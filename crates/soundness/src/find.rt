@@ -15,12 +15,13 @@ ghost use Rattle.register.specs.Layout.{siad};
 ghost use Rattle.register.specs.Search.{keyOf};
 ghost use Rattle.register.specs.Sound.{ascending};
 ghost use Rattle.soundness.specs.View.{viewFind};
+use crate::sound::sound;
+use days::dates::Date;
 use register::counts::count;
+use register::layout::CASE_KEY;
+use register::layout::ROW;
 use register::search::place;
 use register::search::stands;
-use crate::sound::sound;
-use crate::walk::ROW;
-use days::dates::Date;
 
 pub enum Lookup {
     At(usize),
@@ -66,8 +67,8 @@ fn find_key(reg: &[u8], probe: &[u8]) -> Lookup
         (record { answer = 30; place = 0 })) ⌝ }
 {
     let cases = count(reg, 0);
-    let i = place(reg, ROW, 0, cases, probe, 662, 0);
-    if !stands(reg, ROW, i, cases, probe, 662) {
+    let i = place(reg, ROW, 0, cases, probe, CASE_KEY, 0);
+    if !stands(reg, ROW, i, cases, probe, CASE_KEY) {
         return Lookup::Nowhere;
     }
     Lookup::At(4 + ROW * i)
@@ -119,7 +120,7 @@ pub fn find(
     if !sound(t, reg) {
         return Lookup::Unsound;
     }
-    let mut probe = [0u8; 91];
+    let mut probe = [0u8; ROW];
     if !probe_of(t, &mut probe, region, asl, date, id) {
         return Lookup::Nowhere;
     }

@@ -10,10 +10,12 @@ ghost use Rattle.register.specs.Bytes.{rowAt, casesFrom, eventsFrom};
 ghost use Rattle.register.specs.Allowed.{eventRowAllowed};
 ghost use Rattle.register.specs.Search.{keyAt};
 ghost use Rattle.register.specs.Sound.{ascending, eventsOf, siadRules};
-use register::search::stands;
 use crate::together::events_free;
-use crate::walk::ROW;
 use crate::walk::row_at;
+use register::layout::CASE_KEY;
+use register::layout::ROW;
+use register::layout::TAKEN;
+use register::search::stands;
 
 // The first row from j up to hi whose key is not that of row i, or hi.
 fn run_end(reg: &[u8], w: usize, kbits: usize, i: usize, j: usize, hi: usize) -> usize
@@ -43,8 +45,8 @@ pub fn grouped(reg: &[u8], cases: usize, rows: usize) -> bool
     let mut i = 0;
     let mut j = cases;
     while i < cases {
-        let end = run_end(reg, ROW, 662, i, j, rows);
-        let taken = rows::reader::get(row_at(reg, i), 29, 17);
+        let end = run_end(reg, ROW, CASE_KEY, i, j, rows);
+        let taken = rows::reader::get(row_at(reg, i), TAKEN, 17);
         if !events_free(reg, taken, j, end) {
             return false;
         }

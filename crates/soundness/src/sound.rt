@@ -5,13 +5,15 @@ ghost use Rattle.days.specs.Table.{Firsts};
 ghost use Rattle.register.specs.Bytes.{room};
 ghost use Rattle.register.specs.Layout.{siad};
 ghost use Rattle.register.specs.Sound.{isSound};
-use register::counts::count;
 use crate::grouped::grouped;
 use crate::texts::all_zero;
-use crate::walk::ROW;
 use crate::walk::cases_allowed;
 use crate::walk::climbs;
 use crate::walk::events_allowed;
+use register::counts::count;
+use register::layout::CASE_KEY;
+use register::layout::EVENT_KEY;
+use register::layout::ROW;
 
 // The rows that a register of that many bytes has room for.
 pub fn room_of(len: usize) -> usize
@@ -46,10 +48,10 @@ pub fn sound(t: &[u32; 2400], reg: &[u8]) -> bool
     if !events_allowed(reg, cases, rows) {
         return false;
     }
-    if !climbs(reg, ROW, 662, 0, cases) {
+    if !climbs(reg, ROW, CASE_KEY, 0, cases) {
         return false;
     }
-    if !climbs(reg, ROW, 681, cases, rows) {
+    if !climbs(reg, ROW, EVENT_KEY, cases, rows) {
         return false;
     }
     if !grouped(reg, cases, rows) {

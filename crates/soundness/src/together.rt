@@ -18,8 +18,7 @@ use crate::fields::date_of;
 use crate::fields::end_of;
 use crate::fields::kind_of;
 use crate::walk::row_at;
-
-const NEVER: u64 = 131071;
+use register::layout::NEVER;
 
 // Whether two suspensions share a day.
 pub fn share_day(a: u64, b: u64) -> bool

@@ -12,10 +12,8 @@ ghost use Rattle.register.specs.Allowed.{caseRowAllowed, eventRowAllowed};
 ghost use Rattle.register.specs.Sound.{ascending};
 use crate::allowed::case_row_allowed;
 use crate::allowed::event_row_allowed;
+use register::layout::ROW;
 use register::search::below;
-
-// The bytes of a row.
-pub const ROW: usize = 91;
 
 // Whether the keys of the rows from lo up to hi ascend: each is below the next.
 pub fn climbs(reg: &[u8], w: usize, kbits: usize, lo: usize, hi: usize) -> bool
@@ -34,6 +32,7 @@ pub fn climbs(reg: &[u8], w: usize, kbits: usize, lo: usize, hi: usize) -> bool
     true
 }
 
+// The bytes of row i.
 pub fn row_at(reg: &[u8], i: usize) -> &[u8]
     requires { ⌜ rowAt siad (i + 1) ≤ length (now reg) ⌝ }
     ensures { λ r. ⌜ (num (now r) ≡ rowIn siad (now (reg .entry)) i) × (length (now r) ≡ rowBytes) ⌝ }

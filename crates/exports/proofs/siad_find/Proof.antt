@@ -1,0 +1,53 @@
+use mathlib.Core.Path.{_≡_, sym, ap, _∙_}
+use Rattle.register.specs.Calls.{Found}
+use native.Mathlib.Omega.{arith}
+use borrow.Author.Needs.{needs}
+use Rattle.exports.proofs.siad_find.Statement.{statement}
+use Rattle.exports.proofs.siad_find.Tie as tie
+use Rattle.exports.proofs.siad_find.Reads as reads
+use Rattle.exports.proofs.siad_find.Lts as lts
+use Rattle.days.proofs.table.make.Reads as make-reads
+use Rattle.soundness.proofs.find.find.Reads as find-reads
+
+make-requires : tie.Need-make-requires
+make-requires c κs = search needs
+
+find-requires : tie.Need-find-requires
+find-requires c κs = search needs
+
+enum-known-at : tie.Need-enum-known-at
+enum-known-at c = search needs
+
+enum-told : tie.Need-enum-told
+enum-told c = search needs
+
+enum-told-2 : tie.Need-enum-told-2
+enum-told-2 c = search needs
+
+returns : tie.Need-returns
+returns c =
+    let e = rw (c .before .at .given .1) at (c .before .before .before .find .ensures) in
+    (ap (λ (f : Found). f .answer) e, ap (λ (f : Found). f .place) e)
+
+returns-2 : tie.Need-returns-2
+returns-2 c =
+    let e = rw (c .enum-told .given .1) at (c .before .before .find .ensures) in
+    (ap (λ (f : Found). f .answer) e, ap (λ (f : Found). f .place) e)
+
+returns-3 : tie.Need-returns-3
+returns-3 c =
+    let e = rw (c .enum-told2 .given .1) at (c .before .before .find .ensures) in
+    (ap (λ (f : Found). f .answer) e, ap (λ (f : Found). f .place) e)
+
+pub siad-find-spec : {M : Type 1} → statement M
+siad-find-spec =
+    tie.close
+    (tie.spec
+    make-requires
+    find-requires
+    enum-known-at
+    enum-told
+    enum-told-2
+    returns
+    returns-2
+    returns-3)

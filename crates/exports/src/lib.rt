@@ -1,0 +1,54 @@
+// The calls for a host in C, one body each, over numbers and byte slices: no caller is trusted, and every lent byte is stated (host/siad.h declares them).
+ghost use mathlib.Core.Path.{_≡_};
+ghost use Rattle.register.specs.Calls.{emptied, soundness, found};
+use soundness::find::Lookup;
+
+// Empties a register: 0, or 3 under 4 bytes.
+#[no_mangle]
+pub extern "C" fn siad_empty(reg: &mut [u8]) -> u64
+    ensures { λ r. ⌜ (r ≡ emptied (now (reg .entry)) .answer) × (now (reg .exit) ≡ emptied (now (reg .entry)) .register) ⌝ }
+{
+    register::store::empty(reg)
+}
+
+// 0 for a sound register, else 3.
+#[no_mangle]
+pub extern "C" fn siad_sound(reg: &[u8]) -> u64
+    ensures { λ r. ⌜ r ≡ soundness (now (reg .entry)) ⌝ }
+{
+    let t = days::table::make();
+    if soundness::sound::sound(&t, reg) {
+        return 0;
+    }
+    3
+}
+
+// The place of a case's row: 0, or 3 for an unsound register, or 30 where a text isn't allowed or the case doesn't stand.
+#[no_mangle]
+pub extern "C" fn siad_find(
+    reg: &[u8],
+    region: &[u8],
+    asl: &[u8],
+    date: &[u8],
+    id: &[u8],
+    place: &mut u64,
+) -> u64
+    ensures { λ r. ⌜ (r ≡ found (now (reg .entry)) (now (region .entry)) (now (asl .entry)) (now (date .entry)) (now (id .entry)) .answer)
+        × (now (place .exit) ≡ found (now (reg .entry)) (now (region .entry)) (now (asl .entry)) (now (date .entry)) (now (id .entry)) .place) ⌝ }
+{
+    let t = days::table::make();
+    match soundness::find::find(&t, reg, region, asl, date, id) {
+        Lookup::At(at) => {
+            *place = at as u64;
+            0
+        }
+        Lookup::Unsound => {
+            *place = 0;
+            3
+        }
+        Lookup::Nowhere => {
+            *place = 0;
+            30
+        }
+    }
+}
