@@ -13,7 +13,8 @@ use Rattle.rows.specs.Pack.{packs}
 use Rattle.rows.specs.Row.{eventOf, eventNumber}
 use Rattle.register.specs.Events.{pair, t26}
 use Rattle.tracks.specs.Record.{padded}
-use Rattle.checks.specs.Tests.{zeroKept, zeroWritten}
+use Rattle.tracks.specs.Flags.{zeroWritten}
+use Rattle.checks.specs.Tests.{zeroKept}
 
 -- two suspensions, by their first and last days; a prevalente
 pub data Case : Type 0 where

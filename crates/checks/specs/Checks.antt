@@ -15,9 +15,10 @@ use Rattle.register.specs.Layout.{siad, caseOf}
 use Rattle.register.specs.Fields.{eventIn}
 use Rattle.register.specs.Events.{t23, t25, t26, t27, t28}
 use Rattle.register.specs.Sound.{eventsOf}
+use Rattle.tracks.specs.Flags.{zeroWritten, badConferma}
 use Rattle.tracks.specs.Record.{Head, Admission, Said, Record, admission, events}
 use Rattle.checks.specs.Flow.{kindOf, flow, next}
-use Rattle.checks.specs.Tests.{Context, outOfQuarter, dayFor, t11, t12, zeroKept, zeroWritten, badConferma, eventsIn}
+use Rattle.checks.specs.Tests.{Context, outOfQuarter, dayFor, t11, t12, zeroKept, eventsIn}
 
 -- 16: "type C, and an event of the case stands"
 abbrev pub t16 : Head → State ℕ ℕ → Bool

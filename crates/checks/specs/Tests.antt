@@ -9,7 +9,7 @@ use Rattle.laws.specs.Lists.{any, same}
 use Rattle.laws.specs.Text.{bytes}
 use Rattle.days.specs.Calendar.{yearOf}
 use Rattle.rows.specs.Row.{Key, Case, never}
-use Rattle.register.specs.Fields.{kindOf, dateOf, endOf, confermaOf}
+use Rattle.register.specs.Fields.{kindOf, dateOf, endOf}
 use Rattle.tracks.specs.Record.{padded, Residence, Said}
 
 -- the declared quarter's first and last day, and the register's room
@@ -44,18 +44,11 @@ abbrev pub t12 : Residence → Bool
 t12 r =
     (isPresent (r .stato) && not (allAbroad r)) || ((not (isPresent (r .stato)) && allAbroad r) || isItaly (r .stato))
 
--- 13: "a prevalente is `000`", as it is kept and as it is written
+-- 13: "a prevalente is `000`", as it is kept (padded); as it is written: `zeroWritten` of tracks, where 21 is, too
 abbrev pub zeroKept : List ℕ → Bool
 zeroKept p = same p (padded (bytes "000"))
 
-abbrev pub zeroWritten : Said → Bool
-zeroWritten e = same (e .prevalente) (bytes "000")
-
--- 21: "confermaPrecedente 1 with a Valutazione, or 2 without"
-abbrev pub badConferma : Said → Bool
-badConferma e =
-    eqb (kindOf (e .event)) 0 && ((eqb (confermaOf (e .event)) 1 && e .valued) || (eqb (confermaOf (e .event)) 2 && not (e .valued)))
-
+-- the events' 52 bits
 unfoldable pub eventsIn : List Said → List ℕ
 eventsIn [] = []
 eventsIn (e ∷ es) = e .event ∷ eventsIn es

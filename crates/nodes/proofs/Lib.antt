@@ -4,3 +4,8 @@ pub mod Present
 pub mod Fields
 pub mod Legible
 pub mod Records
+pub mod Placed
+pub mod Entering
+pub mod Walking
+pub mod Naming
+pub mod Valuing

@@ -2,9 +2,16 @@ pub mod Sets
 pub mod Texts
 pub mod Paths
 pub mod Admissions
-pub mod Events
+pub mod EventsRead
 pub mod WellRead
 pub mod Fits
 pub mod Bits
 pub mod Padded
 pub mod Examples
+pub mod Totals
+pub mod Happening
+pub mod Gathering
+pub mod Filling
+pub mod Shaped
+pub mod ShapedEvents
+pub mod ShapedAdmissions

@@ -16,7 +16,7 @@ use Rattle.tracks.specs.Record.{recordOf}
 use Rattle.tracks.specs.WellRead.{WellRead}
 use Rattle.tracks.proofs.Paths.{Clean}
 use Rattle.tracks.proofs.Admissions.{head-1, admission-read}
-use Rattle.tracks.proofs.Events.{head-2, events-read}
+use Rattle.tracks.proofs.EventsRead.{head-2, events-read}
 
 -- one record that is without a fault
 pub record-1 : (a : Tree) → Clean Track1.assistenza a → WellRead (recordOf 1 a)

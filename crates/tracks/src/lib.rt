@@ -1,1 +1,5 @@
-fn nothing() {}
+// The two tracks: a record's fields, read from its element (document 01, "The shape of a record").
+pub mod counts;
+pub mod events;
+pub mod fields;
+pub mod record;

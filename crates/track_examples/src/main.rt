@@ -1,0 +1,149 @@
+// The XML examples of document 000 (4.5.1 and 4.6.1), one after the other on the input, with the line breaks that the page put into long values removed and
+// `PresaInCarico` for `PresainCarico`: prints the fields that a person reads there.
+use markup::Cursor;
+use markup::Move;
+use markup::bytes::part;
+use nodes::Node;
+use nodes::Span;
+use nodes::children::child;
+use tracks::events::EventsRead;
+use tracks::events::events;
+use tracks::record::AdmissionRead;
+use tracks::record::HeadRead;
+use tracks::record::admission;
+use tracks::record::head;
+ghost use Rattle.days.specs.Table.{Firsts};
+
+fn line() {
+    io::write_all(1, b"\n");
+}
+
+fn show_number(n: u64) {
+    io::print_decimal(1, n);
+    line();
+}
+
+fn show_text(s: &[u8], a: usize, e: usize) {
+    io::write_all(1, part(s, a, e));
+    line();
+}
+
+fn show_span(s: &[u8], x: Span) {
+    show_text(s, x.start, x.end);
+}
+
+fn show_flag(b: bool) {
+    if b {
+        show_number(1);
+    } else {
+        show_number(0);
+    }
+}
+
+// A number, and a blank or a line end.
+fn show_part(n: u64, last: bool) {
+    io::print_decimal(1, n);
+    if last {
+        line();
+    } else {
+        io::write_all(1, b" ");
+    }
+}
+
+fn after(at: usize, n: usize) -> usize {
+    if at < 1000000 {
+        if n < 1000000 {
+            return at + n;
+        }
+    }
+    at
+}
+
+fn show_head(s: &[u8], h: HeadRead) {
+    let tipo = [h.tipo];
+    io::write_all(1, &tipo);
+    line();
+    show_number(h.region);
+    show_text(s, h.asl, after(h.asl, 3));
+    show_number(h.day);
+    show_text(s, h.id, after(h.id, 88));
+}
+
+fn wide(b: u8) -> u64 {
+    b as u64
+}
+
+fn show_scales(x: [u8; 6]) {
+    for i in 0..6 {
+        show_part(wide(x[i]), false);
+    }
+    line();
+}
+
+fn show_admission(s: &[u8], a: AdmissionRead) {
+    show_number(a.birth);
+    let p = a.prevalente;
+    io::write_all(1, &p);
+    line();
+    let x = a.scales;
+    show_scales(x);
+    show_span(s, a.region);
+    show_span(s, a.asl);
+    show_span(s, a.comune);
+    show_span(s, a.stato);
+}
+
+fn show_event(w: u64) {
+    show_part(w / 1125899906842624, false);
+    show_part(w / 8589934592 % 131072, false);
+    show_part(w / 65536 % 131072, false);
+    show_part(w / 512 % 128, false);
+    show_part(w / 4 % 128, false);
+    show_part(w % 4, true);
+}
+
+fn show_events(e: EventsRead, out: [u64; 128]) {
+    show_number(e.count as u64);
+    show_flag(e.bad_conferma);
+    show_flag(e.zero_prevalente);
+    let n = e.count;
+    for i in 0..128 {
+        if i < n {
+            show_event(out[i]);
+        }
+    }
+}
+
+fn run(t: &[u32; 2400], s: &[u8])
+    requires { ⌜ Firsts (now t) ⌝ }
+{
+    let top = Cursor { at: 0 };
+    let Move::To(end) = top.element(s, 12) else {
+        return;
+    };
+    let Move::To(next) = end.misc(s) else {
+        return;
+    };
+    let one = child(s, Node { at: 0, levels: 12 }, b"Assistenza");
+    show_head(s, head(t, s, one.at));
+    show_admission(s, admission(s, one.at));
+    let two = child(
+        s,
+        Node {
+            at: next.at,
+            levels: 12,
+        },
+        b"Assistenza",
+    );
+    show_head(s, head(t, s, two.at));
+    let mut out = [0u64; 128];
+    let e = events(t, s, two.at, &mut out);
+    show_events(e, out);
+}
+
+fn main() {
+    let t = days::table::make();
+    let mut buf = io::large_buffer();
+    let n = io::read_full(0, &mut buf);
+    run(&t, &buf[..n]);
+}

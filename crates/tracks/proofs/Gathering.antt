@@ -1,0 +1,150 @@
+-- The events of Eventi's children one after the other: a tally and a buffer that each child moves on.
+use Prim.Native.Nat.{ℕ, suc, _+_}
+use mathlib.Core.Path.{_≡_, refl, sym, ap, _∙_}
+use mathlib.Core.Bool.{Bool, true, false, cond, _||_}
+use mathlib.Core.List.{List, [], _∷_, map}
+use native.Mathlib.Numerals.{add-one}
+use native.Mathlib.Omega.{arith}
+use lib.ListN.{length, set, length-set}
+use Rattle.laws.specs.Lists.{any, same}
+use Rattle.laws.specs.Text.{bytes}
+use Rattle.markup.specs.Elements.{Inside, Tree}
+use Rattle.markup.specs.Elements.Inside.{end}
+use Rattle.reading.specs.Within.{kids}
+use Rattle.tracks.specs.Record.{Said, isEvent, saidIn}
+use Rattle.tracks.specs.Flags.{zeroWritten, badConferma}
+use Rattle.tracks.specs.Defaults.{saidElse, saidElseIn, told, happenedAt, counted, kept}
+use Rattle.tracks.specs.View.{laid, IsEvents}
+use Rattle.tracks.specs.declared.events.EventsRead.{EventsRead}
+use Rattle.tracks.specs.declared.events.Happened.{Happened}
+use Rattle.tracks.specs.declared.events.Happened.the-variants as happened
+
+pub record Gathered : Type 0 where
+  pub tally : EventsRead
+  pub buffer : List ℕ
+
+abbrev pub gathered : EventsRead → List ℕ → Gathered
+gathered r b = record { tally = r; buffer = b }
+
+abbrev tallied : ℕ → Bool → Bool → EventsRead
+tallied n p q = record { count = n; «bad_conferma» = p; «zero_prevalente» = q }
+
+unfoldable pub gather : EventsRead → List ℕ → List Tree → Gathered
+gather r b [] = gathered r b
+gather r b (t ∷ ts) = gather (counted (happenedAt t) r) (kept (happenedAt t) (r .count) b) ts
+
+pub gather-end : (r : EventsRead) (b : List ℕ) → gather r b [] ≡ gathered r b
+unfolding gather
+gather-end r b = refl
+
+pub gather-on : (r : EventsRead) (b : List ℕ) (t : Tree) {h : Happened} {m : EventsRead} {a : List ℕ} (ts : List Tree) → h ≡ happenedAt t → m ≡ counted h r → a ≡ kept h (r .count) b
+    → gather r b (t ∷ ts) ≡ gather m a ts
+unfolding gather
+gather-on r b t ts e m a = rw (← e, ← m, ← a)
+
+pub kept-length : (h : Happened) (n : ℕ) (b : List ℕ) → length (kept h n b) ≡ length b
+kept-length (happened.Event w p q) n b = length-set b n w
+kept-length happened.Other n b = refl
+
+-- numbers stored from place n on
+unfoldable stored : ℕ → List ℕ → List ℕ → List ℕ
+stored n b [] = b
+stored n b (e ∷ es) = stored (n + 1) (set b n e) es
+
+or-assoc : (a b c : Bool) → ((a || b) || c) ≡ (a || (b || c))
+or-assoc true b c = refl
+or-assoc false b c = refl
+
+pub or-false : (a : Bool) → (a || false) ≡ a
+or-false true = refl
+or-false false = refl
+
+same-tally : {n m : ℕ} {p q u v : Bool} (b : List ℕ) → n ≡ m → p ≡ q → u ≡ v → gathered (tallied n p u) b ≡ gathered (tallied m q v) b
+same-tally b e f g = rw (e, f, g)
+
+abbrev numbers : List Said → List ℕ
+numbers es = map (λ e. e .event) es
+
+abbrev sum : EventsRead → List ℕ → List Said → Gathered
+sum r b es =
+    gathered (tallied (r .count + length es) (r .«bad_conferma» || any badConferma es) (r .«zero_prevalente» || any zeroWritten es)) (stored (r .count) b (numbers es))
+
+gather-is : (r : EventsRead) (b : List ℕ) (ts : List Tree) → gather r b ts ≡ sum r b (saidElseIn ts)
+unfolding gather saidElseIn stored any happenedAt
+gather-is r b [] = let z : r .count ≡ r .count + 0 = omega arith in same-tally b z (sym (or-false (r .«bad_conferma»))) (sym (or-false (r .«zero_prevalente»)))
+gather-is r b (t ∷ ts) = go (isEvent t) (λ q c. gather-is q c ts)
+  where
+    e : Said
+    e = saidElse t
+
+    es : List Said
+    es = saidElseIn ts
+
+    go : (p : Bool) → ((q : EventsRead) (c : List ℕ) → gather q c ts ≡ sum q c es)
+        → gather (counted (cond p (told e) happened.Other) r) (kept (cond p (told e) happened.Other) (r .count) b) ts ≡ sum r b (cond p (e ∷ es) es)
+    go true h =
+        let k : r .count + 1 + length es ≡ r .count + suc (length es) = omega arith in
+        h (counted (told e) r) (set b (r .count) (e .event))
+        ∙ same-tally (stored (r .count + 1) (set b (r .count) (e .event)) (numbers es)) k (or-assoc (r .«bad_conferma») (badConferma e) (any badConferma es)) (or-assoc (r .«zero_prevalente») (zeroWritten e) (any zeroWritten es))
+    go false h = h r b
+
+stored-suc : (n x : ℕ) (b es : List ℕ) → stored (suc n) (x ∷ b) es ≡ x ∷ stored n b es
+unfolding stored
+stored-suc n x b [] = refl
+stored-suc n x b (e ∷ es) = rw (add-one n, add-one (suc n)) (stored-suc (suc n) x (set b n e) es)
+
+stored-none : (n : ℕ) (es : List ℕ) → stored n [] es ≡ []
+unfolding stored
+stored-none n [] = refl
+stored-none n (e ∷ es) = stored-none (n + 1) es
+
+stored-is : (b es : List ℕ) → stored 0 b es ≡ laid es b
+unfolding stored
+stored-is [] [] = refl
+stored-is [] (e ∷ es) = stored-none 1 es
+stored-is (x ∷ b) [] = refl
+stored-is (x ∷ b) (e ∷ es) = stored-suc 0 e b es ∙ ap (λ (l : List ℕ). e ∷ l) (stored-is b es)
+
+pub gather-all : {r : EventsRead} {a : List ℕ} (b : List ℕ) (ts : List Tree) → gather (tallied 0 false false) b ts ≡ gathered r a → IsEvents r b a (saidElseIn ts)
+gather-all {r} {a} b ts e =
+    let k : gathered r a ≡ sum (tallied 0 false false) b (saidElseIn ts) = sym e ∙ gather-is (tallied 0 false false) b ts in
+    let z : 0 + length (saidElseIn ts) ≡ length (saidElseIn ts) = omega arith in
+    record {
+      count = ap (λ (g : Gathered). g .tally .count) k ∙ z;
+      numbers = ap (λ (g : Gathered). g .buffer) k ∙ stored-is b (numbers (saidElseIn ts));
+      bad = ap (λ (g : Gathered). g .tally .«bad_conferma») k;
+      zero = ap (λ (g : Gathered). g .tally .«zero_prevalente») k;
+    }
+
+-- none of them
+nil-laid : (b : List ℕ) → b ≡ laid [] b
+nil-laid [] = refl
+nil-laid (x ∷ xs) = refl
+
+pub none-told : {i : Inside} (b : List ℕ) → i ≡ end → IsEvents (tallied 0 false false) b b (saidElseIn (kids i))
+unfolding saidElseIn any
+none-told b e = rw e (record { count = refl; numbers = nil-laid b; bad = refl; zero = refl })
+
+-- ---- counting
+
+module _ (t : Tree) (ts : List Tree) (n : ℕ) where
+  pub count-one : true ≡ isEvent t → n + length (saidIn (t ∷ ts)) ≡ n + 1 + length (saidIn ts)
+  unfolding saidIn
+  count-one e = rw (← e) (omega arith)
+
+  pub count-none : false ≡ isEvent t → n + length (saidIn (t ∷ ts)) ≡ n + length (saidIn ts)
+  unfolding saidIn
+  count-none e = rw (← e)
+
+pub count-end : (n : ℕ) → n + length (saidIn []) ≡ n
+unfolding saidIn
+count-end n = omega arith
+
+pub count-in : {i : Inside} → i ≡ end → 0 ≡ length (saidIn (kids i))
+unfolding saidIn
+count-in e = rw e
+
+pub is-one : (t : Tree) {a b c d : Bool} → a ≡ same (bytes "Rivalutazione") (t .named) → b ≡ same (bytes "Erogazione") (t .named) → c ≡ same (bytes "Sospensione") (t .named)
+    → d ≡ same (bytes "Conclusione") (t .named) → (a || (b || (c || d))) ≡ isEvent t
+unfolding any
+is-one t e f g h = rw (e, f, g, h, or-false (same (bytes "Conclusione") (t .named)))

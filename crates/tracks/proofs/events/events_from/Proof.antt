@@ -1,0 +1,111 @@
+-- The invariant: the tally and the buffer, moved on by the children ahead, are those of all the children.
+use Prim.Native.Nat.{_-_, _≤_}
+use Rattle.markup.specs.Elements.{Inside}
+use Rattle.markup.specs.Names.{name}
+use Rattle.markup.specs.View.{part}
+use Rattle.nodes.proofs.Walking.{Look, look-gone, look-past, look-start, look-stuck}
+use Rattle.nodes.specs.Stands.{Holds}
+use Rattle.reading.specs.Within.{kids}
+use Rattle.tracks.proofs.Gathering.{gather, gather-all, gather-end, gather-on, kept-length}
+use borrow.Author.Needs.{needs}
+use denote.Ref.{now}
+use lib.ListN.{drop, length}
+use mathlib.Core.Path.{_∙_, _≡_, ap, refl}
+use native.Mathlib.Omega.{arith}
+use Rattle.tracks.proofs.events.events_from.Statement.{statement}
+use Rattle.tracks.proofs.events.events_from.Tie as tie
+
+abbrev Inv-loop : tie.InvT-loop
+Inv-loop t s levels from name name-end out₀ at₀ tally₀ out at tally =
+    (tally .count ≤ at) × (from ≤ at) × (length out ≡ length out₀) × ((i : Inside) → Holds levels (part s name name-end) (drop from s) i → Look (gather tally out) (gather tally₀ out₀ (kids i)) levels (part s name name-end) (drop at s))
+
+abbrev μ-loop : tie.MeasureT-loop
+μ-loop t s levels from name name-end out₀ at₀ tally₀ out at tally =
+    length s - at
+
+loop-holds : tie.Need-loop-holds Inv-loop μ-loop
+loop-holds c =
+    (omega arith, omega arith, refl, λ i w. look-start (gather _ (now (c .before .before .args .out))) w)
+
+next-kid-requires : tie.Need-next-kid-requires Inv-loop μ-loop
+next-kid-requires c κs = search needs
+
+enum-known-q : tie.Need-enum-known-q Inv-loop μ-loop
+enum-known-q c = search needs
+
+enum-told : tie.Need-enum-told Inv-loop μ-loop
+enum-told c = search needs
+
+same-length : tie.Need-same-length Inv-loop μ-loop
+same-length c = search needs
+
+returns : tie.Need-returns Inv-loop μ-loop
+returns c =
+    let k = rw (c .enum-told .given .1) at (c .before .before .next-kid .ensures) in
+    λ i w. let v = c .before .before .before .loop .inv .3 i w in gather-all (now (c .before .before .before .before .before .before .args .out)) (kids i) (look-gone v (k .0 _ _ (v .holds)) ∙ gather-end _ _)
+
+element-requires : tie.Need-element-requires Inv-loop μ-loop
+element-requires c κs = search needs
+
+enum-known-done : tie.Need-enum-known-done Inv-loop μ-loop
+enum-known-done c = search needs
+
+enum-told-2 : tie.Need-enum-told-2 Inv-loop μ-loop
+enum-told-2 c = search needs
+
+same-length-2 : tie.Need-same-length-2 Inv-loop μ-loop
+same-length-2 c = search needs
+
+returns-2 : tie.Need-returns-2 Inv-loop μ-loop
+returns-2 c =
+    let k = rw (c .before .before .before .before .q .given .1) at (c .before .before .before .before .before .before .next-kid .ensures) in
+    let y = rw (c .enum-told2 .given .1) at (c .before .before .element .ensures) in
+    λ i w. let v = c .before .before .before .before .before .before .before .loop .inv .3 i w in look-stuck v (k .0 _ _ (v .holds)) (y .0)
+
+event-at-requires : tie.Need-event-at-requires Inv-loop μ-loop
+event-at-requires c κs = search needs
+
+keep-requires : tie.Need-keep-requires Inv-loop μ-loop
+keep-requires c κs =
+    let k = rw (c .before .before .before .before .before .before .before .q .given .1) at (c .before .before .before .before .before .before .before .before .before .next-kid .ensures) in
+    let y = rw (c .before .before .before .done .given .1) at (c .before .before .before .before .before .element .ensures) in
+    omega arith
+
+loop-less : tie.Need-loop-less Inv-loop μ-loop
+loop-less c =
+    let k = rw (c .before .before .before .before .before .before .before .before .before .before .q .given .1) at (c .before .before .before .before .before .before .before .before .before .before .before .before .next-kid .ensures) in
+    let y = rw (c .before .before .before .before .before .before .done .given .1) at (c .before .before .before .before .before .before .before .before .element .ensures) in
+    omega arith
+
+loop-again : tie.Need-loop-again Inv-loop μ-loop
+loop-again c =
+    let k = rw (c .before .before .before .before .before .before .before .before .before .before .q .given .1) at (c .before .before .before .before .before .before .before .before .before .before .before .before .next-kid .ensures) in
+    let y = rw (c .before .before .before .before .before .before .done .given .1) at (c .before .before .before .before .before .before .before .before .element .ensures) in (
+      omega arith,
+      omega arith,
+      ap length (c .before .before .keep .ensures .1) ∙ kept-length (c .before .before .before .before .event-at .result) (c .before .before .before .before .before .before .before .before .before .before .before .before .before .loop .tally .count) (c .before .before .before .before .before .before .before .before .before .before .before .before .before .loop .out) ∙ c .before .before .before .before .before .before .before .before .before .before .before .before .before .loop .inv .2,
+      λ i w. let v = c .before .before .before .before .before .before .before .before .before .before .before .before .before .loop .inv .3 i w in let a = k .0 _ _ (v .holds) in
+          look-past v a (λ ts. gather-on _ _ (a .tree) ts (c .before .before .before .before .event-at .ensures (a .tree) (a .after) (a .reads)) (c .before .before .keep .ensures .0) (c .before .before .keep .ensures .1)) (y .0),
+    )
+
+pub events-from-spec : {M : Type 1} → statement M
+events-from-spec =
+    tie.close
+    (tie.spec
+    Inv-loop
+    μ-loop
+    loop-holds
+    next-kid-requires
+    enum-known-q
+    enum-told
+    same-length
+    returns
+    element-requires
+    enum-known-done
+    enum-told-2
+    same-length-2
+    returns-2
+    event-at-requires
+    keep-requires
+    loop-less
+    loop-again)

@@ -1,0 +1,59 @@
+use Prim.Native.Nat.{ℕ}
+use Rattle.laws.specs.Lists.{same}
+use Rattle.laws.specs.Text.{bytes}
+use Rattle.nodes.proofs.Naming.{found-child}
+use borrow.Author.Needs.{needs}
+use mathlib.Core.List.{List}
+use mathlib.Core.Path.{_∙_, ap}
+use Rattle.tracks.proofs.events.said.Statement.{statement}
+use Rattle.tracks.proofs.events.said.Tie as tie
+
+slice-aggregate-child : tie.Need-slice-aggregate-child
+slice-aggregate-child c = search needs
+
+child-requires : tie.Need-child-requires
+child-requires c κs = search needs
+
+slice-aggregate-child-2 : tie.Need-slice-aggregate-child-2
+slice-aggregate-child-2 c = search needs
+
+child-requires-2 : tie.Need-child-requires-2
+child-requires-2 c κs = search needs
+
+slice-aggregate-child-text : tie.Need-slice-aggregate-child-text
+slice-aggregate-child-text c = search needs
+
+child-text-requires : tie.Need-child-text-requires
+child-text-requires c κs = search needs
+
+part-requires : tie.Need-part-requires
+part-requires c κs = search needs
+
+slice-aggregate-same : tie.Need-slice-aggregate-same
+slice-aggregate-same c = search needs
+
+same-requires : tie.Need-same-requires
+same-requires c κs = search needs
+
+returns : tie.Need-returns
+returns c =
+    λ t h.
+    let v = found-child (bytes "Valutazione") h (c .before .before .before .before .before .before .before .before .child .ensures t h) in
+    let p = c .before .before .before .child-text .ensures .0 _ (c .before .before .before .before .before .child2 .ensures _ (c .before .before .before .before .before .before .before .before .child .ensures t h)) in
+    let z = c .same .ensures ∙ ap (λ (l : List ℕ). same l (bytes "000")) (c .before .before .part .ensures ∙ p) in
+    rw (← v, ← z)
+
+pub said-spec : {M : Type 1} → statement M
+said-spec =
+    tie.close
+    (tie.spec
+    slice-aggregate-child
+    child-requires
+    slice-aggregate-child-2
+    child-requires-2
+    slice-aggregate-child-text
+    child-text-requires
+    part-requires
+    slice-aggregate-same
+    same-requires
+    returns)

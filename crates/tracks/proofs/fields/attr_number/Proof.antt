@@ -1,0 +1,34 @@
+use Rattle.tracks.proofs.Totals.{no-number}
+use Rattle.tracks.specs.Defaults.{numberElse}
+use borrow.Author.Needs.{needs}
+use mathlib.Core.Path.{_∙_, ap}
+use native.Mathlib.Omega.{arith}
+use Rattle.tracks.proofs.fields.attr_number.Statement.{statement}
+use Rattle.tracks.proofs.fields.attr_number.Tie as tie
+
+attribute-requires : tie.Need-attribute-requires
+attribute-requires c κs = search needs
+
+enum-told : tie.Need-enum-told
+enum-told c = search needs
+
+enum-known-start : tie.Need-enum-known-start
+enum-known-start c = search needs
+
+number-requires : tie.Need-number-requires
+number-requires c κs = search needs
+
+returns : tie.Need-returns
+returns c =
+    let v = rw (c .enum-told .given .1) at (c .before .before .attribute .ensures) in
+    (λ t h. no-number _ (v .0 t h .0), omega arith)
+
+returns-2 : tie.Need-returns-2
+returns-2 c =
+    let v = rw (c .before .before .start .given .1) at (c .before .before .before .before .attribute .ensures) in
+    (λ t h. c .number .ensures .0 ∙ ap numberElse (v .0 t h .0), c .number .ensures .1)
+
+pub attr-number-spec : {M : Type 1} → statement M
+attr-number-spec =
+    tie.close
+    (tie.spec attribute-requires enum-told enum-known-start number-requires returns returns-2)

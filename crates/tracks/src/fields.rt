@@ -1,0 +1,122 @@
+// Numbers, dates and texts of an element's attributes and children. Each is total: where a text is not of its type, a number's last digits or day 0 are read.
+ghost use mathlib.Core.Path.{_≡_};
+ghost use mathlib.Core.Bool.{cond};
+ghost use Prim.Native.Nat.{_-_, _%_, _<_};
+ghost use lib.ListN.{drop, getD};
+ghost use Rattle.laws.specs.Decimal.{decimal};
+ghost use Rattle.days.specs.Calendar.{dayCount};
+ghost use Rattle.days.specs.Table.{Firsts};
+ghost use Rattle.markup.specs.Elements.{Tree};
+ghost use Rattle.markup.specs.View.{part, held};
+ghost use Rattle.nodes.specs.Lookup.{childOf, attrOf, hasAttr, textOf};
+ghost use Rattle.nodes.specs.Stands.{Stands};
+ghost use Rattle.rows.specs.Row.{never};
+ghost use Rattle.tracks.specs.Defaults.{dayElse, numberElse};
+use days::dates::Date;
+use days::dates::read_date;
+use markup::bytes::part;
+use markup::bytes::peek;
+use nodes::Node;
+use nodes::Span;
+use nodes::Value;
+use nodes::children::child;
+use nodes::values::attribute;
+use nodes::values::text;
+
+fn digit(b: u8) -> u64
+    ensures { λ r. ⌜ (r ≡ b - 48) × (r < 256) ⌝ }
+{
+    if b < b'0' {
+        return 0;
+    }
+    (b - b'0') as u64
+}
+
+fn number_of(x: &[u8]) -> u64
+    ensures { λ r. ⌜ (r ≡ decimal (now (x .entry)) % 10000) × (r < 10000) ⌝ }
+{
+    let mut n: u64 = 0;
+    let mut i = 0;
+    while i < x.len() {
+        n = (n * 10 + digit(x[i])) % 10000;
+        i += 1;
+    }
+    n
+}
+
+// The number that the digits from one place up to another write: its last four digits.
+pub fn number(s: &[u8], a: usize, e: usize) -> u64
+    ensures { λ r. ⌜ (r ≡ decimal (part (now (s .entry)) a e) % 10000) × (r < 10000) ⌝ }
+{
+    number_of(part(s, a, e))
+}
+
+fn day_of(t: &[u32; 2400], x: &[u8]) -> u64
+    requires { ⌜ Firsts (now t) ⌝ }
+    ensures { λ r. ⌜ (r ≡ dayElse (now (x .entry))) × (r < dayCount) ⌝ }
+{
+    if x.len() != 10 {
+        return 0;
+    }
+    match read_date(t, x, 0) {
+        Date::Day { day, .. } => day as u64,
+        Date::Refused => 0,
+    }
+}
+
+// The number of an attribute.
+pub fn attr_number(s: &[u8], n: Node, x: &[u8]) -> u64
+    ensures { λ r. ⌜ ((tree : Tree) → Stands (n .levels) (drop (n .at) (now (s .entry))) tree → r ≡ numberElse (attrOf (now (x .entry)) tree)) × (r < 10000) ⌝ }
+{
+    match attribute(s, n, x) {
+        Value::Missing => 0,
+        Value::Text { start, end } => number(s, start, end),
+    }
+}
+
+// The day of an attribute.
+pub fn attr_day(t: &[u32; 2400], s: &[u8], n: Node, x: &[u8]) -> u64
+    requires { ⌜ Firsts (now t) ⌝ }
+    ensures { λ r. ⌜ ((tree : Tree) → Stands (n .levels) (drop (n .at) (now (s .entry))) tree → r ≡ dayElse (attrOf (now (x .entry)) tree)) × (r < dayCount) ⌝ }
+{
+    match attribute(s, n, x) {
+        Value::Missing => 0,
+        Value::Text { start, end } => day_of(t, part(s, start, end)),
+    }
+}
+
+// The day of an attribute that may be missing.
+pub fn attr_end(t: &[u32; 2400], s: &[u8], n: Node, x: &[u8]) -> u64
+    requires { ⌜ Firsts (now t) ⌝ }
+    ensures { λ r. ⌜ ((tree : Tree) → Stands (n .levels) (drop (n .at) (now (s .entry))) tree → r ≡ cond (hasAttr (now (x .entry)) tree) (dayElse (attrOf (now (x .entry)) tree)) never) × (r < 131072) ⌝ }
+{
+    match attribute(s, n, x) {
+        Value::Missing => 131071,
+        Value::Text { start, end } => day_of(t, part(s, start, end)),
+    }
+}
+
+// The first byte of an attribute's value.
+pub fn attr_byte(s: &[u8], n: Node, x: &[u8]) -> u8
+    ensures { λ r. ⌜ ((tree : Tree) → Stands (n .levels) (drop (n .at) (now (s .entry))) tree → r ≡ getD (attrOf (now (x .entry)) tree) 0 0) ⌝ }
+{
+    match attribute(s, n, x) {
+        Value::Missing => 0,
+        Value::Text { start, end } => peek(part(s, start, end), 0),
+    }
+}
+
+// The text of a child.
+pub fn child_text(s: &[u8], n: Node, x: &[u8]) -> Span
+    ensures { λ r. ⌜ ((tree : Tree) → Stands (n .levels) (drop (n .at) (now (s .entry))) tree → part (now (s .entry)) (r .start) (r .end) ≡ textOf (childOf (now (x .entry)) tree)) × held (now (s .entry)) (r .start) (r .end) ⌝ }
+{
+    text(s, child(s, n, x))
+}
+
+// The number of a child.
+pub fn child_number(s: &[u8], n: Node, x: &[u8]) -> u64
+    ensures { λ r. ⌜ ((tree : Tree) → Stands (n .levels) (drop (n .at) (now (s .entry))) tree → r ≡ numberElse (textOf (childOf (now (x .entry)) tree))) × (r < 10000) ⌝ }
+{
+    let v = child_text(s, n, x);
+    number(s, v.start, v.end)
+}
