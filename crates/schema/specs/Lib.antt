@@ -2,3 +2,4 @@ pub mod Texts
 pub mod Schema
 pub mod Shape
 pub mod Table
+pub mod View

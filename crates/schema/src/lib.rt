@@ -1,1 +1,14 @@
-fn nothing() {}
+// The shape of a file: one interpreter of schema tables, over any table that is lent.
+pub mod attrs;
+pub mod children;
+pub mod elements;
+pub mod file;
+pub mod leaves;
+pub mod table;
+pub mod texts;
+
+// The place past an element that has no fault; or the first fault, as the bytes left at the `<` of the element that it is told of.
+pub enum Outcome {
+    Past(usize),
+    Fault(usize),
+}

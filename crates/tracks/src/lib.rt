@@ -3,3 +3,5 @@ pub mod counts;
 pub mod events;
 pub mod fields;
 pub mod record;
+pub mod shapes;
+pub mod tables;

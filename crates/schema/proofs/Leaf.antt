@@ -1,0 +1,84 @@
+-- What stands in an element, by its first piece; a leaf's text, and an element that is empty.
+use Prim.Native.Nat.{ℕ, _+_, _-_, _≤_}
+use mathlib.Core.Path.{_≡_, refl, sym, _∙_}
+use mathlib.Core.Bool.{Bool, true, false, cond}
+use mathlib.Core.List.{List, []}
+use native.Mathlib.Nat.{add-zero, sub-zero}
+use native.Mathlib.Omega.{arith}
+use lib.Dec.{eqb}
+use borrow.Author.Tests.{eq-eqb, ne-eqb}
+use Rattle.markup.specs.Reading.Read.{refused, read}
+use Rattle.markup.specs.Elements.{Inside, Tree, piece, content, element}
+use Rattle.markup.specs.Elements.Inside.{end, says, note, elem}
+use Rattle.markup.specs.Elements.Piece.{words, aside, closing, child}
+use Rattle.reading.specs.Within.{kidOn}
+use Rattle.schema.specs.Texts.{Texts, fitsText}
+use Rattle.schema.specs.Shape.{leafFits, enough, faultIn}
+use Rattle.schema.specs.Table.{cell, textsOf, nodesBy, nodeAt}
+use Rattle.schema.specs.declared.Outcome.{Outcome}
+use Rattle.schema.specs.declared.Outcome.the-variants as outcome
+use Rattle.schema.specs.View.{Tells, okOutcome, isEnd, faultWithin}
+use Rattle.schema.proofs.Onward.{Onward, onward-start, onward-text, onward-note, onward-close, onward-refused, onward-child}
+
+-- what f says of it
+module _ (d : ℕ) (n l : List ℕ) (i : Inside) (m : List ℕ) (e : content (element d) n l ≡ read i m) (f : Inside → ℕ) where
+  whole : Onward d n m (f i) f l
+  whole = onward-start d n l i m f e
+
+  pub first-close : {y : List ℕ} → read closing y ≡ piece n l → (f i ≡ f end) × (y ≡ m)
+  first-close p = let x = onward-close d n m (f i) f l whole p in (sym (x .0), x .1)
+
+  pub first-text : {t y : List ℕ} → read (words t) y ≡ piece n l → (k : Inside) × (content (element d) n y ≡ read k m) × (f i ≡ f (says t k))
+  first-text {t} p = let x = onward-text d n m (f i) f l whole p in (x .left, x .reads, sym (x .same))
+
+  pub first-note : {y : List ℕ} → read aside y ≡ piece n l → (k : Inside) × (f i ≡ f (note k))
+  first-note p = let x = onward-note d n m (f i) f l whole p in (x .left, sym (x .same))
+
+  pub first-child : read child l ≡ piece n l → (t : Tree) × (k : Inside) × (f i ≡ f (kidOn t k))
+  first-child p = let x = onward-child d n m (f i) f l whole p in (x .0, x .3 .left, sym (x .3 .same))
+
+  pub first-refused : refused ≡ piece n l → ⊥
+  first-refused p = onward-refused d n m (f i) f l whole p
+
+-- the fault of what is no end, of what no leaf may hold
+abbrev pub endFault : ℕ → Inside → ℕ
+endFault z i = cond (isEnd i) 0 z
+
+abbrev pub leafFault : Texts → ℕ → Inside → ℕ
+leafFault x z i = cond (leafFits x i) 0 z
+
+pub leaf-text : (x : Texts) (z : ℕ) (t : List ℕ) (k : Inside) {b : Bool} → b ≡ fitsText x t → b ≡ true → leafFault x z (says t k) ≡ endFault z k
+leaf-text x z t end e f = let i = sym e ∙ f in rw i
+leaf-text x z t (says u k) e f = refl
+leaf-text x z t (note k) e f = refl
+leaf-text x z t (elem y n ps i k) e f = refl
+
+pub leaf-other : (x : Texts) (z : ℕ) (t : List ℕ) (k : Inside) {b : Bool} → b ≡ fitsText x t → b ≡ false → leafFault x z (says t k) ≡ z
+leaf-other x z t end e f = let i = sym e ∙ f in rw i
+leaf-other x z t (says u k) e f = refl
+leaf-other x z t (note k) e f = refl
+leaf-other x z t (elem y n ps i k) e f = refl
+
+pub leaf-empty : (x : Texts) (z : ℕ) {b : Bool} → b ≡ fitsText x [] → leafFault x z end ≡ cond b 0 z
+leaf-empty x z e = rw e
+
+pub tells-to : (s : List ℕ) (r : Outcome) {f g : ℕ} (m : List ℕ) → g ≡ f → Tells s r f m → Tells s r g m
+tells-to s r m e h = rw e h
+
+pub further : (s : List ℕ) (a b : ℕ) (r : Outcome) → a ≤ b → okOutcome s b r → okOutcome s a r
+further s a b (outcome.Past p) h k = omega arith
+further s a b (outcome.Fault z) h k = tt
+
+-- an element of a row that is empty
+module _ (table pool ranges : List ℕ) (d row z : ℕ) {kind : ℕ} (k : kind ≡ cell table pool ranges row 4) where
+  pub empty-group : {first n : ℕ} {b : Bool} → kind ≡ 0 → first ≡ cell table pool ranges row 7 → n ≡ cell table pool ranges row 8
+      → b ≡ enough (nodesBy table pool ranges (nodeAt table pool ranges d) (first + 0) (n - 0)) 0 → cond b 0 z ≡ faultWithin table pool ranges d row z end
+  unfolding faultIn
+  empty-group {first} {n} e f m g =
+      let i = rw (add-zero first, sub-zero n) at g in
+      rw (← k, eq-eqb kind 0 e, ← f, ← m, i)
+
+  pub empty-leaf : {b : Bool} → (kind ≡ 0 → ⊥) → b ≡ fitsText (textsOf table pool ranges row) [] → cond b 0 z ≡ faultWithin table pool ranges d row z end
+  empty-leaf e g =
+      let q : eqb (cell table pool ranges row 4) 0 ≡ false = ne-eqb (cell table pool ranges row 4) 0 (λ h. e (k ∙ h)) in
+      rw (q, g)

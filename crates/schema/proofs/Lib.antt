@@ -1,0 +1,12 @@
+pub mod Names
+pub mod Ranges
+pub mod Digits
+pub mod Fitting
+pub mod Pairs
+pub mod Heads
+pub mod Tagged
+pub mod Onward
+pub mod Leaf
+pub mod Group
+pub mod Faults
+pub mod Whole

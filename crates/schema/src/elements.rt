@@ -1,0 +1,157 @@
+// The first fault in an element, by a row of the table: element by element, with one level less left in each.
+ghost use mathlib.Core.Path.{_≡_};
+ghost use mathlib.Core.List.{List};
+ghost use Prim.Native.Nat.{ℕ, _<_};
+ghost use lib.ListN.{drop};
+ghost use Rattle.days.specs.Table.{Firsts};
+ghost use Rattle.markup.specs.Reading.Read.{read};
+ghost use Rattle.markup.specs.Elements.{Inside, Tree, content, element};
+ghost use Rattle.markup.specs.View.{part};
+ghost use Rattle.schema.specs.Shape.{faultIn, faultOf};
+ghost use Rattle.schema.specs.Table.{nodesBy, nodeAt};
+ghost use Rattle.schema.specs.View.{Tells, okOutcome};
+use crate::Outcome;
+use crate::attrs::attrs_fit;
+use crate::children::Spot;
+use crate::children::enough;
+use crate::children::spot_of;
+use crate::leaves::all_ws;
+use crate::leaves::leaf_inside;
+use crate::leaves::may_be_empty;
+use crate::table::cell;
+use markup::Cursor;
+use markup::Ending;
+use markup::Got;
+use markup::Move;
+use markup::Piece;
+use markup::bytes::part;
+
+// What stands in a group that opened with `from` bytes left, by the n rows from the first on; its children have so many levels.
+pub fn inside(
+    t: &[u32; 2400],
+    table: &[u16],
+    pool: &[u8],
+    ranges: &[u16],
+    s: &[u8],
+    start: usize,
+    levels: usize,
+    name: usize,
+    name_end: usize,
+    first: usize,
+    n: usize,
+    from: usize,
+) -> Outcome
+    requires { ⌜ Firsts (now t) × (first < 65536) × (n < 65536) ⌝ }
+    ensures { λ r. ⌜ ((i : Inside) (m : List ℕ) → content (element levels) (part (now (s .entry)) name «name_end») (drop start (now (s .entry))) ≡ read i m → 0 < from → Tells (now (s .entry)) r (faultIn (nodesBy (now (table .entry)) (now (pool .entry)) (now (ranges .entry)) (nodeAt (now (table .entry)) (now (pool .entry)) (now (ranges .entry)) levels) first n) 0 from i) m) × okOutcome (now (s .entry)) start r ⌝ }
+{
+    let mut at = start;
+    let mut item = 0;
+    let mut count = 0;
+    loop {
+        let here = Cursor { at };
+        match here.next_piece(s, name, name_end) {
+            Piece::Refused => {
+                return Outcome::Fault(0);
+            }
+            Piece::Close(done) => {
+                if enough(table, first, n, item, count) {
+                    return Outcome::Past(done.at);
+                }
+                return Outcome::Fault(from);
+            }
+            Piece::Words { start: text, end } => {
+                if !all_ws(part(s, text, end)) {
+                    return Outcome::Fault(from);
+                }
+                at = end;
+            }
+            Piece::Aside(done) => {
+                at = done.at;
+            }
+            Piece::Kid => match spot_of(table, pool, s, at, first, n, item, count) {
+                Spot::Nowhere => {
+                    return Outcome::Fault(from);
+                }
+                Spot::Here {
+                    item: now,
+                    count: before,
+                } => match fault(t, table, pool, ranges, s, at, levels, first + now) {
+                    Outcome::Fault(z) => {
+                        return Outcome::Fault(z);
+                    }
+                    Outcome::Past(next) => {
+                        at = next;
+                        item = now;
+                        count = before + 1;
+                    }
+                },
+            },
+        }
+    }
+}
+
+// The element at a place, of at most so many levels.
+pub fn fault(
+    t: &[u32; 2400],
+    table: &[u16],
+    pool: &[u8],
+    ranges: &[u16],
+    s: &[u8],
+    at: usize,
+    levels: usize,
+    row: usize,
+) -> Outcome
+    requires { ⌜ Firsts (now t) ⌝ }
+    ensures { λ r. ⌜ ((tree : Tree) (m : List ℕ) → element levels (drop at (now (s .entry))) ≡ read tree m → Tells (now (s .entry)) r (faultOf (nodeAt (now (table .entry)) (now (pool .entry)) (now (ranges .entry)) levels row) tree) m) × okOutcome (now (s .entry)) at r ⌝ }
+{
+    if levels == 0 {
+        return Outcome::Fault(0);
+    }
+    if s.len() <= at {
+        return Outcome::Fault(0);
+    }
+    let kind = cell(table, row, 4);
+    if kind == 1 {
+        let here = Cursor { at };
+        let Move::To(done) = here.element(s, levels) else {
+            return Outcome::Fault(0);
+        };
+        return Outcome::Past(done.at);
+    }
+    let from = s.len() - at;
+    let first = Cursor { at: at + 1 };
+    let Got::Text { start, end, next } = first.name(s) else {
+        return Outcome::Fault(0);
+    };
+    if !attrs_fit(t, table, pool, ranges, row, s, next.at) {
+        return Outcome::Fault(from);
+    }
+    match next.attributes(s) {
+        Ending::Refused => Outcome::Fault(0),
+        Ending::Shut(done) => {
+            if may_be_empty(t, table, ranges, row) {
+                return Outcome::Past(done.at);
+            }
+            Outcome::Fault(from)
+        }
+        Ending::Open(done) => {
+            if kind == 0 {
+                return inside(
+                    t,
+                    table,
+                    pool,
+                    ranges,
+                    s,
+                    done.at,
+                    levels - 1,
+                    start,
+                    end,
+                    cell(table, row, 7),
+                    cell(table, row, 8),
+                    from,
+                );
+            }
+            leaf_inside(t, table, ranges, row, s, done.at, start, end, from)
+        }
+    }
+}

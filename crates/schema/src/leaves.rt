@@ -1,0 +1,97 @@
+// What stands in a leaf, and in an element that is empty.
+ghost use mathlib.Core.Path.{_≡_};
+ghost use mathlib.Core.Bool.{cond};
+ghost use mathlib.Core.List.{List};
+ghost use Prim.Native.Nat.{ℕ, _<_};
+ghost use lib.ListN.{drop};
+ghost use Rattle.laws.specs.Lists.{all};
+ghost use Rattle.days.specs.Table.{Firsts};
+ghost use Rattle.markup.specs.Bytes.{isWs};
+ghost use Rattle.markup.specs.Reading.Read.{read};
+ghost use Rattle.markup.specs.Elements.{Inside, content, element};
+ghost use Rattle.markup.specs.Elements.Inside.{end};
+ghost use Rattle.markup.specs.View.{part};
+ghost use Rattle.schema.specs.Shape.{leafFits};
+ghost use Rattle.schema.specs.Table.{textsOf};
+ghost use Rattle.schema.specs.View.{Tells, okOutcome, isEnd, faultWithin};
+use crate::Outcome;
+use crate::children::enough;
+use crate::table::cell;
+use crate::texts::fits_text;
+use markup::Cursor;
+use markup::Piece;
+use markup::bytes::is_ws;
+use markup::bytes::part;
+
+pub fn all_ws(text: &[u8]) -> bool
+    ensures { λ r. ⌜ r ≡ all isWs (now (text .entry)) ⌝ }
+{
+    let mut i = 0;
+    while i < text.len() {
+        if !is_ws(text[i]) {
+            return false;
+        }
+        i += 1;
+    }
+    true
+}
+
+// Nothing more stands in an element that opened with `from` bytes left.
+fn end_of(s: &[u8], start: usize, name: usize, name_end: usize, from: usize) -> Outcome
+    ensures { λ r. ⌜ ((d : ℕ) (i : Inside) (m : List ℕ) → content (element d) (part (now (s .entry)) name «name_end») (drop start (now (s .entry))) ≡ read i m → 0 < from → Tells (now (s .entry)) r (cond (isEnd i) 0 from) m) × okOutcome (now (s .entry)) start r ⌝ }
+{
+    let here = Cursor { at: start };
+    match here.next_piece(s, name, name_end) {
+        Piece::Close(done) => Outcome::Past(done.at),
+        Piece::Words { .. } => Outcome::Fault(from),
+        Piece::Aside(_) => Outcome::Fault(from),
+        Piece::Kid => Outcome::Fault(from),
+        Piece::Refused => Outcome::Fault(from),
+    }
+}
+
+// A leaf's text of a row, and nothing else.
+pub fn leaf_inside(
+    t: &[u32; 2400],
+    table: &[u16],
+    ranges: &[u16],
+    row: usize,
+    s: &[u8],
+    start: usize,
+    name: usize,
+    name_end: usize,
+    from: usize,
+) -> Outcome
+    requires { ⌜ Firsts (now t) ⌝ }
+    ensures { λ r. ⌜ ((pool : List ℕ) (d : ℕ) (i : Inside) (m : List ℕ) → content (element d) (part (now (s .entry)) name «name_end») (drop start (now (s .entry))) ≡ read i m → 0 < from → Tells (now (s .entry)) r (cond (leafFits (textsOf (now (table .entry)) pool (now (ranges .entry)) row) i) 0 from) m) × okOutcome (now (s .entry)) start r ⌝ }
+{
+    let here = Cursor { at: start };
+    match here.next_piece(s, name, name_end) {
+        Piece::Words { start: text, end } => {
+            if fits_text(t, table, ranges, row, part(s, text, end)) {
+                return end_of(s, end, name, name_end, from);
+            }
+            Outcome::Fault(from)
+        }
+        Piece::Close(done) => {
+            if fits_text(t, table, ranges, row, b"") {
+                return Outcome::Past(done.at);
+            }
+            Outcome::Fault(from)
+        }
+        Piece::Aside(_) => Outcome::Fault(from),
+        Piece::Kid => Outcome::Fault(from),
+        Piece::Refused => Outcome::Fault(from),
+    }
+}
+
+// An element of a row may be empty.
+pub fn may_be_empty(t: &[u32; 2400], table: &[u16], ranges: &[u16], row: usize) -> bool
+    requires { ⌜ Firsts (now t) ⌝ }
+    ensures { λ r. ⌜ ((pool : List ℕ) (d z : ℕ) → cond r 0 z ≡ faultWithin (now (table .entry)) pool (now (ranges .entry)) d row z end) ⌝ }
+{
+    if cell(table, row, 4) == 0 {
+        return enough(table, cell(table, row, 7), cell(table, row, 8), 0, 0);
+    }
+    fits_text(t, table, ranges, row, b"")
+}
