@@ -9,22 +9,10 @@ use Rattle.rows.specs.Pack.{Field, bits, each, packs, widths, values, unpacks}
 use Rattle.rows.specs.Row.{Key, Case, keyFields, caseFields, keyNumber, caseNumber, caseBits, eventBits, keyBits, eventKeyBits, KeyFits, CaseFits}
 use Rattle.rows.proofs.Packing.{values-append, widths-append, fit-append, packs-append, unpacks-packs}
 use Rattle.rows.proofs.Bytes.{each-widths, each-values}
-use Rattle.rows.proofs.Table.{key-fit, case-fit}
+use Rattle.rows.proofs.Table.{key-fit, case-fit, key-values, key-widths}
 use Rattle.register.proofs.RowBytes.{number-lt}
 use Rattle.register.specs.Layout.{siad, caseRest, eventRest, caseOf}
 use Rattle.register.specs.Fields.{keyIn, caseIn, casePad, takenIn, eventIn, eventPad, eventRow}
-
--- the values of a key's fields, in their order
-key-values : (k : Key) → values (keyFields k) ≡ k .region ∷ (k .asl ++ (k .taken ∷ k .id))
-key-values k =
-    ap (λ (l : List ℕ). k .region ∷ l)
-    (values-append (each 7 (k .asl)) (bits 17 (k .taken) ∷ each 7 (k .id)) ∙ ap₂ (λ (x y : List ℕ). x ++ (k .taken ∷ y)) (each-values 7 (k .asl)) (each-values 7 (k .id)))
-
-key-widths : (k : Key) → KeyFits k → widths (keyFields k) ≡ 8 ∷ (replicate 3 7 ++ (17 ∷ replicate 88 7))
-key-widths k h =
-    ap (λ (l : List ℕ). 8 ∷ l)
-    (widths-append (each 7 (k .asl)) (bits 17 (k .taken) ∷ each 7 (k .id))
-    ∙ ap₂ (λ (x y : List ℕ). x ++ (17 ∷ y)) (each-widths 7 (k .asl) ∙ ap (λ (n : ℕ). replicate n 7) (h .asl-length)) (each-widths 7 (k .id) ∙ ap (λ (n : ℕ). replicate n 7) (h .id-length)))
 
 abbrev keyFrom : List ℕ → Key
 keyFrom vs = record { region = getD vs 0 0; asl = take 3 (drop 1 vs); taken = getD vs 4 0; id = drop 5 vs }

@@ -22,50 +22,29 @@ use Rattle.register.specs.Sound.{valid, siadRules, ascending, isSound}
 use Rattle.register.proofs.RowBytes.{bytes-length}
 use Rattle.register.proofs.States.{laid-siad, room-holds, encode-length, state-encode, stored-state, stored-empty}
 use Rattle.register.proofs.Every.{and-tell}
+use Rattle.register.proofs.SoundLaws.{sound-of, sound-valid, sound-is-stored}
 use Rattle.checks.proofs.Valid.{Sound, Parts, parts-of}
 
 -- ---- from the bytes to the state
 
 module _ (reg : List ℕ) (f : Fit (each 8 reg)) (h : isSound reg ≡ true) where
-  abbrev s : State ℕ ℕ
-  s = stateOf siad reg
-
-  abbrev tail : Bool
-  tail = all (λ b. eqb b 0) (drop (used siad s) reg)
-
-  whole : leb 4 (length reg) && (valid siad siadRules (length reg) s && tail) ≡ true
-  unfolding isSound
-  whole = h
+  -- a sound register holds its state's bytes
+  pub sound-stored : Stored siad reg (stateOf siad reg)
+  sound-stored = sound-is-stored reg f h
 
   pub sound-long : 4 ≤ length reg
-  sound-long = leb-true 4 (length reg) (and-left (leb 4 (length reg)) (valid siad siadRules (length reg) s && tail) whole)
+  sound-long = sound-stored .long
 
-  inner : valid siad siadRules (length reg) s && tail ≡ true
-  inner = and-right (leb 4 (length reg)) (valid siad siadRules (length reg) s && tail) whole
-
-  p : Parts (length reg) s
-  p = parts-of (length reg) s (and-left (valid siad siadRules (length reg) s) tail inner)
-
-  -- a sound register holds its state's bytes
-  pub sound-stored : Stored siad reg s
-  sound-stored =
-      stored-state siad reg f (room-holds siad (length reg) (length (s .cases) + length (s .events)) sound-long (p .few) .1)
-      laid-siad sound-long (p .few) (p .good) (and-right (valid siad siadRules (length reg) s) tail inner)
-
-  pub sound-state : Sound (length reg) s
+  pub sound-state : Sound (length reg) (stateOf siad reg)
+  unfolding isSound
   sound-state =
       record {
-        is-valid = and-left (valid siad siadRules (length reg) s) tail inner;
+        is-valid = sound-valid siad laid-siad siadRules reg f h;
         cases-fit = sound-stored .cases-fit;
         events-fit = sound-stored .events-fit;
       }
 
 -- ---- from the state to the bytes
-
-all-zero : (n : ℕ) → all (λ b. eqb b 0) (replicate n 0) ≡ true
-unfolding all
-all-zero zero = refl
-all-zero (suc n) = all-zero n
 
 fit-zeros : (n : ℕ) → Fit (each 8 (replicate n 0))
 fit-zeros zero = tt
@@ -92,20 +71,6 @@ encode-fit n s =
     (join b (c ++ (e ++ z)) (digits-fit 2 (length (s .events)))
     (join c (e ++ z) (rows-fit (caseRest siad) (s .cases)) (join e z (rows-fit (eventRest siad) (s .events)) (fit-zeros (n - used siad s)))))
 
--- "All bytes past the last standing row are zero"
-pub encode-tail : (n : ℕ) (s : State ℕ ℕ) → drop (used siad s) (encode siad n s) ≡ replicate (n - used siad s) 0
-unfolding encode
-encode-tail n s =
-    let a : List ℕ = digits 2 (length (s .cases)) ++ digits 2 (length (s .events)) in
-    let c : List ℕ = rowsBytes siad (caseRest siad) (s .cases) in
-    let e : List ℕ = rowsBytes siad (eventRest siad) (s .events) in
-    let z : List ℕ = replicate (n - used siad s) 0 in
-    let lc : length c ≡ 91 * length (s .cases) = bytes-length siad (caseRest siad) (s .cases) in
-    let le : length e ≡ 91 * length (s .events) = bytes-length siad (eventRest siad) (s .events) in
-    let l : length (a ++ (c ++ e)) ≡ used siad s = length-append a (c ++ e) ∙ ap (λ (k : ℕ). 4 + k) (length-append c e) ∙ omega arith in
-    let q : a ++ (c ++ (e ++ z)) ≡ (a ++ (c ++ e)) ++ z = ap (λ (y : List ℕ). a ++ y) (sym (append-assoc c e z)) ∙ sym (append-assoc a (c ++ e) z) in
-    ap (drop (used siad s)) q ∙ drop-at (a ++ (c ++ e)) z (used siad s) l
-
 module _ (n : ℕ) (long : 4 ≤ n) (s : State ℕ ℕ) (i : Sound n s) where
   q : Parts n s
   q = parts-of n s (i .is-valid)
@@ -130,13 +95,7 @@ module _ (n : ℕ) (long : 4 ≤ n) (s : State ℕ ℕ) (i : Sound n s) where
   -- a sound state's bytes are sound
   pub state-sound : isSound (encode siad n s) ≡ true
   unfolding isSound
-  state-sound =
-      let r : List ℕ = encode siad n s in
-      and-tell (leb 4 (length r)) (valid siad siadRules (length r) (stateOf siad r) && all (λ b. eqb b 0) (drop (used siad (stateOf siad r)) r))
-      (le-leb 4 (length r) (rw state-long long))
-      (and-tell (valid siad siadRules (length r) (stateOf siad r)) (all (λ b. eqb b 0) (drop (used siad (stateOf siad r)) r))
-      (ap₂ (λ (k : ℕ) (t : State ℕ ℕ). valid siad siadRules k t) state-long state-back ∙ i .is-valid)
-      (ap (λ (t : State ℕ ℕ). all (λ b. eqb b 0) (drop (used siad t) r)) state-back ∙ ap (all (λ b. eqb b 0)) (encode-tail n s) ∙ all-zero (n - used siad s)))
+  state-sound = sound-of siad laid-siad siadRules (encode siad n s) s state-stored (ap (λ (k : ℕ). valid siad siadRules k s) state-long ∙ i .is-valid)
 
 -- ---- nothing stands
 

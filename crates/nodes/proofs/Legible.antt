@@ -17,6 +17,7 @@ use Rattle.markup.specs.Elements.{Inside, Tree, Piece, tagPiece, piece, content
 use Rattle.markup.specs.Elements.Inside.{end}
 use Rattle.markup.specs.Elements.Piece.{words, aside, closing, child}
 use Rattle.markup.specs.Document.{document}
+use Rattle.reading.proofs.Elements.{tag-no-text}
 use Rattle.reading.specs.Places.{placeIn}
 use Rattle.reading.specs.Within.{alone, kids, Every, Deeply, ReadAt}
 use Rattle.laws.proofs.Lists.{all-left, all-right}
@@ -47,18 +48,6 @@ all-drop p k l h = all-right p (take k l) (drop k l) (rw (take-append-drop k l) 
 
 all-take : (p : ℕ → Bool) (k : ℕ) (l : List ℕ) → all p l ≡ true → all p (take k l) ≡ true
 all-take p k l h = all-left p (take k l) (drop k l) (rw (take-append-drop k l) h)
-
--- what stands at a `<` is no text
-last : {A : Type 0} (o : Read A) (p : Piece) {q : Piece} {m : List ℕ} → then o (λ _ m. read p m) ≡ read q m → p ≡ q
-last o p u = read-in (then-is o (λ _ m. read p m) u .3) .0
-
-tag-no-text : (n : List ℕ) (c : ℕ) (l t m : List ℕ) → tagPiece n c l ≡ read (words t) m → ⊥
-tag-no-text n c l t m e = go (eqb c (code "/")) (eqb c (code "!")) e
-  where
-    go : (u v : Bool) → cond u (then (endTag n (drop 2 l)) (λ _ m. read closing m)) (cond v (then (dashed (drop 2 l)) (λ _ m. read aside m)) (read child l)) ≡ read (words t) m → ⊥
-    go true v k = let q = last (endTag n (drop 2 l)) closing k in never cc
-    go false true k = let q = last (dashed (drop 2 l)) aside k in never cc
-    go false false k = let q = read-in k .0 in never cc
 
 words-prose : (n l t m : List ℕ) → piece n l ≡ read (words t) m → all inFile l ≡ true → all inText t ≡ true
 unfolding piece

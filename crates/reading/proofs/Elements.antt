@@ -57,8 +57,8 @@ aside-cuts n l = tagged n aside (λ t e. never cc) (λ e. never cc) l
 said : {A : Type 0} (o : Read A) (p : Piece) {q : Piece} {m : List ℕ} → then o (λ _ m. read p m) ≡ read q m → p ≡ q
 said o p u = read-in (then-is o (λ _ m. read p m) u .3) .0
 
--- no text
-tag-no-text : (n : List ℕ) (c : ℕ) (l t m : List ℕ) → tagPiece n c l ≡ read (words t) m → ⊥
+-- what stands at a `<` is no text
+pub tag-no-text : (n : List ℕ) (c : ℕ) (l t m : List ℕ) → tagPiece n c l ≡ read (words t) m → ⊥
 tag-no-text n c l t m e = go (eqb c (code "/")) (eqb c (code "!")) e
   where
     go : (u v : Bool) → cond u (then (endTag n (drop 2 l)) (λ _ m. read closing m)) (cond v (then (dashed (drop 2 l)) (λ _ m. read aside m)) (read child l)) ≡ read (words t) m → ⊥

@@ -15,3 +15,4 @@ pub mod Found
 pub mod Every
 pub mod Walks
 pub mod Ascending
+pub mod SoundLaws

@@ -53,12 +53,13 @@ cut : (n : ℕ) (a b x y : List ℕ) → length a ≡ n → length b ≡ n → a
 cut n a b x y h k e =
     (sym (take-at a x n h) ∙ ap (λ (l : List ℕ). take n l) e ∙ take-at b y n k, sym (drop-at a x n h) ∙ ap (λ (l : List ℕ). drop n l) e ∙ drop-at b y n k)
 
-key-values : (k : Key) → values (keyFields k) ≡ k .region ∷ (k .asl ++ (k .taken ∷ k .id))
+-- the values and the widths of a key's fields, in their order
+pub key-values : (k : Key) → values (keyFields k) ≡ k .region ∷ (k .asl ++ (k .taken ∷ k .id))
 key-values k =
     ap (λ (l : List ℕ). k .region ∷ l)
     (values-append (each 7 (k .asl)) (bits 17 (k .taken) ∷ each 7 (k .id)) ∙ ap₂ (λ (x y : List ℕ). x ++ (k .taken ∷ y)) (each-values 7 (k .asl)) (each-values 7 (k .id)))
 
-key-widths : (k : Key) → KeyFits k → widths (keyFields k) ≡ 8 ∷ (replicate 3 7 ++ (17 ∷ replicate 88 7))
+pub key-widths : (k : Key) → KeyFits k → widths (keyFields k) ≡ 8 ∷ (replicate 3 7 ++ (17 ∷ replicate 88 7))
 key-widths k h =
     ap (λ (l : List ℕ). 8 ∷ l)
     (widths-append (each 7 (k .asl)) (bits 17 (k .taken) ∷ each 7 (k .id))

@@ -13,4 +13,3 @@ pub mod FindPlace
 pub mod ProbeTexts
 pub mod FindAnswers
 pub mod RoundTrips
-pub mod SoundLaws

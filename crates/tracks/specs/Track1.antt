@@ -44,38 +44,7 @@ presaInCarico =
 abbrev pub valutazione : Node
 valutazione =
     Types.all-of "Valutazione" (Types.required "data" date ∷ [])
-    (Types.patologie ▸
-    Types.maybe "Autonomia" Types.autonomia ▸
-    Types.maybe "GradoMobilita" Types.gradoMobilita ▸
-    Types.all-of "Disturbi" [] Types.disturbi ▸
-    Types.maybe "SupportoSociale" Types.supportoSociale ▸
-    Types.maybe "RischioInfettivo" Types.rischioInfettivo ▸
-    Types.one "DrenaggioPosturale" Types.bisogno ▸
-    Types.one "OssigenoTerapia" Types.bisogno ▸
-    Types.one "Ventiloterapia" Types.bisogno ▸
-    Types.one "Tracheostomia" Types.bisogno ▸
-    Types.alimentazione ▸
-    Types.one "GestioneStomia" Types.bisogno ▸
-    Types.one "ElimiUrinariaIntestinale" Types.bisogno ▸
-    Types.one "AlterRitmoSonnoVeglia" Types.bisogno ▸
-    Types.one "IntEduTerapeutica" Types.bisogno ▸
-    Types.one "CuraUlcereCutanee12Grado" Types.bisogno ▸
-    Types.one "CuraUlcereCutanee34Grado" Types.bisogno ▸
-    Types.one "PrelieviVenosiNonOcc" Types.bisogno ▸
-    Types.one "ECG" Types.bisogno ▸
-    Types.one "Telemetria" Types.bisogno ▸
-    Types.one "TerSottocutIntraMusInfus" Types.bisogno ▸
-    Types.one "GestioneCatetere" Types.bisogno ▸
-    Types.one "Trasfusioni" Types.bisogno ▸
-    Types.one "ControlloDolore" Types.bisogno ▸
-    Types.one "AssistStatoTerminaleOnc" Types.bisogno ▸
-    Types.one "AssistStatoTerminaleNonOnc" Types.bisogno ▸
-    Types.trattamentiRiab ▸
-    Types.maybe "SupervisioneContinua" Types.bisogno ▸
-    Types.maybe "AssistenzaIADL" Types.bisogno ▸
-    Types.maybe "AssistenzaADL" Types.bisogno ▸
-    Types.maybe "SupportoCareGiver" Types.bisogno ▸
-    none)
+    (Types.valued (Types.all-of "Disturbi" [] Types.disturbi) "TerSottocutIntraMusInfus")
 
 -- "Trasmissione, Assistito, Conviventi, Erogatore, Eventi (PresaInCarico, Valutazione)"
 abbrev pub assistenza : Node

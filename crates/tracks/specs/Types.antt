@@ -184,3 +184,39 @@ trattamentiRiab =
 
 abbrev pub disturbi : Nodes
 disturbi = maybe "Cognitivi" disturbo ▸ maybe "Comportamentali" disturbo ▸ none
+
+-- what stands in a Valutazione: both schemas list the same, but for whether Disturbi may be missing and how one name is spelled
+abbrev pub valued : Node → string.String → Nodes
+valued ofDisturbi infusion =
+    patologie ▸
+    maybe "Autonomia" autonomia ▸
+    maybe "GradoMobilita" gradoMobilita ▸
+    ofDisturbi ▸
+    maybe "SupportoSociale" supportoSociale ▸
+    maybe "RischioInfettivo" rischioInfettivo ▸
+    one "DrenaggioPosturale" bisogno ▸
+    one "OssigenoTerapia" bisogno ▸
+    one "Ventiloterapia" bisogno ▸
+    one "Tracheostomia" bisogno ▸
+    alimentazione ▸
+    one "GestioneStomia" bisogno ▸
+    one "ElimiUrinariaIntestinale" bisogno ▸
+    one "AlterRitmoSonnoVeglia" bisogno ▸
+    one "IntEduTerapeutica" bisogno ▸
+    one "CuraUlcereCutanee12Grado" bisogno ▸
+    one "CuraUlcereCutanee34Grado" bisogno ▸
+    one "PrelieviVenosiNonOcc" bisogno ▸
+    one "ECG" bisogno ▸
+    one "Telemetria" bisogno ▸
+    one infusion bisogno ▸
+    one "GestioneCatetere" bisogno ▸
+    one "Trasfusioni" bisogno ▸
+    one "ControlloDolore" bisogno ▸
+    one "AssistStatoTerminaleOnc" bisogno ▸
+    one "AssistStatoTerminaleNonOnc" bisogno ▸
+    trattamentiRiab ▸
+    maybe "SupervisioneContinua" bisogno ▸
+    maybe "AssistenzaIADL" bisogno ▸
+    maybe "AssistenzaADL" bisogno ▸
+    maybe "SupportoCareGiver" bisogno ▸
+    none

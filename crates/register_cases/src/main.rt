@@ -1,0 +1,170 @@
+// Reads each register image that its arguments name, and prints whether it is sound and where a case stands; then fills and clears a register of its own.
+// The images were packed by another tool (docs/REGISTER.md).
+use libc::STDOUT_FILENO;
+use markup::bytes::part;
+use register::layout::CASE_KEY;
+use register::layout::EVENT_KEY;
+use register::layout::ROW;
+
+fn word(s: &[u8]) {
+    io::write_all(STDOUT_FILENO, s);
+}
+
+fn number(n: u64) {
+    word(b" ");
+    io::print_decimal(STDOUT_FILENO, n);
+}
+
+fn answer(s: &[u8], n: u64) {
+    word(s);
+    number(n);
+    word(b"\n");
+}
+
+fn yes(s: &[u8], b: bool) {
+    if b {
+        answer(s, 1);
+    } else {
+        answer(s, 0);
+    }
+}
+
+// The case of region 010, ASL 101, 2018-05-01, Id_Rec of 88 letters A: answer and place.
+fn find(reg: &[u8]) {
+    let id = [b'A'; 88];
+    let mut place: u64 = 77;
+    let r = exports::siad_find(reg, b"010", b"101", b"2018-05-01", &id, &mut place);
+    word(b"find");
+    number(r);
+    number(place);
+    word(b"\n");
+}
+
+fn image(reg: &[u8]) {
+    word(b": sound");
+    number(exports::siad_sound(reg));
+    word(b" ");
+    find(reg);
+}
+
+fn one(i: usize) {
+    let mut path = io::buffer();
+    let n = os::arg(i, &mut path);
+    word(&path[..n]);
+    let fd = os::open_read(&path[..n]);
+    if fd < 0 {
+        word(b": missing\n");
+        return;
+    }
+    let mut text = io::large_buffer();
+    let long = io::read_full(fd, &mut text);
+    libc::close(fd);
+    image(&text[..long]);
+}
+
+fn sound(reg: &[u8]) {
+    answer(b"sound", exports::siad_sound(reg));
+}
+
+fn counts(reg: &[u8]) {
+    if reg.len() < 4 {
+        return;
+    }
+    answer(b"cases", register::counts::count(reg, 0) as u64);
+    answer(b"events", register::counts::count(reg, 2) as u64);
+}
+
+fn put_case(reg: &mut [u8], row: &[u8]) -> bool {
+    if row.len() == ROW {
+        return register::store::put_case(reg, ROW, CASE_KEY, row);
+    }
+    false
+}
+
+fn put_event(reg: &mut [u8], row: &[u8]) -> bool {
+    if row.len() == ROW {
+        return register::store::put_event(reg, ROW, EVENT_KEY, row);
+    }
+    false
+}
+
+fn drop_case(reg: &mut [u8], row: &[u8]) -> bool {
+    if row.len() == ROW {
+        return register::store::drop_case(reg, ROW, CASE_KEY, row);
+    }
+    false
+}
+
+fn drop_event(reg: &mut [u8], row: &[u8]) -> bool {
+    if row.len() == ROW {
+        return register::store::drop_event(reg, ROW, EVENT_KEY, row);
+    }
+    false
+}
+
+// Any bytes, emptied: sound, and no case stands.
+fn begin(reg: &mut [u8]) {
+    answer(b"fresh, sound", exports::siad_sound(reg));
+    answer(b"empty", exports::siad_empty(reg));
+    sound(reg);
+    find(reg);
+}
+
+fn fill(reg: &mut [u8], case: &[u8], event: &[u8]) {
+    yes(b"put_case", put_case(reg, case));
+    sound(reg);
+    find(reg);
+    yes(b"put_event", put_event(reg, event));
+    sound(reg);
+    counts(reg);
+}
+
+fn clear(reg: &mut [u8], case: &[u8], event: &[u8]) {
+    yes(b"drop_event", drop_event(reg, event));
+    yes(b"drop_case", drop_case(reg, case));
+    sound(reg);
+    yes(b"zero", soundness::texts::all_zero(reg));
+}
+
+fn whole(reg: &mut [u8], case: &[u8], event: &[u8]) {
+    begin(reg);
+    fill(reg, case, event);
+    clear(reg, case, event);
+}
+
+// Room for three rows.
+fn story(case: &[u8], event: &[u8]) {
+    let mut reg = [255u8; 277];
+    whole(&mut reg, case, event);
+    let mut short = [255u8; 3];
+    answer(b"three bytes, empty", exports::siad_empty(&mut short));
+}
+
+// The bytes of a file, into a lent buffer.
+fn read(path: &[u8], buf: &mut [u8]) {
+    let fd = os::open_read(path);
+    if fd < 0 {
+        word(b"missing\n");
+        return;
+    }
+    io::read_full(fd, buf);
+    libc::close(fd);
+}
+
+fn from_files() {
+    let mut cases = io::buffer();
+    read(b"one_case", &mut cases);
+    let mut events = io::buffer();
+    read(b"case_and_event", &mut events);
+    story(part(&cases, 4, 95), part(&events, 95, 186));
+}
+
+fn main() {
+    let n = os::arg_count();
+    let mut i = 1;
+    while i < n {
+        one(i);
+        i += 1;
+    }
+    from_files();
+}
