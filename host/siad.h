@@ -1,0 +1,20 @@
+/* The calls of the SIAD intake (crates/exports). A slice is a pointer and a length; buffers must not overlap, and a length must be that of the buffer.
+   What each call answers, and what every lent byte holds afterwards, is stated and proved in crates/exports/src/lib.rt. The archive is made by
+   `rt staticlib exports`, for x86-64. */
+#ifndef SIAD_H
+#define SIAD_H
+#include <stddef.h>
+#include <stdint.h>
+
+/* Empties a register: 0, every byte zero; or 3, nothing changed, under 4 bytes. */
+uint64_t siad_empty(uint8_t *reg, size_t reg_len);
+
+/* 0 for a sound register, 3 for any other. */
+uint64_t siad_sound(const uint8_t *reg, size_t reg_len);
+
+/* Finds a case by its texts: 0 with the place of its row's first byte, counted from 0; 3 for an unsound register; 30 where a text isn't allowed or the case
+   doesn't stand. With 3 and 30 the place is 0. */
+uint64_t siad_find(const uint8_t *reg, size_t reg_len, const uint8_t *region, size_t region_len, const uint8_t *asl, size_t asl_len, const uint8_t *date,
+                   size_t date_len, const uint8_t *id, size_t id_len, uint64_t *place);
+
+#endif
