@@ -1,0 +1,78 @@
+// Holds each file that its arguments name against the shape of its track, which the name's first byte says.
+ghost use Rattle.days.specs.Table.{Firsts};
+use libc::STDOUT_FILENO;
+use markup::Document;
+use markup::bytes::peek;
+use markup::file::document;
+use schema::file::ShapeAnswer;
+use tracks::shapes::shape_of;
+
+// The place from the file's start, by the bytes left there.
+fn place(long: usize, left: usize) -> u64 {
+    if left <= long {
+        return (long - left) as u64;
+    }
+    0
+}
+
+fn say(s: &[u8], shape: ShapeAnswer) {
+    match shape {
+        ShapeAnswer::Fine(n) => {
+            io::write_all(STDOUT_FILENO, b": of the shape, ");
+            io::print_decimal(STDOUT_FILENO, n as u64);
+            io::write_all(STDOUT_FILENO, b" records\n");
+        }
+        ShapeAnswer::Faulty { number, from } => {
+            io::write_all(STDOUT_FILENO, b": at fault, record ");
+            io::print_decimal(STDOUT_FILENO, number as u64);
+            io::write_all(STDOUT_FILENO, b", place ");
+            io::print_decimal(STDOUT_FILENO, place(s.len(), from));
+            io::write_all(STDOUT_FILENO, b"\n");
+        }
+    }
+}
+
+fn judge(t: &[u32; 2400], track: u64, s: &[u8])
+    requires { ⌜ Firsts (now t) ⌝ }
+{
+    let Document::Root(root) = document(s) else {
+        io::write_all(STDOUT_FILENO, b": not in the markup\n");
+        return;
+    };
+    let shape = shape_of(t, track, s, root.at);
+    say(s, shape);
+}
+
+fn track_of(name: &[u8]) -> u64 {
+    if peek(name, 0) == b'1' {
+        return 1;
+    }
+    2
+}
+
+fn one(t: &[u32; 2400], i: usize)
+    requires { ⌜ Firsts (now t) ⌝ }
+{
+    let mut path = io::buffer();
+    let n = os::arg(i, &mut path);
+    io::write_all(STDOUT_FILENO, &path[..n]);
+    let fd = os::open_read(&path[..n]);
+    if fd < 0 {
+        io::write_all(STDOUT_FILENO, b": missing\n");
+        return;
+    }
+    let mut text = io::large_buffer();
+    let long = io::read_full(fd, &mut text);
+    libc::close(fd);
+    judge(t, track_of(&path[..n]), &text[..long]);
+}
+
+fn main() {
+    let t = days::table::make();
+    let n = os::arg_count();
+    let mut i = 1;
+    while i < n {
+        one(&t, i);
+        i += 1;
+    }
+}
