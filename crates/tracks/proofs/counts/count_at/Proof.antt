@@ -1,8 +1,8 @@
 use Rattle.nodes.specs.Stands.{stands}
 use Rattle.tracks.proofs.Gathering.{count-in}
 use borrow.Author.Needs.{needs}
-use Rattle.tracks.proofs.counts.count_events.Statement.{statement}
-use Rattle.tracks.proofs.counts.count_events.Tie as tie
+use Rattle.tracks.proofs.counts.count_at.Statement.{statement}
+use Rattle.tracks.proofs.counts.count_at.Tie as tie
 
 slice-aggregate-child : tie.Need-slice-aggregate-child
 slice-aggregate-child c = search needs
@@ -32,8 +32,8 @@ returns-2 c =
     let x = rw (c .before .before .name .given .1) at (c .before .before .before .before .enter .ensures) in
     λ a m e. c .count-from .ensures _ (x _ (c .before .before .before .before .before .child .ensures a (stands m e)))
 
-pub count-events-spec : {M : Type 1} → statement M
-count-events-spec =
+pub count-at-spec : {M : Type 1} → statement M
+count-at-spec =
     tie.close
     (tie.spec
     slice-aggregate-child
