@@ -5,6 +5,7 @@ use markup::Document;
 use markup::bytes::peek;
 use markup::file::document;
 use schema::file::ShapeAnswer;
+use tracks::counts::crowded;
 use tracks::shapes::shape_of;
 
 // The place from the file's start, by the bytes left there.
@@ -15,12 +16,23 @@ fn place(long: usize, left: usize) -> u64 {
     0
 }
 
-fn say(s: &[u8], shape: ShapeAnswer) {
+// The first record with more than 128 events, if there is one.
+fn say_crowded(s: &[u8], root: usize) {
+    let first = crowded(s, root);
+    if 0 < first {
+        io::write_all(STDOUT_FILENO, b", too many events in record ");
+        io::print_decimal(STDOUT_FILENO, first as u64);
+    }
+}
+
+fn say(s: &[u8], root: usize, shape: ShapeAnswer) {
     match shape {
         ShapeAnswer::Fine(n) => {
             io::write_all(STDOUT_FILENO, b": of the shape, ");
             io::print_decimal(STDOUT_FILENO, n as u64);
-            io::write_all(STDOUT_FILENO, b" records\n");
+            io::write_all(STDOUT_FILENO, b" records");
+            say_crowded(s, root);
+            io::write_all(STDOUT_FILENO, b"\n");
         }
         ShapeAnswer::Faulty { number, from } => {
             io::write_all(STDOUT_FILENO, b": at fault, record ");
@@ -39,8 +51,9 @@ fn judge(t: &[u32; 2400], track: u64, s: &[u8])
         io::write_all(STDOUT_FILENO, b": not in the markup\n");
         return;
     };
-    let shape = shape_of(t, track, s, root.at);
-    say(s, shape);
+    let at = root.at;
+    let shape = shape_of(t, track, s, at);
+    say(s, at, shape);
 }
 
 fn track_of(name: &[u8]) -> u64 {
