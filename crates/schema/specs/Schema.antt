@@ -12,12 +12,13 @@ pub record Attr : Type 0 where
   pub required : Bool
   pub texts : Texts
 
--- an element: its name, how often it may stand in its place (most 0: any number of times), its attributes
+-- an element: its name, how often it may stand in its place (most 0: any number of times), its attributes, and whether it is counted
 pub record Head : Type 0 where
   pub named : List ℕ
   pub least : ℕ
   pub most : ℕ
   pub attrs : List Attr
+  pub counted : Bool
 
 mutual
   -- "A leaf is an element whose schema type has no child elements"; a group's children come in order; a record is held against its own node
@@ -36,9 +37,11 @@ headOf (leaf h t) = h
 headOf (group h ns) = h
 headOf (another h) = h
 
--- a file's schema: the root's name, how the names of its attributes may begin, its children with the records among them, and the record
+-- a file's schema: the root's name, how the names of its attributes may begin, its children with the records among them, the record, and how many counted
+-- elements a record may have
 pub record Schema : Type 0 where
   pub root : List ℕ
   pub free : List (List ℕ)
   pub nodes : Nodes
   pub each : Node
+  pub most : ℕ

@@ -1,9 +1,9 @@
 -- What a table says: a schema's nodes as rows of numbers, its names and its ranges in pools. A cell past the end is 0, a part past the end is empty.
 --   cells of a row: 0 and 1 the name's place and length; 2 least; 3 most; 4 the kind; 5 and 6 the kind's numbers; 7 and 8 the first child, or range, and how
 --   many; 9 and 10 the first attribute's row and how many. An attribute's row is a leaf's: least 1 says that it is required.
---   kinds: 0 a group, 1 another, 2 a date, 3 characters (5 least, 6 most), 4 a signed number, 5 a plain one, 6 one of so many digits (5)
+--   kinds: 0 a group (5: 1 where it is counted), 1 another, 2 a date, 3 characters (5 least, 6 most), 4 a signed number, 5 a plain one, 6 one of so many digits (5)
 use Prim.Native.Nat.{ℕ, zero, suc, _+_, _*_}
-use mathlib.Core.Bool.{Bool, true, false, cond, not}
+use mathlib.Core.Bool.{Bool, true, false, cond, not, _&&_}
 use mathlib.Core.List.{List, [], _∷_}
 use lib.Dec.{eqb}
 use lib.ListN.{take, drop, getD}
@@ -40,7 +40,14 @@ module _ (table pool ranges : List ℕ) where
   attrsAt i (suc n) = record { named = nameAt i; required = not (eqb (cell i 2) 0); texts = textsOf i } ∷ attrsAt (suc i) n
 
   unfoldable pub headAt : ℕ → Head
-  headAt row = record { named = nameAt row; least = cell row 2; most = cell row 3; attrs = attrsAt (cell row 9) (cell row 10) }
+  headAt row =
+      record {
+        named = nameAt row;
+        least = cell row 2;
+        most = cell row 3;
+        attrs = attrsAt (cell row 9) (cell row 10);
+        counted = eqb (cell row 4) 0 && not (eqb (cell row 5) 0);
+      }
 
   abbrev pub nodeBy : (ℕ → ℕ → Nodes) → ℕ → Node
   nodeBy children row =
@@ -61,7 +68,8 @@ module _ (table pool ranges : List ℕ) where
   namesAt i zero = []
   namesAt i (suc n) = nameAt i ∷ namesAt (suc i) n
 
-  -- a file's schema: row 0 is the root, its attributes' rows only name how a free attribute may begin, cell 5 is the record's row
+  -- a file's schema: row 0 is the root, its attributes' rows only name how a free attribute may begin, cell 5 is the record's row, cell 6 how many counted
+  -- elements a record may have
   abbrev pub schemaAt : ℕ → Schema
   schemaAt d =
       record {
@@ -69,4 +77,5 @@ module _ (table pool ranges : List ℕ) where
         free = namesAt (cell 0 9) (cell 0 10);
         nodes = nodesBy (nodeAt d) (cell 0 7) (cell 0 8);
         each = nodeAt d (cell 0 5);
+        most = cell 0 6;
       }

@@ -59,4 +59,10 @@ assistenza =
 
 unfoldable pub track1 : Schema
 track1 =
-    record { root = bytes "FlsAssDom_1"; free = Types.rootFree; nodes = another (Types.times 1 0 "Assistenza" []) ▸ none; each = assistenza }
+    record {
+      root = bytes "FlsAssDom_1";
+      free = Types.rootFree;
+      nodes = another (Types.times 1 0 "Assistenza" []) ▸ none;
+      each = assistenza;
+      most = Types.mostEvents;
+    }

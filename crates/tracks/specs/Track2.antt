@@ -15,26 +15,30 @@ valutazione =
 
 abbrev pub rivalutazione : Node
 rivalutazione =
-    Types.any-number-of "Rivalutazione"
+    Types.event
+    (Types.any-number-of "Rivalutazione"
     (Types.required "data" date ∷ Types.required "motivo" Types.motivoRivalutazione ∷ Types.required "confermaPrecedente" Types.confermaPrecedente ∷ [])
-    (valutazione ▸ none)
+    (valutazione ▸ none))
 
 abbrev pub erogazione : Node
 erogazione =
-    Types.any-number-of "Erogazione" (Types.required "data" date ∷ Types.optional "numAccessi" Types.numAccessi ∷ [])
+    Types.event
+    (Types.any-number-of "Erogazione" (Types.required "data" date ∷ Types.optional "numAccessi" Types.numAccessi ∷ [])
     (Types.one "TipoOperatore" Types.tipoOperatore ▸
     Types.any-number-of "Prestazioni" []
     (Types.one "TipoPrestazione" Types.tipoPrestazione ▸ Types.one "numPrestazione" Types.quantitaPrestazione ▸ none) ▸
-    none)
+    none))
 
 abbrev pub sospensione : Node
 sospensione =
-    Types.any-number-of "Sospensione" (Types.required "dataInizio" date ∷ Types.optional "dataFine" date ∷ [])
-    (Types.one "Motivazione" Types.motivazioneSospensione ▸ none)
+    Types.event
+    (Types.any-number-of "Sospensione" (Types.required "dataInizio" date ∷ Types.optional "dataFine" date ∷ [])
+    (Types.one "Motivazione" Types.motivazioneSospensione ▸ none))
 
 abbrev pub conclusione : Node
 conclusione =
-    Types.maybe-all-of "Conclusione" (Types.required "dataAD" date ∷ []) (Types.one "Motivazione" Types.motivazioneConclusione ▸ none)
+    Types.event
+    (Types.maybe-all-of "Conclusione" (Types.required "dataAD" date ∷ []) (Types.one "Motivazione" Types.motivazioneConclusione ▸ none))
 
 -- "Trasmissione, Erogatore, Eventi (PresaInCarico, any number of Rivalutazione, then Erogazione, then Sospensione, and at most one Conclusione)"
 abbrev pub assistenza : Node
@@ -47,4 +51,10 @@ assistenza =
 
 unfoldable pub track2 : Schema
 track2 =
-    record { root = bytes "FlsAssDom_2"; free = Types.rootFree; nodes = another (Types.times 1 0 "Assistenza" []) ▸ none; each = assistenza }
+    record {
+      root = bytes "FlsAssDom_2";
+      free = Types.rootFree;
+      nodes = another (Types.times 1 0 "Assistenza" []) ▸ none;
+      each = assistenza;
+      most = Types.mostEvents;
+    }

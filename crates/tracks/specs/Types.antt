@@ -142,7 +142,7 @@ abbrev pub optional : string.String → Texts → Attr
 optional n t = record { named = bytes n; required = false; texts = t }
 
 abbrev pub times : ℕ → ℕ → string.String → List Attr → Head
-times least most n attrs = record { named = bytes n; least = least; most = most; attrs = attrs }
+times least most n attrs = record { named = bytes n; least = least; most = most; attrs = attrs; counted = false }
 
 -- a leaf and a group that must stand once; that may be missing (minOccurs 0); that may stand any number of times
 abbrev pub one : string.String → Texts → Node
@@ -159,6 +159,15 @@ maybe-all-of n attrs ns = group (times 0 1 n attrs) ns
 
 abbrev pub any-number-of : string.String → List Attr → Nodes → Node
 any-number-of n attrs ns = group (times 0 0 n attrs) ns
+
+-- "Only the four kinds of event count", and "more than 128 events" are too many (answer 7)
+abbrev pub event : Node → Node
+event (group h ns) = group (record { named = h .named; least = h .least; most = h .most; attrs = h .attrs; counted = true }) ns
+event (leaf h t) = leaf h t
+event (another h) = another h
+
+abbrev pub mostEvents : ℕ
+mostEvents = 128
 
 -- "the root's beginning `xmlns` or `xsi:`"
 abbrev pub rootFree : List (List ℕ)
