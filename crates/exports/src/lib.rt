@@ -23,6 +23,14 @@ pub extern "C" fn siad_sound(reg: &[u8]) -> u64
     3
 }
 
+// An answer, and its place.
+fn told(place: &mut u64, at: u64, answer: u64) -> u64
+    ensures { λ r. ⌜ (r ≡ answer) × (now (place .exit) ≡ at) ⌝ }
+{
+    *place = at;
+    answer
+}
+
 // The place of a case's row: 0, or 3 for an unsound register, or 30 where a text isn't allowed or the case doesn't stand.
 #[no_mangle]
 pub extern "C" fn siad_find(
@@ -38,17 +46,8 @@ pub extern "C" fn siad_find(
 {
     let t = days::table::make();
     match soundness::find::find(&t, reg, region, asl, date, id) {
-        Lookup::At(at) => {
-            *place = at as u64;
-            0
-        }
-        Lookup::Unsound => {
-            *place = 0;
-            3
-        }
-        Lookup::Nowhere => {
-            *place = 0;
-            30
-        }
+        Lookup::At(at) => told(place, at as u64, 0),
+        Lookup::Unsound => told(place, 0, 3),
+        Lookup::Nowhere => told(place, 0, 30),
     }
 }

@@ -1,4 +1,4 @@
-use mathlib.Core.Path.{_≡_, sym, ap, _∙_}
+use mathlib.Core.Path.{_≡_, ap, _∙_}
 use Rattle.register.specs.Calls.{Found}
 use native.Mathlib.Omega.{arith}
 use borrow.Author.Needs.{needs}
@@ -7,6 +7,7 @@ use Rattle.exports.proofs.siad_find.Tie as tie
 use Rattle.exports.proofs.siad_find.Reads as reads
 use Rattle.exports.proofs.siad_find.Lts as lts
 use Rattle.days.proofs.table.make.Reads as make-reads
+use Rattle.exports.proofs.told.Reads as told-reads
 use Rattle.soundness.proofs.find.find.Reads as find-reads
 
 make-requires : tie.Need-make-requires
@@ -18,26 +19,35 @@ find-requires c κs = search needs
 enum-known-at : tie.Need-enum-known-at
 enum-known-at c = search needs
 
+told-requires : tie.Need-told-requires
+told-requires c κs = search needs
+
 enum-told : tie.Need-enum-told
 enum-told c = search needs
+
+told-requires-2 : tie.Need-told-requires-2
+told-requires-2 c κs = search needs
 
 enum-told-2 : tie.Need-enum-told-2
 enum-told-2 c = search needs
 
+told-requires-3 : tie.Need-told-requires-3
+told-requires-3 c κs = search needs
+
 returns : tie.Need-returns
 returns c =
-    let e = rw (c .before .at .given .1) at (c .before .before .before .find .ensures) in
-    (ap (λ (f : Found). f .answer) e, ap (λ (f : Found). f .place) e)
+    let e = rw (c .before .before .before .at .given .1) at (c .before .before .before .before .before .find .ensures) in
+    (c .told .ensures .0 ∙ ap (λ (f : Found). f .answer) e, c .told .ensures .1 ∙ ap (λ (f : Found). f .place) e)
 
 returns-2 : tie.Need-returns-2
 returns-2 c =
-    let e = rw (c .enum-told .given .1) at (c .before .before .find .ensures) in
-    (ap (λ (f : Found). f .answer) e, ap (λ (f : Found). f .place) e)
+    let e = rw (c .before .before .enum-told .given .1) at (c .before .before .before .before .find .ensures) in
+    (c .told2 .ensures .0 ∙ ap (λ (f : Found). f .answer) e, c .told2 .ensures .1 ∙ ap (λ (f : Found). f .place) e)
 
 returns-3 : tie.Need-returns-3
 returns-3 c =
-    let e = rw (c .enum-told2 .given .1) at (c .before .before .find .ensures) in
-    (ap (λ (f : Found). f .answer) e, ap (λ (f : Found). f .place) e)
+    let e = rw (c .before .before .enum-told2 .given .1) at (c .before .before .before .before .find .ensures) in
+    (c .told3 .ensures .0 ∙ ap (λ (f : Found). f .answer) e, c .told3 .ensures .1 ∙ ap (λ (f : Found). f .place) e)
 
 pub siad-find-spec : {M : Type 1} → statement M
 siad-find-spec =
@@ -46,8 +56,11 @@ siad-find-spec =
     make-requires
     find-requires
     enum-known-at
+    told-requires
     enum-told
+    told-requires-2
     enum-told-2
+    told-requires-3
     returns
     returns-2
     returns-3)
