@@ -1,6 +1,7 @@
 pub mod Same
 pub mod Taken
 pub mod Present
+pub mod Counting
 pub mod Fields
 pub mod Legible
 pub mod Records

@@ -15,10 +15,9 @@ use Rattle.markup.specs.Elements.{Tree}
 use Rattle.reading.specs.Within.{kids, Every}
 use Rattle.schema.specs.Schema.{Head, Node, group, Nodes, none, _▸_, headOf}
 use Rattle.schema.specs.Shape.{attrsFit, faultIn, namedIn}
-use Rattle.reading.proofs.Places.{every-map}
 use Rattle.reading.proofs.Cut.{never}
 use Rattle.nodes.specs.Lookup.{missing, firstNamed, childOf, hasChild}
-use Rattle.nodes.proofs.Taken.{Meets, Taken, over, comes, passes, taken, cond-none}
+use Rattle.nodes.proofs.Taken.{Meets, Taken, over, comes, passes, Walked, walked, taken, cond-none}
 
 -- ---- the node of a name, where there is one alone
 
@@ -118,23 +117,30 @@ module _ (p : Tree → Type 0) (x : List ℕ) where
       go true i q = let g = ltb-true k (headOf n .least) q in absurd (omega arith)
       go false i q = i q
 
--- ---- every child stands under a node of its name
+-- ---- a node among nodes
 
 pub data Among (n : Node) : Nodes → Type 0 where
   front : {ns : Nodes} → Among n (n ▸ ns)
   later : {m : Node} {ns : Nodes} → Among n ns → Among n (m ▸ ns)
 
-pub record Under (p : Tree → Type 0) (ns : Nodes) (c : Tree) : Type 0 where
-  pub node : Node
-  pub among : Among node ns
-  pub named : c .named ≡ headOf node .named
-  pub meets : Meets p node c
+none-among : (x : List ℕ) {ns : Nodes} {m : Node} → nodeOf x ns ≡ absent → Among m ns → same x (headOf m .named) ≡ true → ⊥
+unfolding nodeOf
+none-among x {m = m} e (front {ns = ns}) u = first-there m (nodeOf x ns) (rw u at e)
+none-among x e (later {m = o} {ns = ns} a) u = go (same x (headOf o .named)) (λ q. none-among x q a u) e
+  where
+    go : (b : Bool) → (nodeOf x ns ≡ absent → ⊥) → cond b (first o (nodeOf x ns)) (nodeOf x ns) ≡ absent → ⊥
+    go true i q = first-there o (nodeOf x ns) q
+    go false i q = i q
 
-pub each-under : (p : Tree → Type 0) {ns : Nodes} {k : ℕ} {cs : List Tree} → Taken p ns k cs → Every (Under p ns) cs
-each-under p over = tt
-each-under p (comes {n = n} a o h r) = (record { node = n; among = front; named = a; meets = h }, each-under p r)
-each-under p (passes {n = n} {ns = ns} {cs = cs} l r) =
-    every-map (Under p ns) (Under p (n ▸ ns)) (λ c u. record { node = u .node; among = later (u .among); named = u .named; meets = u .meets }) cs (each-under p r)
+-- the node of a name is the only one of it
+pub only-among : (x : List ℕ) {ns : Nodes} {m n : Node} → nodeOf x ns ≡ only n → Among m ns → same x (headOf m .named) ≡ true → m ≡ n
+unfolding nodeOf
+only-among x {m = m} {n = n} e (front {ns = ns}) u = first-is m n (nodeOf x ns) (rw u at e) .0
+only-among x {m = m} {n = n} e (later {m = o} {ns = ns} a) u = go (same x (headOf o .named)) (λ q. only-among x q a u) e
+  where
+    go : (b : Bool) → (nodeOf x ns ≡ only n → m ≡ n) → cond b (first o (nodeOf x ns)) (nodeOf x ns) ≡ only n → m ≡ n
+    go true i q = absurd (none-among x (first-is o n (nodeOf x ns) q .1) a u)
+    go false i q = i q
 
 -- how many of the name have come, where k of the first node have
 unfoldable pub came : List ℕ → Nodes → ℕ → ℕ
@@ -209,10 +215,13 @@ pub not-missing : (p : Tree → Type 0) (far : (c : Tree) → p c → 0 < c .fro
 not-missing p far {n} {t} m e = let f = far t (m .known .0) in let g = ap (λ (c : Tree). c .from) e in absurd (omega arith)
 
 module _ (p : Tree → Type 0) (far : (c : Tree) → p c → 0 < c .from) {h : Head} {ns : Nodes} {t : Tree} (m : Meets p (group h ns) t) where
-  pub group-taken : Taken p ns 0 (kids (t .inside))
-  group-taken =
-      taken p far (t .from) (far t (m .known .0)) ns 0 (t .inside)
+  pub group-walked : Walked p ns 0 (t .inside)
+  group-walked =
+      walked p far (t .from) (far t (m .known .0)) ns 0 (t .inside)
       (cond-none (attrsFit [] (h .attrs) (t .pairs)) (faultIn ns 0 (t .from) (t .inside)) (t .from) (far t (m .known .0)) (m .clean) .1) (m .known .1)
+
+  pub group-taken : Taken p ns 0 (kids (t .inside))
+  group-taken = taken p group-walked
 
   pub group-attrs : attrsFit [] (h .attrs) (t .pairs) ≡ true
   group-attrs =

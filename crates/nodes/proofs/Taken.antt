@@ -10,6 +10,7 @@ use borrow.Author.Tests.{leb-true, ltb-false, ltb-true, eqb-true}
 use Rattle.laws.specs.Lists.{all, same}
 use Rattle.laws.proofs.Truth.{and-left, and-right}
 use Rattle.markup.specs.Bytes.{isWs}
+use Rattle.markup.specs.Tags.{Pair}
 use Rattle.markup.specs.Elements.{Inside, Tree}
 use Rattle.markup.specs.Elements.Inside.{end, says, note, elem}
 use Rattle.reading.specs.Within.{mk, alone, kids, Deeply}
@@ -41,7 +42,7 @@ enough-taken p (n ▸ ns) k e =
     passes (leb-true (headOf n .least) k (and-left (leb (headOf n .least) k) (enough ns 0) e))
     (enough-taken p ns 0 (and-right (leb (headOf n .least) k) (enough ns 0) e))
 
-may-come : (x : List ℕ) (n : Node) (k : ℕ) → mayCome x (headOf n) k ≡ true → (x ≡ headOf n .named) × Room n k
+pub may-come : (x : List ℕ) (n : Node) (k : ℕ) → mayCome x (headOf n) k ≡ true → (x ≡ headOf n .named) × Room n k
 may-come x n k e =
     let b = and-right (same x (headOf n .named)) (eqb (headOf n .most) 0 || ltb k (headOf n .most)) e in (
       same-is x (headOf n .named) (and-left (same x (headOf n .named)) (eqb (headOf n .most) 0 || ltb k (headOf n .most)) e),
@@ -74,22 +75,36 @@ pub cond-none : (t : Bool) (f z : ℕ) → 0 < z → cond t f z ≡ 0 → (t ≡
 cond-none true f z h e = (refl, e)
 cond-none false f z h e = absurd (omega arith)
 
+-- what stands in a group, piece by piece: each child is without a fault by the node that it was sought at
+pub data Walked (p : Tree → Type 0) : Nodes → ℕ → Inside → Type 0 where
+  ended : {ns : Nodes} {k : ℕ} → enough ns k ≡ true → Walked p ns k end
+  told : {ns : Nodes} {k : ℕ} {t : List ℕ} {i : Inside} → Walked p ns k i → Walked p ns k (says t i)
+  noted : {ns : Nodes} {k : ℕ} {i : Inside} → Walked p ns k i → Walked p ns k (note i)
+  born : {ns : Nodes} {k y : ℕ} {n : List ℕ} {ps : List Pair} {j i : Inside} {m : Node} {ms : Nodes} {c : ℕ} → seek n ns k ≡ here m ms c → Meets p m (mk y n ps j)
+      → Walked p (m ▸ ms) (suc c) i → Walked p ns k (elem y n ps j i)
+
 module _ (p : Tree → Type 0) (far : (c : Tree) → p c → 0 < c .from) (z : ℕ) (away : 0 < z) where
-  pub taken : (ns : Nodes) (k : ℕ) (i : Inside) → faultIn ns k z i ≡ 0 → Deeply p i → Taken p ns k (kids i)
+  pub walked : (ns : Nodes) (k : ℕ) (i : Inside) → faultIn ns k z i ≡ 0 → Deeply p i → Walked p ns k i
   unfolding faultIn
-  taken ns k end e h = enough-taken p ns k (cond-none (enough ns k) 0 z away e .0)
-  taken ns k (says t i) e h = taken ns k i (cond-none (all isWs t) (faultIn ns k z i) z away e .1) h
-  taken ns k (note i) e h = taken ns k i e h
-  taken ns k (elem y n ps j i) e h = go (seek n ns k) refl (λ ms c f. taken ms c i f (h .2)) e
+  walked ns k end e h = ended (cond-none (enough ns k) 0 z away e .0)
+  walked ns k (says t i) e h = told (walked ns k i (cond-none (all isWs t) (faultIn ns k z i) z away e .1) h)
+  walked ns k (note i) e h = noted (walked ns k i e h)
+  walked ns k (elem y n ps j i) e h = go (seek n ns k) refl (λ ms c f. walked ms c i f (h .2)) e
     where
-      go : (s : Seek) → seek n ns k ≡ s → ((ms : Nodes) (c : ℕ) → faultIn ms c z i ≡ 0 → Taken p ms c (kids i))
-          → childFault (λ ms. faultIn ms 0 y j) (λ ms c. faultIn ms c z i) z y ps j s ≡ 0 → Taken p ns k (mk y n ps j ∷ kids i)
+      go : (s : Seek) → seek n ns k ≡ s → ((ms : Nodes) (c : ℕ) → faultIn ms c z i ≡ 0 → Walked p ms c i)
+          → childFault (λ ms. faultIn ms 0 y j) (λ ms c. faultIn ms c z i) z y ps j s ≡ 0 → Walked p ns k (elem y n ps j i)
       go nowhere s r f = absurd (omega arith)
       go (here (leaf d t) ms c) s r f =
           let b = both-none (cond (attrsFit [] (d .attrs) ps && leafFits t j) 0 y) (faultIn (leaf d t ▸ ms) (suc c) z i) f in
-          sought p (mk y n ps j) (kids i) ns k (leaf d t) ms c s (record { clean = b .0; known = (h .0, h .1, tt) }) (r (leaf d t ▸ ms) (suc c) (b .1))
+          born s (record { clean = b .0; known = (h .0, h .1, tt) }) (r (leaf d t ▸ ms) (suc c) (b .1))
       go (here (group d os) ms c) s r f =
           let b = both-none (cond (attrsFit [] (d .attrs) ps) (faultIn os 0 y j) y) (faultIn (group d os ▸ ms) (suc c) z i) f in
-          sought p (mk y n ps j) (kids i) ns k (group d os) ms c s (record { clean = b .0; known = (h .0, h .1, tt) }) (r (group d os ▸ ms) (suc c) (b .1))
-      go (here (another d) ms c) s r f =
-          sought p (mk y n ps j) (kids i) ns k (another d) ms c s (record { clean = refl; known = (h .0, h .1, tt) }) (r (another d ▸ ms) (suc c) f)
+          born s (record { clean = b .0; known = (h .0, h .1, tt) }) (r (group d os ▸ ms) (suc c) (b .1))
+      go (here (another d) ms c) s r f = born s (record { clean = refl; known = (h .0, h .1, tt) }) (r (another d ▸ ms) (suc c) f)
+
+pub taken : (p : Tree → Type 0) {ns : Nodes} {k : ℕ} {i : Inside} → Walked p ns k i → Taken p ns k (kids i)
+taken p (ended {ns = ns} {k = k} e) = enough-taken p ns k e
+taken p (told r) = taken p r
+taken p (noted r) = taken p r
+taken p (born {ns = ns} {k = k} {y = y} {n = n} {ps = ps} {j = j} {i = i} {m = m} {ms = ms} {c = c} s h r) =
+    sought p (mk y n ps j) (kids i) ns k m ms c s h (taken p r)

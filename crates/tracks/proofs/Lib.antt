@@ -16,3 +16,4 @@ pub mod Crowding
 pub mod Shaped
 pub mod ShapedEvents
 pub mod ShapedAdmissions
+pub mod Counted

@@ -12,7 +12,11 @@ use Rattle.days.specs.Dates.{dayOf}
 use Rattle.markup.specs.Elements.{Tree}
 use Rattle.reading.specs.Within.{kids}
 use Rattle.rows.specs.Row.{Key, Case, Event, never, eventNumber}
+use Rattle.schema.specs.Schema.{Schema}
+use Rattle.schema.specs.Shape.{recordsOf}
 use Rattle.nodes.specs.Lookup.{missing, childOf, hasChild, attrOf, hasAttr, textOf}
+use Rattle.tracks.specs.Track1.{track1}
+use Rattle.tracks.specs.Track2.{track2}
 
 -- a path of names from an element down
 abbrev pub _▹_ : Tree → string.String → Tree
@@ -137,7 +141,15 @@ pub data Record : Type 0 where
 unfoldable pub recordOf : ℕ → Tree → Record
 recordOf track a = cond (eqb track 1) (admission (headOf a) (admissionOf a)) (events (headOf a) (eventsOf a))
 
--- 7: "some record has more than 128 events; number of the first", 0 where none has; "7 never comes in Track 1"
+-- the number of the first record with more than 128 events, from 1; 0 where none has
 unfoldable pub tooMany : ℕ → List Tree → ℕ
 tooMany i [] = 0
 tooMany i (a ∷ rs) = cond (ltb 128 (length (eventsOf a))) (1 + i) (tooMany (1 + i) rs)
+
+-- a track's schema
+abbrev pub schemaOf : ℕ → Schema
+schemaOf track = cond (eqb track 1) track1 track2
+
+-- 7 of a file of a track: "some record has more than 128 events; number of the first"; "7 never comes in Track 1"
+abbrev pub crowdedIn : ℕ → Tree → ℕ
+crowdedIn track t = cond (eqb track 1) 0 (tooMany 0 (recordsOf (schemaOf track) t))
