@@ -18,7 +18,8 @@ use Rattle.model.specs.Checks.{Check, first, NoneHolds, FirstIs, numbered}
 use Rattle.model.proofs.ChecksLaws.{accepted-iff, refused-iff, only}
 use Rattle.register.specs.Sound.{isSound}
 use Rattle.schema.specs.Shape.{Shape, fine, faulty, shapeOf}
-use Rattle.intake.specs.Submitted.{Submitted, longest, schemaOf, entriesOf, refusal, taken, crowded, byShape, byMarkup, submitted}
+use Rattle.tracks.specs.Record.{schemaOf, crowdedIn}
+use Rattle.intake.specs.Submitted.{Submitted, longest, entriesOf, refusal, taken, byShape, byMarkup, submitted}
 use Rattle.intake.specs.Order.{isRefused, ofTree, isFaulty, recordsRead, recordsIn, fileChecks}
 
 module _ (sub : List ℕ) (track year quarter : ℕ) (reg answerList : List ℕ) where
@@ -39,7 +40,7 @@ module _ (sub : List ℕ) (track year quarter : ℕ) (reg answerList : List ℕ)
     pub short : length sub ≤ longest
     pub markup : document sub ≡ read tree left
     pub shape : shapeOf (schemaOf track) tree ≡ fine records
-    pub few : crowded sub track year quarter reg answerList tree ≡ 0
+    pub few : crowdedIn track tree ≡ 0
     pub room : length (recordsIn track sub) ≤ length answerList
     pub gives : call ≡ taken sub track year quarter reg answerList (recordsIn track sub)
 
@@ -68,7 +69,7 @@ module _ (sub : List ℕ) (track year quarter : ℕ) (reg answerList : List ℕ)
   module _ (p : isPeriod year quarter ≡ true) (k : eqb track 1 || eqb track 2 ≡ true) (s : isSound reg ≡ true) (h : length sub ≤ longest)
       (t : Tree) (l : List ℕ) (d : document sub ≡ read t l) where
     module _ (n : ℕ) (f : shapeOf (schemaOf track) t ≡ fine n) where
-      after7 : crowded sub track year quarter reg answerList t ≡ 0 → (b : Bool) → ltb (length answerList) (length (entriesOf track t)) ≡ b →
+      after7 : crowdedIn track t ≡ 0 → (b : Bool) → ltb (length answerList) (length (entriesOf track t)) ≡ b →
           call ≡ cond b (refuse 8 0) (taken sub track year quarter reg answerList (entriesOf track t)) → Outcome
       after7 c true e g = plain 8 (λ z. omega arith) g
       after7 c false e g =
@@ -89,16 +90,16 @@ module _ (sub : List ℕ) (track year quarter : ℕ) (reg answerList : List ℕ)
             gives = g ∙ ap (taken sub track year quarter reg answerList) r;
           })
 
-      after6 : (b : Bool) → eqb (crowded sub track year quarter reg answerList t) 0 ≡ b →
+      after6 : (b : Bool) → eqb (crowdedIn track t) 0 ≡ b →
           call ≡
-          cond (not b) (refuse 7 (crowded sub track year quarter reg answerList t))
+          cond (not b) (refuse 7 (crowdedIn track t))
           (cond (ltb (length answerList) (length (entriesOf track t))) (refuse 8 0) (taken sub track year quarter reg answerList (entriesOf track t))) → Outcome
-      after6 false e g = stopped 7 (crowded sub track year quarter reg answerList t) g (λ z. omega arith) (λ _ z. absurd (z refl))
-      after6 true e g = after7 (eqb-true (crowded sub track year quarter reg answerList t) 0 e) (ltb (length answerList) (length (entriesOf track t))) refl g
+      after6 false e g = stopped 7 (crowdedIn track t) g (λ z. omega arith) (λ _ z. absurd (z refl))
+      after6 true e g = after7 (eqb-true (crowdedIn track t) 0 e) (ltb (length answerList) (length (entriesOf track t))) refl g
 
     after5 : (f : Shape) → shapeOf (schemaOf track) t ≡ f → call ≡ byShape sub track year quarter reg answerList t f → Outcome
     after5 (faulty n place) e g = stopped 6 n g (λ z. omega arith) (λ z _. absurd (z refl))
-    after5 (fine n) e g = after6 n e (eqb (crowded sub track year quarter reg answerList t) 0) refl g
+    after5 (fine n) e g = after6 n e (eqb (crowdedIn track t) 0) refl g
 
   module _ (p : isPeriod year quarter ≡ true) (k : eqb track 1 || eqb track 2 ≡ true) (s : isSound reg ≡ true) where
     after4 : length sub ≤ longest → (d : Read Tree) → document sub ≡ d → call ≡ byMarkup sub track year quarter reg answerList d → Outcome
@@ -135,13 +136,13 @@ module _ (sub : List ℕ) (track year quarter : ℕ) (reg answerList : List ℕ)
   last-four : (d : Read Tree) → byMarkup sub track year quarter reg answerList d .answer ≡
       cond (isRefused d) 5
       (cond (ofTree (λ t. isFaulty (shapeOf (schemaOf track) t)) d) 6
-      (cond (ofTree (λ t. not (eqb (crowded sub track year quarter reg answerList t) 0)) d) 7
+      (cond (ofTree (λ t. not (eqb (crowdedIn track t) 0)) d) 7
       (cond (ofTree (λ t. ltb (length answerList) (length (entriesOf track t))) d) 8 0)))
   last-four refused = refl
   last-four (read t l) = by (shapeOf (schemaOf track) t)
     where
       x : Bool
-      x = not (eqb (crowded sub track year quarter reg answerList t) 0)
+      x = not (eqb (crowdedIn track t) 0)
 
       y : Bool
       y = ltb (length answerList) (length (entriesOf track t))
@@ -149,7 +150,7 @@ module _ (sub : List ℕ) (track year quarter : ℕ) (reg answerList : List ℕ)
       by : (f : Shape) → byShape sub track year quarter reg answerList t f .answer ≡ cond (isFaulty f) 6 (cond x 7 (cond y 8 0))
       by (faulty n place) = refl
       by (fine n) =
-          spread x (refuse 7 (crowded sub track year quarter reg answerList t)) (cond y (refuse 8 0) (taken sub track year quarter reg answerList (entriesOf track t)))
+          spread x (refuse 7 (crowdedIn track t)) (cond y (refuse 8 0) (taken sub track year quarter reg answerList (entriesOf track t)))
           ∙ ap (λ (a : ℕ). cond x 7 a) (spread y (refuse 8 0) (taken sub track year quarter reg answerList (entriesOf track t)))
 
   pub answer-is : call .answer ≡ first (fileChecks sub track year quarter reg answerList) (document sub)

@@ -26,7 +26,7 @@ use Rattle.register.proofs.States.{laid-siad, cases-held, events-held}
 use Rattle.schema.specs.Shape.{recordsOf, fine, shapeOf}
 use Rattle.tracks.specs.Track1.{track1}
 use Rattle.tracks.specs.Track2.{track2}
-use Rattle.tracks.specs.Record.{Record, recordOf}
+use Rattle.tracks.specs.Record.{Record, recordOf, schemaOf}
 use Rattle.tracks.specs.WellRead.{WellRead}
 use Rattle.tracks.proofs.WellRead.{file-read-1, file-read-2}
 use Rattle.checks.specs.Tests.{Context}
@@ -36,7 +36,7 @@ use Rattle.checks.proofs.Accepted.{siad-discarded, siad-conserved}
 use Rattle.checks.proofs.Valid.{Sound}
 use Rattle.checks.proofs.Kept.{kept}
 use Rattle.checks.proofs.WellReadable.{readable}
-use Rattle.intake.specs.Submitted.{Submitted, schemaOf, entriesOf, contextOf, submitted}
+use Rattle.intake.specs.Submitted.{Submitted, entriesOf, contextOf, submitted}
 use Rattle.intake.specs.Order.{recordsIn}
 use Rattle.intake.specs.Demands.{Conserved}
 use Rattle.intake.proofs.Outcome.{Passed, Outcome, stopped, passed, outcome}

@@ -12,8 +12,8 @@ use Rattle.markup.specs.Document.{document}
 use Rattle.model.specs.Checks.{Check, check}
 use Rattle.register.specs.Sound.{isSound}
 use Rattle.schema.specs.Shape.{Shape, fine, faulty, shapeOf}
-use Rattle.tracks.specs.Record.{Record}
-use Rattle.intake.specs.Submitted.{longest, schemaOf, entriesOf, crowded}
+use Rattle.tracks.specs.Record.{Record, schemaOf, crowdedIn}
+use Rattle.intake.specs.Submitted.{longest, entriesOf}
 
 -- "not in the markup above"
 abbrev pub isRefused : Read Tree → Bool
@@ -47,6 +47,6 @@ module _ (sub : List ℕ) (track year quarter : ℕ) (reg answerList : List ℕ)
       check 4 (λ d. ltb longest (length sub)) ∷
       check 5 isRefused ∷
       check 6 (ofTree (λ t. isFaulty (shapeOf (schemaOf track) t))) ∷
-      check 7 (ofTree (λ t. not (eqb (crowded sub track year quarter reg answerList t) 0))) ∷
+      check 7 (ofTree (λ t. not (eqb (crowdedIn track t) 0))) ∷
       check 8 (ofTree (λ t. ltb (length answerList) (length (entriesOf track t)))) ∷
       []

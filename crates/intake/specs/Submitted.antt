@@ -14,11 +14,8 @@ use Rattle.model.specs.Flow.{State}
 use Rattle.register.specs.Layout.{siad}
 use Rattle.register.specs.Bytes.{room, stateOf, encode}
 use Rattle.register.specs.Sound.{isSound}
-use Rattle.schema.specs.Schema.{Schema}
 use Rattle.schema.specs.Shape.{Shape, fine, faulty, shapeOf, recordsOf}
-use Rattle.tracks.specs.Track1.{track1}
-use Rattle.tracks.specs.Track2.{track2}
-use Rattle.tracks.specs.Record.{Record, recordOf, tooMany}
+use Rattle.tracks.specs.Record.{Record, recordOf, schemaOf, crowdedIn}
 use Rattle.checks.specs.Tests.{Context}
 use Rattle.checks.specs.Checks.{siadMachine}
 
@@ -35,9 +32,6 @@ pub record Submitted : Type 0 where
 -- "the submission is longer than 1,048,576 bytes"
 abbrev pub longest : ℕ
 longest = 1048576
-
-abbrev pub schemaOf : ℕ → Schema
-schemaOf track = cond (eqb track 1) track1 track2
 
 -- a file's records, in file order
 abbrev pub entriesOf : ℕ → Tree → List Record
@@ -68,14 +62,10 @@ module _ (sub : List ℕ) (track year quarter : ℕ) (reg answerList : List ℕ)
         answers = ns ++ drop (length rs) answerList;
       }
 
-  -- 7: "some record has more than 128 events; number of the first"; "7 never comes in Track 1"
-  abbrev pub crowded : Tree → ℕ
-  crowded t = cond (eqb track 1) 0 (tooMany 0 (recordsOf (schemaOf track) t))
-
   -- 7, 8, 0
   abbrev pub ofShape : Tree → Submitted
   ofShape t =
-      cond (not (eqb (crowded t) 0)) (refusal 7 (crowded t))
+      cond (not (eqb (crowdedIn track t) 0)) (refusal 7 (crowdedIn track t))
       (cond (ltb (length answerList) (length (entriesOf track t))) (refusal 8 0) (taken (entriesOf track t)))
 
   -- 6

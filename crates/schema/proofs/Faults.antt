@@ -1,4 +1,4 @@
--- The fault in an element by its row, from what the code reads of its start tag.
+-- The fault in an element by its row, and the number of counted elements in it, from what the code reads of its start tag.
 use Prim.Native.Nat.{ℕ, zero, suc, _+_, _-_}
 use mathlib.Core.Path.{_≡_, refl, sym, ap, _∙_}
 use mathlib.Core.Bool.{Bool, true, false, cond, _&&_}
@@ -16,9 +16,11 @@ use Rattle.markup.specs.View.{left, endingOf, OfPairs}
 use Rattle.reading.proofs.Cut.{never, read-in}
 use Rattle.schema.specs.Schema.{Attr, leaf, group}
 use Rattle.schema.specs.Shape.{attrsFit, leafFits, faultIn, faultOf}
+use Rattle.schema.specs.Counted.{countIn, countOf}
 use Rattle.schema.specs.Table.{cell, textsOf, attrsAt, headAt, nodesBy, nodeAt}
 use Rattle.schema.specs.View.{faultWithin}
 use Rattle.schema.proofs.Tagged.{Tagged, tagged}
+use Rattle.schema.proofs.Counts.{countWithin, node-count, another-count, empty-count}
 
 module _ (table pool ranges : List ℕ) (row : ℕ) where
   -- the attributes of a row
@@ -62,15 +64,16 @@ module _ (table pool ranges : List ℕ) (row : ℕ) where
 -- what stands in an element of a row, by its kind
 module _ (table pool ranges : List ℕ) (d row z : ℕ) (i : Inside) {kind : ℕ} (k : kind ≡ cell table pool ranges row 4) where
   pub within-group : {first n : ℕ} → kind ≡ 0 → first ≡ cell table pool ranges row 7 → n ≡ cell table pool ranges row 8
-      → faultWithin table pool ranges d row z i ≡ faultIn (nodesBy table pool ranges (nodeAt table pool ranges d) first n) 0 z i
+      → (faultWithin table pool ranges d row z i ≡ faultIn (nodesBy table pool ranges (nodeAt table pool ranges d) first n) 0 z i)
+      × (countWithin table pool ranges d row i ≡ countIn (nodesBy table pool ranges (nodeAt table pool ranges d) first n) 0 i)
   within-group e f g =
       let q : eqb (cell table pool ranges row 4) 0 ≡ true = eq-eqb (cell table pool ranges row 4) 0 (sym k ∙ e) in
-      rw (q, f, g)
+      (rw (q, f, g), rw (q, f, g))
 
-  pub within-leaf : (kind ≡ 0 → ⊥) → faultWithin table pool ranges d row z i ≡ cond (leafFits (textsOf table pool ranges row) i) 0 z
+  pub within-leaf : (kind ≡ 0 → ⊥) → (faultWithin table pool ranges d row z i ≡ cond (leafFits (textsOf table pool ranges row) i) 0 z) × (countWithin table pool ranges d row i ≡ 0)
   within-leaf e =
       let q : eqb (cell table pool ranges row 4) 0 ≡ false = ne-eqb (cell table pool ranges row 4) 0 (λ h. e (k ∙ h)) in
-      rw q
+      (rw q, rw q)
 
 -- a start tag's end, as the code reads it
 module _ (after : List ℕ) (a : Attributes) (rest : List ℕ) (e : attributes after ≡ read a rest) where
@@ -85,8 +88,14 @@ module _ (table pool ranges s : List ℕ) (at levels row : ℕ) (t : Tree) (m : 
   abbrev theFault : ℕ
   theFault = faultOf (nodeAt table pool ranges levels row) t
 
-  pub another-past : {kind : ℕ} {y : List ℕ} → kind ≡ cell table pool ranges row 4 → kind ≡ 1 → read tt y ≡ left (element levels (drop at s)) → (theFault ≡ 0) × (y ≡ m)
-  another-past k h p = (node-another table pool ranges row k levels t h, read-in (rw e at p) .1)
+  abbrev theCount : ℕ
+  theCount = countOf (nodeAt table pool ranges levels row) t
+
+  pub another-known : {kind : ℕ} {y : List ℕ} → kind ≡ cell table pool ranges row 4 → kind ≡ 1 → y ≡ m → (theFault ≡ 0) × (0 ≡ theCount) × (y ≡ m)
+  another-known k h p = (node-another table pool ranges row k levels t h, another-count table pool ranges row k levels t (λ e. omega arith), p)
+
+  pub another-past : {kind : ℕ} {y : List ℕ} → kind ≡ cell table pool ranges row 4 → kind ≡ 1 → read tt y ≡ left (element levels (drop at s)) → (theFault ≡ 0) × (0 ≡ theCount) × (y ≡ m)
+  another-past k h p = another-known k h (read-in (rw e at p) .1)
 
   pub another-refused : refused ≡ left (element levels (drop at s)) → ⊥
   another-refused p = let v = rw e at p in never cc
@@ -101,6 +110,12 @@ module _ (table pool ranges s : List ℕ) (at levels row : ℕ) (t : Tree) (m : 
       go : (d : ℕ) → element d (drop at s) ≡ read t m → d ≡ suc (d - 1)
       go zero e = never cc
       go (suc d) e = omega arith
+
+  count-is : theCount ≡ countWithin table pool ranges (levels - 1) row (parts .inside)
+  count-is =
+      ap (λ (d : ℕ). countOf (nodeAt table pool ranges d row) t) some-levels
+      ∙ node-count table pool ranges (levels - 1) row t
+      ∙ ap (λ (t : Tree). countWithin table pool ranges (levels - 1) row (t .inside)) (parts .is)
 
   module _ {kind : ℕ} (k : kind ≡ cell table pool ranges row 4) (h : kind ≡ 1 → ⊥) where
     fault-is : theFault ≡ cond (attrsFit [] (attrsOf table pool ranges row) (parts .attrs .pairs)) (faultWithin table pool ranges (levels - 1) row (length s - at) (parts .inside)) (length s - at)
@@ -123,18 +138,22 @@ module _ (table pool ranges s : List ℕ) (at levels row : ℕ) (t : Tree) (m : 
         tag-fit : b ≡ true → theFault ≡ faultWithin table pool ranges (levels - 1) row (length s - at) (parts .inside)
         tag-fit g = let i = sym (f (parts .attrs) (parts .rest) attrs-are) ∙ g in fault-is ∙ rw i
 
-        pub tag-shut : {y : List ℕ} → b ≡ true → read true y ≡ endingOf (attributes after) → (theFault ≡ faultWithin table pool ranges (levels - 1) row (length s - at) end) × (y ≡ m)
+        pub tag-shut : {y : List ℕ} → b ≡ true → read true y ≡ endingOf (attributes after)
+            → (theFault ≡ faultWithin table pool ranges (levels - 1) row (length s - at) end) × (0 ≡ theCount) × (y ≡ m)
         tag-shut g w =
             let v = ends-with after (parts .attrs) (parts .rest) attrs-are true w in
-            let x = read-in (rw (v .0) at (parts .holds)) in
-            (tag-fit g ∙ ap (faultWithin table pool ranges (levels - 1) row (length s - at)) (sym (x .0)), v .1 ∙ x .1)
+            let x = read-in (rw (v .0) at (parts .holds)) in (
+              tag-fit g ∙ ap (faultWithin table pool ranges (levels - 1) row (length s - at)) (sym (x .0)),
+              empty-count table pool ranges (levels - 1) row ∙ ap (countWithin table pool ranges (levels - 1) row) (x .0) ∙ sym count-is,
+              v .1 ∙ x .1,
+            )
 
         pub tag-open : {y : List ℕ} → b ≡ true → read false y ≡ endingOf (attributes after)
-            → (i : Inside) × (content (element (levels - 1)) n y ≡ read i m) × (theFault ≡ faultWithin table pool ranges (levels - 1) row (length s - at) i)
+            → (i : Inside) × (content (element (levels - 1)) n y ≡ read i m) × (theFault ≡ faultWithin table pool ranges (levels - 1) row (length s - at) i) × (theCount ≡ countWithin table pool ranges (levels - 1) row i)
         tag-open {y} g w =
             let v = ends-with after (parts .attrs) (parts .rest) attrs-are false w in
             let x = rw (v .0) at (parts .holds) in
-            (parts .inside, ap (λ (z : List ℕ). content (element (levels - 1)) z y) (sym same-name) ∙ ap (content (element (levels - 1)) (t .named)) (v .1) ∙ x, tag-fit g)
+            (parts .inside, ap (λ (z : List ℕ). content (element (levels - 1)) z y) (sym same-name) ∙ ap (content (element (levels - 1)) (t .named)) (v .1) ∙ x, tag-fit g, count-is)
 
       pub tag-refused : refused ≡ endingOf (attributes after) → ⊥
       tag-refused w = ends-refused after (parts .attrs) (parts .rest) attrs-are w

@@ -1,4 +1,4 @@
--- What stands in a group, piece after piece, held against the nodes still to come.
+-- What stands in a group, piece after piece, held against the nodes still to come: its first fault, and beside that what g makes of it.
 use Prim.Native.Nat.{ℕ, zero, suc, _+_, _<_}
 use mathlib.Core.Path.{_≡_, refl, sym, ap, _∙_}
 use mathlib.Core.Bool.{Bool, true, false}
@@ -10,6 +10,7 @@ use Rattle.laws.specs.Lists.{all}
 use Rattle.markup.specs.Bytes.{isWs}
 use Rattle.markup.specs.Reading.Read.{refused, read}
 use Rattle.markup.specs.Elements.{Inside, Tree, piece, content, element}
+use Rattle.markup.specs.Elements.Inside.{end, says, note}
 use Rattle.markup.specs.Elements.Piece.{words, aside, closing, child}
 use Rattle.reading.specs.Within.{kidOn}
 use Rattle.schema.specs.Schema.{Node, leaf, group, another, Nodes, _▸_}
@@ -39,74 +40,99 @@ module _ (ns : Nodes) (k z : ℕ) (t : Tree) (i : Inside) where
   unfolding faultIn
   kid-nowhere e = rw (← e)
 
-module _ (d : ℕ) (n m : List ℕ) (target : ℕ) (ns : Nodes) (k z : ℕ) (l : List ℕ) (o : Onward d n m target (faultIn ns k z) l) where
-  pub group-past : {y : List ℕ} {b : Bool} → read closing y ≡ piece n l → b ≡ enough ns k → b ≡ true → (target ≡ 0) × (y ≡ m)
-  unfolding faultIn
-  group-past p e f =
-      let x = onward-close d n m target (faultIn ns k z) l o p in
-      let i = sym e ∙ f in
-      (sym (x .0) ∙ rw i, x .1)
+-- what g makes of it does not depend on texts and comments
+pub record Quiet {R : Type 0} (g : Inside → R) : Type 0 where
+  pub texts : (t : List ℕ) (i : Inside) → g (says t i) ≡ g i
+  pub notes : (i : Inside) → g (note i) ≡ g i
 
-  pub group-short : {y : List ℕ} {b : Bool} → read closing y ≡ piece n l → b ≡ enough ns k → b ≡ false → target ≡ z
-  unfolding faultIn
-  group-short p e f =
-      let x = onward-close d n m target (faultIn ns k z) l o p in
-      let i = sym e ∙ f in
-      sym (x .0) ∙ rw i
+-- the fault in what is left is that of the whole, and g makes of what is left what was told of the whole
+abbrev pub Walk : {R : Type 0} → ℕ → List ℕ → List ℕ → ℕ → R → Nodes → ℕ → ℕ → (Inside → R) → List ℕ → Type 0
+Walk {R} d n m fault told ns k z g l = Onward {R = ℕ × R} d n m (fault, told) (λ i. (faultIn ns k z i, g i)) l
 
-  pub group-text : {t y : List ℕ} {b : Bool} → read (words t) y ≡ piece n l → b ≡ all isWs t → b ≡ true → Onward d n m target (faultIn ns k z) y
-  unfolding faultIn
-  group-text p e f =
-      let i = sym e ∙ f in
-      onward-to (λ j. rw i) (onward-text d n m target (faultIn ns k z) l o p)
+module _ {R : Type 0} {a b : ℕ} {p q : R} where
+  both : a ≡ b → p ≡ q → _≡_ {A = ℕ × R} (a, p) (b, q)
+  both e f = rw (e, f)
 
-  pub group-between : {t y : List ℕ} {b : Bool} → read (words t) y ≡ piece n l → b ≡ all isWs t → b ≡ false → target ≡ z
-  unfolding faultIn
-  group-between p e f =
-      let i = sym e ∙ f in
-      sym (onward-text d n m target (faultIn ns k z) l o p .same) ∙ rw i
+  one : _≡_ {A = ℕ × R} (a, p) (b, q) → a ≡ b
+  one e = ap (λ (x : ℕ × R). x .0) e
 
-  pub group-note : {y : List ℕ} → read aside y ≡ piece n l → Onward d n m target (faultIn ns k z) y
+  other : _≡_ {A = ℕ × R} (a, p) (b, q) → p ≡ q
+  other e = ap (λ (x : ℕ × R). x .1) e
+
+module _ {R : Type 0} (d : ℕ) (n m : List ℕ) (fault : ℕ) (told : R) (ns : Nodes) (k z : ℕ) (g : Inside → R) (l : List ℕ) (o : Walk d n m fault told ns k z g l) where
+  abbrev f : Inside → ℕ × R
+  f i = (faultIn ns k z i, g i)
+
+  pub group-past : {y : List ℕ} {b : Bool} → read closing y ≡ piece n l → b ≡ enough ns k → b ≡ true → (fault ≡ 0) × (g end ≡ told) × (y ≡ m)
   unfolding faultIn
-  group-note p = onward-to (λ j. refl) (onward-note d n m target (faultIn ns k z) l o p)
+  group-past p e h =
+      let x = onward-close d n m (fault, told) f l o p in
+      let i = sym e ∙ h in
+      (sym (one (x .0)) ∙ rw i, other (x .0), x .1)
+
+  pub group-short : {y : List ℕ} {b : Bool} → read closing y ≡ piece n l → b ≡ enough ns k → b ≡ false → fault ≡ z
+  unfolding faultIn
+  group-short p e h =
+      let x = onward-close d n m (fault, told) f l o p in
+      let i = sym e ∙ h in
+      sym (one (x .0)) ∙ rw i
+
+  pub group-text : {t y : List ℕ} {b : Bool} → Quiet g → read (words t) y ≡ piece n l → b ≡ all isWs t → b ≡ true → Walk d n m fault told ns k z g y
+  unfolding faultIn
+  group-text {t} q p e h =
+      let i = sym e ∙ h in
+      onward-to (λ j. both (rw i) (q .texts t j)) (onward-text d n m (fault, told) f l o p)
+
+  pub group-between : {t y : List ℕ} {b : Bool} → read (words t) y ≡ piece n l → b ≡ all isWs t → b ≡ false → fault ≡ z
+  unfolding faultIn
+  group-between p e h =
+      let i = sym e ∙ h in
+      sym (one (onward-text d n m (fault, told) f l o p .same)) ∙ rw i
+
+  pub group-note : {y : List ℕ} → Quiet g → read aside y ≡ piece n l → Walk d n m fault told ns k z g y
+  unfolding faultIn
+  group-note q p = onward-to (λ j. both refl (q .notes j)) (onward-note d n m (fault, told) f l o p)
 
   pub group-refused : refused ≡ piece n l → ⊥
-  group-refused p = onward-refused d n m target (faultIn ns k z) l o p
+  group-refused p = onward-refused d n m (fault, told) f l o p
 
   module _ (p : read child l ≡ piece n l) where
-    pub group-nowhere : ((t : Tree) (y : List ℕ) → element d l ≡ read t y → nowhere ≡ seek (t .named) ns k) → target ≡ z
+    pub group-nowhere : ((t : Tree) (y : List ℕ) → element d l ≡ read t y → nowhere ≡ seek (t .named) ns k) → fault ≡ z
     group-nowhere h =
-        let x = onward-child d n m target (faultIn ns k z) l o p in
-        sym (x .3 .same) ∙ kid-nowhere ns k z (x .0) (x .3 .left) (h (x .0) (x .1) (x .2))
+        let x = onward-child d n m (fault, told) f l o p in
+        sym (one (x .3 .same)) ∙ kid-nowhere ns k z (x .0) (x .3 .left) (h (x .0) (x .1) (x .2))
 
     module _ {nd : Node} {ms : Nodes} {c : ℕ} (h : (t : Tree) (y : List ℕ) → element d l ≡ read t y → here nd ms c ≡ seek (t .named) ns k) where
-      pub group-fault : {w : ℕ} → ((t : Tree) (y : List ℕ) → element d l ≡ read t y → (faultOf nd t ≡ w) × (0 < w)) → (target ≡ w) × (0 < w)
-      group-fault {w} g =
-          let x = onward-child d n m target (faultIn ns k z) l o p in
-          let v = g (x .0) (x .1) (x .2) in
+      pub group-fault : {w : ℕ} → ((t : Tree) (y : List ℕ) → element d l ≡ read t y → (faultOf nd t ≡ w) × (0 < w)) → (fault ≡ w) × (0 < w)
+      group-fault {w} u =
+          let x = onward-child d n m (fault, told) f l o p in
+          let v = u (x .0) (x .1) (x .2) in
           let e = kid-here ns k z (x .0) (x .3 .left) (h (x .0) (x .1) (x .2)) in
-          (sym (x .3 .same) ∙ e ∙ rw (v .0) (first-fault w (faultIn (nd ▸ ms) (suc c) z (x .3 .left)) (v .1)), v .1)
+          (sym (one (x .3 .same)) ∙ e ∙ rw (v .0) (first-fault w (faultIn (nd ▸ ms) (suc c) z (x .3 .left)) (v .1)), v .1)
 
-      pub group-child : {q : List ℕ} → ((t : Tree) (y : List ℕ) → element d l ≡ read t y → (faultOf nd t ≡ 0) × (q ≡ y)) → Onward d n m target (faultIn (nd ▸ ms) (suc c) z) q
-      group-child {q} g =
-          let x = onward-child d n m target (faultIn ns k z) l o p in
-          let v = g (x .0) (x .1) (x .2) in
+      -- after a child without fault: g' makes of what follows what g makes of it with the child
+      pub group-child : (g' : Inside → R) {q : List ℕ}
+          → ((t : Tree) (y : List ℕ) → element d l ≡ read t y → (faultOf nd t ≡ 0) × ((i : Inside) → g (kidOn t i) ≡ g' i) × (q ≡ y)) → Walk d n m fault told (nd ▸ ms) (suc c) z g' q
+      group-child g' {q} u =
+          let x = onward-child d n m (fault, told) f l o p in
+          let v = u (x .0) (x .1) (x .2) in
           record {
             left = x .3 .left;
-            reads = ap (content (element d) n) (v .1) ∙ x .3 .reads;
-            same = sym (kid-here ns k z (x .0) (x .3 .left) (h (x .0) (x .1) (x .2)) ∙ rw (v .0)) ∙ x .3 .same;
+            reads = ap (content (element d) n) (v .2) ∙ x .3 .reads;
+            same = sym (both (kid-here ns k z (x .0) (x .3 .left) (h (x .0) (x .1) (x .2)) ∙ rw (v .0)) (v .1 (x .3 .left))) ∙ x .3 .same;
           }
 
 -- the nodes as rows of a table
-module _ (table pool ranges : List ℕ) (d first n z : ℕ) where
+module _ {R : Type 0} (table pool ranges : List ℕ) (d first n z : ℕ) (g : Nodes → ℕ → Inside → R) where
   nodes-start : nodesBy table pool ranges (nodeAt table pool ranges d) first n ≡ nodesFrom table pool ranges d first n 0
   nodes-start = rw (add-zero first, sub-zero n)
 
   pub group-start : (x l : List ℕ) (i : Inside) (m : List ℕ) → content (element d) x l ≡ read i m
-      → Onward d x m (faultIn (nodesBy table pool ranges (nodeAt table pool ranges d) first n) 0 z i) (faultIn (nodesFrom table pool ranges d first n 0) 0 z) l
-  group-start x l i m e = rw nodes-start (onward-start d x l i m (faultIn (nodesFrom table pool ranges d first n 0) 0 z) e)
+      → Walk d x m (faultIn (nodesBy table pool ranges (nodeAt table pool ranges d) first n) 0 z i) (g (nodesBy table pool ranges (nodeAt table pool ranges d) first n) 0 i) (nodesFrom table pool ranges d first n 0) 0 z (g (nodesFrom table pool ranges d first n 0) 0) l
+  group-start x l i m e = rw nodes-start (onward-start {R = ℕ × R} d x l i m (λ i. (faultIn (nodesFrom table pool ranges d first n 0) 0 z i, g (nodesFrom table pool ranges d first n 0) 0 i)) e)
 
   -- the item of the child that was passed, with one more of it
-  pub group-next : {x m l : List ℕ} {target : ℕ} (j c : ℕ) → j < n → Onward d x m target (faultIn (nodeAt table pool ranges d (first + j) ▸ nodesFrom table pool ranges d first n (j + 1)) (suc c) z) l
-      → Onward d x m target (faultIn (nodesFrom table pool ranges d first n j) (c + 1) z) l
+  pub group-next : {x m l : List ℕ} {fault : ℕ} {told : R} (j c : ℕ) → j < n
+      → Walk d x m fault told (nodeAt table pool ranges d (first + j) ▸ nodesFrom table pool ranges d first n (j + 1)) (suc c) z (g (nodeAt table pool ranges d (first + j) ▸ nodesFrom table pool ranges d first n (j + 1)) (suc c)) l
+      → Walk d x m fault told (nodesFrom table pool ranges d first n j) (c + 1) z (g (nodesFrom table pool ranges d first n j) (c + 1)) l
   group-next j c h o = rw (nodes-turn table pool ranges d first n j h, add-one c) o

@@ -62,11 +62,11 @@ leaf-other x z t (elem y n ps i k) e f = refl
 pub leaf-empty : (x : Texts) (z : ℕ) {b : Bool} → b ≡ fitsText x [] → leafFault x z end ≡ cond b 0 z
 leaf-empty x z e = rw e
 
-pub tells-to : (s : List ℕ) (r : Outcome) {f g : ℕ} (m : List ℕ) → g ≡ f → Tells s r f m → Tells s r g m
-tells-to s r m e h = rw e h
+pub tells-to : (s : List ℕ) (r : Outcome) {f g k c : ℕ} (m : List ℕ) → g ≡ f → c ≡ k → Tells s r f k m → Tells s r g c m
+tells-to s r m e h w = rw (e, h) w
 
 pub further : (s : List ℕ) (a b : ℕ) (r : Outcome) → a ≤ b → okOutcome s b r → okOutcome s a r
-further s a b (outcome.Past p) h k = omega arith
+further s a b (outcome.Past p c) h k = omega arith
 further s a b (outcome.Fault z) h k = tt
 
 -- an element of a row that is empty

@@ -8,5 +8,6 @@ pub mod Tagged
 pub mod Onward
 pub mod Leaf
 pub mod Group
+pub mod Counts
 pub mod Faults
 pub mod Whole

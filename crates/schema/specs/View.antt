@@ -8,10 +8,12 @@ use lib.Dec.{eqb, leb}
 use lib.ListN.{length, drop}
 use Rattle.laws.specs.Decimal.{isDigit, decimal}
 use Rattle.laws.specs.Lists.{all, same}
-use Rattle.markup.specs.Elements.{Inside}
+use Rattle.markup.specs.Elements.{Inside, Tree}
 use Rattle.markup.specs.Elements.Inside.{end, says, note, elem}
-use Rattle.schema.specs.Schema.{Attr}
-use Rattle.schema.specs.Shape.{begins, Seek, nowhere, here, leafFits, faultIn, Shape, fine, faulty}
+use Rattle.reading.specs.Within.{kids}
+use Rattle.schema.specs.Schema.{Attr, headOf, Schema}
+use Rattle.schema.specs.Shape.{begins, Seek, nowhere, here, leafFits, orElse, faultIn, namedIn, firstBad}
+use Rattle.schema.specs.Counted.{firstOver, Held, good, bad, over, heldBy}
 use Rattle.schema.specs.Table.{cell, nameAt, textsOf, nodesBy, nodeAt}
 use Rattle.schema.specs.declared.texts.Number.{Number}
 use Rattle.schema.specs.declared.texts.Number.the-variants as number
@@ -21,6 +23,8 @@ use Rattle.schema.specs.declared.children.Spot.{Spot}
 use Rattle.schema.specs.declared.children.Spot.the-variants as spot
 use Rattle.schema.specs.declared.file.ShapeAnswer.{ShapeAnswer}
 use Rattle.schema.specs.declared.file.ShapeAnswer.the-variants as answer
+use Rattle.schema.specs.declared.file.Seen.{Seen}
+use Rattle.schema.specs.declared.file.Seen.the-variants as seen
 
 -- two numbers that no range of a table tells apart: its ends are below 65,536
 abbrev pub Near : ℕ → ℕ → Type 0
@@ -50,13 +54,14 @@ abbrev pub okSpot : ℕ → ℕ → Spot → Type 0
 okSpot n count (spot.Here j k) = (j < n) × (k ≤ count)
 okSpot n count spot.Nowhere = Unit
 
--- there is no fault, and m is what is left; or the fault, which is never 0
-abbrev pub Tells : List ℕ → Outcome → ℕ → List ℕ → Type 0
-Tells s (outcome.Past p) fault m = (fault ≡ 0) × (drop p s ≡ m)
-Tells s (outcome.Fault z) fault m = (fault ≡ z) × (0 < z)
+-- there is no fault, there are so many counted elements, and m is what is left; or the fault, which is never 0
+abbrev pub Tells : List ℕ → Outcome → ℕ → ℕ → List ℕ → Type 0
+Tells s (outcome.Past p c) fault count m = (fault ≡ 0) × (c ≡ count) × (drop p s ≡ m)
+Tells s (outcome.Fault z) fault count m = (fault ≡ z) × (0 < z)
 
+-- an element has more bytes than counted elements in it
 abbrev pub okOutcome : List ℕ → ℕ → Outcome → Type 0
-okOutcome s at (outcome.Past p) = (at < p) × (p ≤ length s)
+okOutcome s at (outcome.Past p c) = (at + c < p) × (p ≤ length s)
 okOutcome s at (outcome.Fault z) = Unit
 
 abbrev pub isEnd : Inside → Bool
@@ -72,11 +77,28 @@ faultWithin table pool ranges d row z i =
     (faultIn (nodesBy table pool ranges (nodeAt table pool ranges d) (cell table pool ranges row 7) (cell table pool ranges row 8)) 0 z i)
     (cond (leafFits (textsOf table pool ranges row) i) 0 z)
 
-abbrev pub viewShape : ShapeAnswer → Shape
-viewShape (answer.Fine n) = fine n
-viewShape (answer.Faulty i z) = faulty i z
+abbrev pub viewShape : ShapeAnswer → Held
+viewShape (answer.Fine n) = good n
+viewShape (answer.Faulty i z) = bad i z
+viewShape (answer.Crowded k) = over k
 
 -- a file has no more records than bytes
 abbrev pub okShape : List ℕ → ShapeAnswer → Type 0
 okShape s (answer.Fine n) = n ≤ length s
 okShape s (answer.Faulty i z) = i ≤ length s
+okShape s (answer.Crowded k) = k ≤ length s
+
+-- what is said of a file with these children still to come, by what is known of the records before them
+abbrev pub heldAfter : Schema → Seen → List Tree → Held
+heldAfter s (seen.Good n k) ts =
+    heldBy (firstBad (s .each) n (namedIn (headOf (s .each) .named) ts))
+    (orElse k (firstOver (s .each) (s .most) n (namedIn (headOf (s .each) .named) ts)))
+heldAfter s (seen.Bad i z) ts = bad i z
+
+abbrev pub okSeen : ℕ → Seen → Type 0
+okSeen at (seen.Good n k) = (n ≤ at) × (k ≤ n)
+okSeen at (seen.Bad i z) = i ≤ at
+
+-- what is said of a file by what stands in its root, which opened with z bytes left; its tag apart
+abbrev pub heldInside : Schema → ℕ → Inside → Held
+heldInside s z i = cond (eqb (faultIn (s .nodes) 0 z i) 0) (heldAfter s (seen.Good 0 0) (kids i)) (bad 0 z)

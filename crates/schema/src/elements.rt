@@ -1,4 +1,4 @@
-// The first fault in an element, by a row of the table: element by element, with one level less left in each.
+// The first fault in an element, by a row of the table, and the number of counted elements in it: element by element, with one level less left in each.
 ghost use mathlib.Core.Path.{_≡_};
 ghost use mathlib.Core.List.{List};
 ghost use Prim.Native.Nat.{ℕ, _<_};
@@ -8,6 +8,7 @@ ghost use Rattle.markup.specs.Reading.Read.{read};
 ghost use Rattle.markup.specs.Elements.{Inside, Tree, content, element};
 ghost use Rattle.markup.specs.View.{part};
 ghost use Rattle.schema.specs.Shape.{faultIn, faultOf};
+ghost use Rattle.schema.specs.Counted.{countIn, countOf};
 ghost use Rattle.schema.specs.Table.{nodesBy, nodeAt};
 ghost use Rattle.schema.specs.View.{Tells, okOutcome};
 use crate::Outcome;
@@ -19,6 +20,7 @@ use crate::leaves::all_ws;
 use crate::leaves::leaf_inside;
 use crate::leaves::may_be_empty;
 use crate::table::cell;
+use crate::table::marked;
 use markup::Cursor;
 use markup::Ending;
 use markup::Got;
@@ -42,11 +44,12 @@ pub fn inside(
     from: usize,
 ) -> Outcome
     requires { ⌜ Firsts (now t) × (first < 65536) × (n < 65536) ⌝ }
-    ensures { λ r. ⌜ ((i : Inside) (m : List ℕ) → content (element levels) (part (now (s .entry)) name «name_end») (drop start (now (s .entry))) ≡ read i m → 0 < from → Tells (now (s .entry)) r (faultIn (nodesBy (now (table .entry)) (now (pool .entry)) (now (ranges .entry)) (nodeAt (now (table .entry)) (now (pool .entry)) (now (ranges .entry)) levels) first n) 0 from i) m) × okOutcome (now (s .entry)) start r ⌝ }
+    ensures { λ r. ⌜ ((i : Inside) (m : List ℕ) → content (element levels) (part (now (s .entry)) name «name_end») (drop start (now (s .entry))) ≡ read i m → 0 < from → Tells (now (s .entry)) r (faultIn (nodesBy (now (table .entry)) (now (pool .entry)) (now (ranges .entry)) (nodeAt (now (table .entry)) (now (pool .entry)) (now (ranges .entry)) levels) first n) 0 from i) (countIn (nodesBy (now (table .entry)) (now (pool .entry)) (now (ranges .entry)) (nodeAt (now (table .entry)) (now (pool .entry)) (now (ranges .entry)) levels) first n) 0 i) m) × okOutcome (now (s .entry)) start r ⌝ }
 {
     let mut at = start;
     let mut item = 0;
     let mut count = 0;
+    let mut total = 0;
     loop {
         let here = Cursor { at };
         match here.next_piece(s, name, name_end) {
@@ -55,7 +58,10 @@ pub fn inside(
             }
             Piece::Close(done) => {
                 if enough(table, first, n, item, count) {
-                    return Outcome::Past(done.at);
+                    return Outcome::Past {
+                        next: done.at,
+                        count: total,
+                    };
                 }
                 return Outcome::Fault(from);
             }
@@ -79,10 +85,11 @@ pub fn inside(
                     Outcome::Fault(z) => {
                         return Outcome::Fault(z);
                     }
-                    Outcome::Past(next) => {
+                    Outcome::Past { next, count: held } => {
                         at = next;
                         item = now;
                         count = before + 1;
+                        total = total + held + marked(table, first + now);
                     }
                 },
             },
@@ -102,7 +109,7 @@ pub fn fault(
     row: usize,
 ) -> Outcome
     requires { ⌜ Firsts (now t) ⌝ }
-    ensures { λ r. ⌜ ((tree : Tree) (m : List ℕ) → element levels (drop at (now (s .entry))) ≡ read tree m → Tells (now (s .entry)) r (faultOf (nodeAt (now (table .entry)) (now (pool .entry)) (now (ranges .entry)) levels row) tree) m) × okOutcome (now (s .entry)) at r ⌝ }
+    ensures { λ r. ⌜ ((tree : Tree) (m : List ℕ) → element levels (drop at (now (s .entry))) ≡ read tree m → Tells (now (s .entry)) r (faultOf (nodeAt (now (table .entry)) (now (pool .entry)) (now (ranges .entry)) levels row) tree) (countOf (nodeAt (now (table .entry)) (now (pool .entry)) (now (ranges .entry)) levels row) tree) m) × okOutcome (now (s .entry)) at r ⌝ }
 {
     if levels == 0 {
         return Outcome::Fault(0);
@@ -116,7 +123,10 @@ pub fn fault(
         let Move::To(done) = here.element(s, levels) else {
             return Outcome::Fault(0);
         };
-        return Outcome::Past(done.at);
+        return Outcome::Past {
+            next: done.at,
+            count: 0,
+        };
     }
     let from = s.len() - at;
     let first = Cursor { at: at + 1 };
@@ -130,7 +140,10 @@ pub fn fault(
         Ending::Refused => Outcome::Fault(0),
         Ending::Shut(done) => {
             if may_be_empty(t, table, ranges, row) {
-                return Outcome::Past(done.at);
+                return Outcome::Past {
+                    next: done.at,
+                    count: 0,
+                };
             }
             Outcome::Fault(from)
         }

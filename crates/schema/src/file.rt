@@ -1,8 +1,9 @@
 // The shape of a whole file.
 ghost use mathlib.Core.Path.{_≡_};
-ghost use mathlib.Core.Bool.{true};
-ghost use mathlib.Core.List.{List, []};
-ghost use Prim.Native.Nat.{ℕ, _<_};
+ghost use mathlib.Core.Bool.{true, cond};
+ghost use mathlib.Core.List.{List, [], _∷_};
+ghost use lib.Dec.{ltb};
+ghost use Prim.Native.Nat.{ℕ, _+_, _<_, _≤_};
 ghost use lib.ListN.{length, drop};
 ghost use Rattle.laws.specs.Lists.{same};
 ghost use Rattle.days.specs.Table.{Firsts};
@@ -10,30 +11,45 @@ ghost use Rattle.markup.specs.Reading.Read.{read};
 ghost use Rattle.markup.specs.Elements.{Inside, Tree, content, element};
 ghost use Rattle.markup.specs.Document.{depth};
 ghost use Rattle.markup.specs.View.{part};
-ghost use Rattle.reading.specs.Within.{kids};
-ghost use Rattle.schema.specs.Schema.{headOf};
-ghost use Rattle.schema.specs.Shape.{namedIn, firstBad, shapeOf};
+ghost use Rattle.schema.specs.Schema.{Schema};
+ghost use Rattle.schema.specs.Shape.{orElse, faultOf};
+ghost use Rattle.schema.specs.Counted.{countOf, heldOf};
 ghost use Rattle.schema.specs.Table.{cell, nameAt, nodeAt, schemaAt};
-ghost use Rattle.schema.specs.View.{viewShape, okShape};
+ghost use Rattle.schema.specs.View.{Tells, okOutcome, viewShape, okShape, heldAfter, heldInside, okSeen};
 use crate::Outcome;
 use crate::attrs::root_attrs_fit;
+use crate::children::Spot;
 use crate::children::enough;
+use crate::children::spot_of;
 use crate::elements::fault;
-use crate::elements::inside;
+use crate::leaves::all_ws;
 use crate::table::cell;
 use crate::table::name_of;
 use markup::Cursor;
 use markup::Ending;
 use markup::Got;
-use markup::Move;
 use markup::Piece;
 use markup::bytes::part;
 use markup::bytes::same;
 
-// The number of records of a file of the shape; or the number of the record at fault, 0 for none, and the bytes left at the `<` of the element at fault.
+// The number of records of a file of the shape; or the number of the record at fault, 0 for none, and the bytes left at the `<` of the element at fault; or the
+// number of the first record with too many counted elements.
 pub enum ShapeAnswer {
     Fine(usize),
     Faulty { number: usize, from: usize },
+    Crowded(usize),
+}
+
+// What is known after some records: how many there were, and the first with too many counted elements (0: none); or the first at fault.
+pub enum Seen {
+    Good { number: usize, over: usize },
+    Bad { number: usize, from: usize },
+}
+
+// What is known after a child; and the place past it, where it is a record without fault (0: the place is not known).
+pub struct Taken {
+    pub seen: Seen,
+    pub next: usize,
 }
 
 // The element at a place has the name of a row.
@@ -50,8 +66,97 @@ fn has_name(table: &[u16], pool: &[u8], row: usize, s: &[u8], at: usize) -> bool
     }
 }
 
-// The records in the root, in order.
-fn records(
+// The first record with too many counted elements, after a record of this number that has so many.
+fn first_over(table: &[u16], over: usize, number: usize, count: usize) -> usize
+    ensures { λ r. ⌜ (r ≡ orElse over (cond (ltb (cell (now (table .entry)) [] [] 0 6) count) number 0)) × (over ≤ number → r ≤ number) ⌝ }
+{
+    let most = cell(table, 0, 6);
+    if over == 0 {
+        if most < count {
+            return number;
+        }
+    }
+    over
+}
+
+// A record is held against its row, as long as none was at fault; another child changes nothing.
+fn take_record(
+    t: &[u32; 2400],
+    table: &[u16],
+    pool: &[u8],
+    ranges: &[u16],
+    s: &[u8],
+    at: usize,
+    seen: Seen,
+) -> Taken
+    requires { ⌜ Firsts (now t) × okSeen at seen ⌝ }
+    ensures { λ r. ⌜ ((tree : Tree) (m : List ℕ) → element 11 (drop at (now (s .entry))) ≡ read tree m → ((ts : List Tree) → heldAfter (schemaAt (now (table .entry)) (now (pool .entry)) (now (ranges .entry)) 11) (r .seen) ts ≡ heldAfter (schemaAt (now (table .entry)) (now (pool .entry)) (now (ranges .entry)) 11) seen (tree ∷ ts)) × (0 < r .next → drop (r .next) (now (s .entry)) ≡ m)) × okSeen (at + 1) (r .seen) × (0 < r .next → (at < r .next) × (r .next ≤ length (now (s .entry)))) ⌝ }
+{
+    let Seen::Good { number, over } = seen else {
+        return Taken { seen, next: 0 };
+    };
+    let each = cell(table, 0, 5);
+    if !has_name(table, pool, each, s, at) {
+        return Taken { seen, next: 0 };
+    }
+    let number = number + 1;
+    match fault(t, table, pool, ranges, s, at, 11, each) {
+        Outcome::Fault(from) => Taken {
+            seen: Seen::Bad { number, from },
+            next: 0,
+        },
+        Outcome::Past { next, count } => {
+            let over = first_over(table, over, number, count);
+            Taken {
+                seen: Seen::Good { number, over },
+                next,
+            }
+        }
+    }
+}
+
+// The child at a place, by its row: one that may hold anything isn't read again where the place past it is known.
+fn past_child(
+    t: &[u32; 2400],
+    table: &[u16],
+    pool: &[u8],
+    ranges: &[u16],
+    s: &[u8],
+    at: usize,
+    row: usize,
+    known: usize,
+) -> Outcome
+    requires { ⌜ Firsts (now t) × (0 < known → (at < known) × (known ≤ length (now s))) ⌝ }
+    ensures { λ r. ⌜ ((tree : Tree) (m : List ℕ) → element 11 (drop at (now (s .entry))) ≡ read tree m → (0 < known → drop known (now (s .entry)) ≡ m) → Tells (now (s .entry)) r (faultOf (nodeAt (now (table .entry)) (now (pool .entry)) (now (ranges .entry)) 11 row) tree) (countOf (nodeAt (now (table .entry)) (now (pool .entry)) (now (ranges .entry)) 11 row) tree) m) × okOutcome (now (s .entry)) at r ⌝ }
+{
+    if 0 < known {
+        if cell(table, row, 4) == 1 {
+            return Outcome::Past {
+                next: known,
+                count: 0,
+            };
+        }
+    }
+    fault(t, table, pool, ranges, s, at, 11, row)
+}
+
+// What is known after all records.
+fn answer(seen: Seen) -> ShapeAnswer
+    ensures { λ r. ⌜ ((schema : Schema) → viewShape r ≡ heldAfter schema seen []) × ((s : List ℕ) (at : ℕ) → okSeen at seen → at ≤ length s → okShape s r) ⌝ }
+{
+    match seen {
+        Seen::Good { number, over } => {
+            if over == 0 {
+                return ShapeAnswer::Fine(number);
+            }
+            ShapeAnswer::Crowded(over)
+        }
+        Seen::Bad { number, from } => ShapeAnswer::Faulty { number, from },
+    }
+}
+
+// What stands in the root, which opened with `from` bytes left: each record is read by the way, and a fault outside the records comes first.
+fn root_inside(
     t: &[u32; 2400],
     table: &[u16],
     pool: &[u8],
@@ -60,13 +165,17 @@ fn records(
     start: usize,
     name: usize,
     name_end: usize,
+    from: usize,
 ) -> ShapeAnswer
     requires { ⌜ Firsts (now t) ⌝ }
-    ensures { λ r. ⌜ ((i : Inside) (m : List ℕ) → content (element 11) (part (now (s .entry)) name «name_end») (drop start (now (s .entry))) ≡ read i m → viewShape r ≡ firstBad (nodeAt (now (table .entry)) (now (pool .entry)) (now (ranges .entry)) 11 (cell (now (table .entry)) [] [] 0 5)) 0 (namedIn (headOf (nodeAt (now (table .entry)) (now (pool .entry)) (now (ranges .entry)) 11 (cell (now (table .entry)) [] [] 0 5)) .named) (kids i))) × okShape (now (s .entry)) r ⌝ }
+    ensures { λ r. ⌜ ((i : Inside) (m : List ℕ) → content (element 11) (part (now (s .entry)) name «name_end») (drop start (now (s .entry))) ≡ read i m → 0 < from → viewShape r ≡ heldInside (schemaAt (now (table .entry)) (now (pool .entry)) (now (ranges .entry)) 11) from i) × okShape (now (s .entry)) r ⌝ }
 {
-    let each = cell(table, 0, 5);
+    let first = cell(table, 0, 7);
+    let n = cell(table, 0, 8);
     let mut at = start;
-    let mut number = 0;
+    let mut item = 0;
+    let mut count = 0;
+    let mut seen = Seen::Good { number: 0, over: 0 };
     loop {
         let here = Cursor { at };
         match here.next_piece(s, name, name_end) {
@@ -74,40 +183,47 @@ fn records(
                 return ShapeAnswer::Fine(0);
             }
             Piece::Close(_) => {
-                return ShapeAnswer::Fine(number);
+                if enough(table, first, n, item, count) {
+                    return answer(seen);
+                }
+                return ShapeAnswer::Faulty { number: 0, from };
             }
-            Piece::Words { end, .. } => {
+            Piece::Words { start: text, end } => {
+                if !all_ws(part(s, text, end)) {
+                    return ShapeAnswer::Faulty { number: 0, from };
+                }
                 at = end;
             }
             Piece::Aside(done) => {
                 at = done.at;
             }
-            Piece::Kid => {
-                if has_name(table, pool, each, s, at) {
-                    match fault(t, table, pool, ranges, s, at, 11, each) {
-                        Outcome::Fault(from) => {
-                            return ShapeAnswer::Faulty {
-                                number: number + 1,
-                                from,
-                            };
+            Piece::Kid => match spot_of(table, pool, s, at, first, n, item, count) {
+                Spot::Nowhere => {
+                    return ShapeAnswer::Faulty { number: 0, from };
+                }
+                Spot::Here {
+                    item: now,
+                    count: before,
+                } => {
+                    let taken = take_record(t, table, pool, ranges, s, at, seen);
+                    match past_child(t, table, pool, ranges, s, at, first + now, taken.next) {
+                        Outcome::Fault(_) => {
+                            return ShapeAnswer::Faulty { number: 0, from };
                         }
-                        Outcome::Past(next) => {
+                        Outcome::Past { next, .. } => {
                             at = next;
-                            number += 1;
+                            item = now;
+                            count = before + 1;
+                            seen = taken.seen;
                         }
                     }
-                } else {
-                    let Move::To(done) = here.element(s, 11) else {
-                        return ShapeAnswer::Fine(0);
-                    };
-                    at = done.at;
                 }
-            }
+            },
         }
     }
 }
 
-// The file whose root stands at a place: first the root and all in it but the records, then the records.
+// The file whose root stands at a place: its tag, then what stands in it.
 pub fn shape(
     t: &[u32; 2400],
     table: &[u16],
@@ -117,7 +233,7 @@ pub fn shape(
     root: usize,
 ) -> ShapeAnswer
     requires { ⌜ Firsts (now t) ⌝ }
-    ensures { λ r. ⌜ ((tree : Tree) (m : List ℕ) → element depth (drop root (now (s .entry))) ≡ read tree m → viewShape r ≡ shapeOf (schemaAt (now (table .entry)) (now (pool .entry)) (now (ranges .entry)) 11) tree) × okShape (now (s .entry)) r ⌝ }
+    ensures { λ r. ⌜ ((tree : Tree) (m : List ℕ) → element depth (drop root (now (s .entry))) ≡ read tree m → viewShape r ≡ heldOf (schemaAt (now (table .entry)) (now (pool .entry)) (now (ranges .entry)) 11) tree) × okShape (now (s .entry)) r ⌝ }
 {
     if s.len() <= root {
         return ShapeAnswer::Fine(0);
@@ -133,32 +249,14 @@ pub fn shape(
     if !root_attrs_fit(table, pool, s, next.at) {
         return ShapeAnswer::Faulty { number: 0, from };
     }
-    let row = cell(table, 0, 7);
-    let n = cell(table, 0, 8);
     match next.attributes(s) {
         Ending::Refused => ShapeAnswer::Fine(0),
         Ending::Shut(_) => {
-            if enough(table, row, n, 0, 0) {
+            if enough(table, cell(table, 0, 7), cell(table, 0, 8), 0, 0) {
                 return ShapeAnswer::Fine(0);
             }
             ShapeAnswer::Faulty { number: 0, from }
         }
-        Ending::Open(done) => match inside(
-            t,
-            table,
-            pool,
-            ranges,
-            s,
-            done.at,
-            11,
-            start,
-            end,
-            row,
-            n,
-            from,
-        ) {
-            Outcome::Fault(_) => ShapeAnswer::Faulty { number: 0, from },
-            Outcome::Past(_) => records(t, table, pool, ranges, s, done.at, start, end),
-        },
+        Ending::Open(done) => { root_inside(t, table, pool, ranges, s, done.at, start, end, from) }
     }
 }

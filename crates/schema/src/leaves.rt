@@ -38,11 +38,14 @@ pub fn all_ws(text: &[u8]) -> bool
 
 // Nothing more stands in an element that opened with `from` bytes left.
 fn end_of(s: &[u8], start: usize, name: usize, name_end: usize, from: usize) -> Outcome
-    ensures { λ r. ⌜ ((d : ℕ) (i : Inside) (m : List ℕ) → content (element d) (part (now (s .entry)) name «name_end») (drop start (now (s .entry))) ≡ read i m → 0 < from → Tells (now (s .entry)) r (cond (isEnd i) 0 from) m) × okOutcome (now (s .entry)) start r ⌝ }
+    ensures { λ r. ⌜ ((d : ℕ) (i : Inside) (m : List ℕ) → content (element d) (part (now (s .entry)) name «name_end») (drop start (now (s .entry))) ≡ read i m → 0 < from → Tells (now (s .entry)) r (cond (isEnd i) 0 from) 0 m) × okOutcome (now (s .entry)) start r ⌝ }
 {
     let here = Cursor { at: start };
     match here.next_piece(s, name, name_end) {
-        Piece::Close(done) => Outcome::Past(done.at),
+        Piece::Close(done) => Outcome::Past {
+            next: done.at,
+            count: 0,
+        },
         Piece::Words { .. } => Outcome::Fault(from),
         Piece::Aside(_) => Outcome::Fault(from),
         Piece::Kid => Outcome::Fault(from),
@@ -63,7 +66,7 @@ pub fn leaf_inside(
     from: usize,
 ) -> Outcome
     requires { ⌜ Firsts (now t) ⌝ }
-    ensures { λ r. ⌜ ((pool : List ℕ) (d : ℕ) (i : Inside) (m : List ℕ) → content (element d) (part (now (s .entry)) name «name_end») (drop start (now (s .entry))) ≡ read i m → 0 < from → Tells (now (s .entry)) r (cond (leafFits (textsOf (now (table .entry)) pool (now (ranges .entry)) row) i) 0 from) m) × okOutcome (now (s .entry)) start r ⌝ }
+    ensures { λ r. ⌜ ((pool : List ℕ) (d : ℕ) (i : Inside) (m : List ℕ) → content (element d) (part (now (s .entry)) name «name_end») (drop start (now (s .entry))) ≡ read i m → 0 < from → Tells (now (s .entry)) r (cond (leafFits (textsOf (now (table .entry)) pool (now (ranges .entry)) row) i) 0 from) 0 m) × okOutcome (now (s .entry)) start r ⌝ }
 {
     let here = Cursor { at: start };
     match here.next_piece(s, name, name_end) {
@@ -75,7 +78,10 @@ pub fn leaf_inside(
         }
         Piece::Close(done) => {
             if fits_text(t, table, ranges, row, b"") {
-                return Outcome::Past(done.at);
+                return Outcome::Past {
+                    next: done.at,
+                    count: 0,
+                };
             }
             Outcome::Fault(from)
         }

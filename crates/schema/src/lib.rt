@@ -7,8 +7,9 @@ pub mod leaves;
 pub mod table;
 pub mod texts;
 
-// The place past an element that has no fault; or the first fault, as the bytes left at the `<` of the element that it is told of.
+// The place past an element that has no fault, and how many counted elements stand in it; or the first fault, as the bytes left at the `<` of the element
+// that it is told of.
 pub enum Outcome {
-    Past(usize),
+    Past { next: usize, count: usize },
     Fault(usize),
 }

@@ -1,9 +1,10 @@
 // The rows of a lent table. A cell past the end is 0, a name past the end is empty: no table needs to be well formed.
 ghost use mathlib.Core.Path.{_≡_};
-ghost use mathlib.Core.List.{[]};
-ghost use Prim.Native.Nat.{_<_};
+ghost use mathlib.Core.List.{List, []};
+ghost use Prim.Native.Nat.{ℕ, _<_, _≤_};
 ghost use lib.ListN.{getD};
-ghost use Rattle.schema.specs.Table.{cell, nameAt};
+ghost use Rattle.schema.specs.Table.{cell, nameAt, headAt};
+ghost use Rattle.schema.specs.Counted.{marked};
 use markup::bytes::part;
 
 pub fn cell(table: &[u16], row: usize, c: usize) -> usize
@@ -35,4 +36,16 @@ pub fn number_at(ranges: &[u16], i: usize) -> usize
     } else {
         0
     }
+}
+
+// 1 where an element of a row is counted.
+pub fn marked(table: &[u16], row: usize) -> usize
+    ensures { λ r. ⌜ ((pool ranges : List ℕ) → r ≡ marked (headAt (now (table .entry)) pool ranges row)) × (r ≤ 1) ⌝ }
+{
+    if cell(table, row, 4) == 0 {
+        if cell(table, row, 5) != 0 {
+            return 1;
+        }
+    }
+    0
 }

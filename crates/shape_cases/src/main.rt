@@ -5,7 +5,6 @@ use markup::Document;
 use markup::bytes::peek;
 use markup::file::document;
 use schema::file::ShapeAnswer;
-use tracks::counts::crowded;
 use tracks::shapes::shape_of;
 
 // The place from the file's start, by the bytes left there.
@@ -16,29 +15,23 @@ fn place(long: usize, left: usize) -> u64 {
     0
 }
 
-// The first record with more than 128 events, if there is one.
-fn say_crowded(s: &[u8], root: usize) {
-    let first = crowded(s, root);
-    if 0 < first {
-        io::write_all(STDOUT_FILENO, b", too many events in record ");
-        io::print_decimal(STDOUT_FILENO, first as u64);
-    }
-}
-
-fn say(s: &[u8], root: usize, shape: ShapeAnswer) {
+fn say(s: &[u8], shape: ShapeAnswer) {
     match shape {
         ShapeAnswer::Fine(n) => {
             io::write_all(STDOUT_FILENO, b": of the shape, ");
             io::print_decimal(STDOUT_FILENO, n as u64);
-            io::write_all(STDOUT_FILENO, b" records");
-            say_crowded(s, root);
-            io::write_all(STDOUT_FILENO, b"\n");
+            io::write_all(STDOUT_FILENO, b" records\n");
         }
         ShapeAnswer::Faulty { number, from } => {
             io::write_all(STDOUT_FILENO, b": at fault, record ");
             io::print_decimal(STDOUT_FILENO, number as u64);
             io::write_all(STDOUT_FILENO, b", place ");
             io::print_decimal(STDOUT_FILENO, place(s.len(), from));
+            io::write_all(STDOUT_FILENO, b"\n");
+        }
+        ShapeAnswer::Crowded(number) => {
+            io::write_all(STDOUT_FILENO, b": too many events, record ");
+            io::print_decimal(STDOUT_FILENO, number as u64);
             io::write_all(STDOUT_FILENO, b"\n");
         }
     }
@@ -53,7 +46,7 @@ fn judge(t: &[u32; 2400], track: u64, s: &[u8])
     };
     let at = root.at;
     let shape = shape_of(t, track, s, at);
-    say(s, at, shape);
+    say(s, shape);
 }
 
 fn track_of(name: &[u8]) -> u64 {

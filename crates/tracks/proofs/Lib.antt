@@ -12,7 +12,6 @@ pub mod Totals
 pub mod Happening
 pub mod Gathering
 pub mod Filling
-pub mod Crowding
 pub mod Shaped
 pub mod ShapedEvents
 pub mod ShapedAdmissions

@@ -1,5 +1,4 @@
 // The two tracks: a record's fields, read from its element (document 01, "The shape of a record").
-pub mod counts;
 pub mod events;
 pub mod fields;
 pub mod record;

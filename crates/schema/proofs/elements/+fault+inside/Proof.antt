@@ -1,8 +1,8 @@
-use Rattle.schema.proofs.Group.{group-start, group-next, group-past, group-short, group-text, group-between, group-note, group-refused, group-nowhere, group-fault, group-child}
+use Rattle.schema.proofs.Group.{Walk, group-start, group-next, group-past, group-short, group-text, group-between, group-note, group-refused, group-nowhere, group-fault, group-child}
 use Rattle.schema.proofs.Faults.{another-past, another-refused, tag-unfit, tag-shut, tag-open, tag-refused, within-group, within-leaf}
 use Rattle.schema.proofs.Leaf.{tells-to, further}
 use Rattle.schema.proofs.Tagged.{has-levels, not-past, head-refused}
-use Rattle.schema.proofs.Onward.{Onward}
+use Rattle.schema.proofs.Counts.{countOn, count-quiet, count-end, count-child, row-marked}
 use Rattle.schema.proofs.Heads.{nodesFrom}
 use Rattle.schema.specs.Table.{nodesBy, nodeAt}
 use Rattle.schema.specs.Shape.{faultIn}
@@ -14,9 +14,9 @@ use lib.ListN.{length, drop}
 use mathlib.Core.List.{List}
 use mathlib.Core.Path.{_≡_, sym, _∙_}
 use denote.Ref.{now}
+use Prim.Native.Nat.{ℕ, _+_, _-_, _*_, _<_, _≤_}
 use borrow.Author.Needs.{needs}
 use native.Mathlib.Omega.{arith}
-use Prim.Native.Nat.{ℕ, _+_, _-_, _*_, _<_, _≤_}
 use borrow.Fn.Kinds.{In}
 use borrow.Fn.PlainCycle.{Measures, is, falls, and}
 use Rattle.schema.proofs.elements.fault.Reads as fault
@@ -37,6 +37,7 @@ use Rattle.schema.proofs.leaves.all_ws.Reads as all-ws-reads
 use Rattle.schema.proofs.leaves.leaf_inside.Reads as leaf-inside-reads
 use Rattle.schema.proofs.leaves.may_be_empty.Reads as may-be-empty-reads
 use Rattle.schema.proofs.table.cell.Reads as cell-reads
+use Rattle.schema.proofs.table.marked.Reads as marked-reads
 use Rattle.schema.proofs.elements.+fault+inside.{statement}
 use Rattle.schema.proofs.elements.+fault+inside.Tie.{close}
 
@@ -492,7 +493,7 @@ fault-returns-7 t c =
     let w = rw (c .before .before .before .done2 .given .1) at (c .before .before .before .before .before .attributes .ensures) in (
       λ x m e.
           let v = tag-shut (now (c .before .before .before .before .before .before .before .before .before .before .before .before .before .before .before .before .before .before .before .before .args .table)) (now (c .before .before .before .before .before .before .before .before .before .before .before .before .before .before .before .before .before .before .before .before .args .pool)) (now (c .before .before .before .before .before .before .before .before .before .before .before .before .before .before .before .before .before .before .before .before .args .ranges)) (now (c .before .before .before .before .before .before .before .before .before .before .before .before .before .before .before .before .before .before .before .before .args .s)) (c .before .before .before .before .before .before .before .before .before .before .before .before .before .before .before .before .before .before .before .before .args .at) (c .before .before .before .before .before .before .before .before .before .before .before .before .before .before .before .before .before .before .before .before .args .levels) (c .before .before .before .before .before .before .before .before .before .before .before .before .before .before .before .before .before .before .before .before .args .row) x m e (c .before .before .before .before .before .before .before .before .before .before .before .before .before .cell .ensures .0) (c .before .before .before .before .before .before .before .before .before .before .before .before .if3 .left) _ _ (u .0) (c .before .before .before .before .before .before .before .attrs-fit .result) (c .before .before .before .before .before .before .before .attrs-fit .ensures) (not-false _ (c .before .before .before .before .before .before .if4 .left)) (w .0) in
-          (v .0 ∙ sym (c .before .may-be-empty .ensures (now (c .before .before .before .before .before .before .before .before .before .before .before .before .before .before .before .before .before .before .before .before .args .pool)) (c .before .before .before .before .before .before .before .before .before .before .before .before .before .before .before .before .before .before .before .before .args .levels - 1) (length (now (c .before .before .before .before .before .before .before .before .before .before .before .before .before .before .before .before .before .before .before .before .args .s)) - c .before .before .before .before .before .before .before .before .before .before .before .before .before .before .before .before .before .before .before .before .args .at)) ∙ rw (c .if5 .taken), v .1),
+          (v .0 ∙ sym (c .before .may-be-empty .ensures (now (c .before .before .before .before .before .before .before .before .before .before .before .before .before .before .before .before .before .before .before .before .args .pool)) (c .before .before .before .before .before .before .before .before .before .before .before .before .before .before .before .before .before .before .before .before .args .levels - 1) (length (now (c .before .before .before .before .before .before .before .before .before .before .before .before .before .before .before .before .before .before .before .before .args .s)) - c .before .before .before .before .before .before .before .before .before .before .before .before .before .before .before .before .before .before .before .before .args .at)) ∙ rw (c .if5 .taken), v .1, v .2),
       omega arith,
     )
 
@@ -619,8 +620,8 @@ fault-returns-8 t c =
     let w = rw (c .before .before .before .before .before .done3 .given .1) at (c .before .before .before .before .before .before .before .attributes .ensures) in (
       λ x m e.
           let v = tag-open (now (c .before .before .before .before .before .before .before .before .before .before .before .before .before .before .before .before .before .before .before .before .before .before .args .table)) (now (c .before .before .before .before .before .before .before .before .before .before .before .before .before .before .before .before .before .before .before .before .before .before .args .pool)) (now (c .before .before .before .before .before .before .before .before .before .before .before .before .before .before .before .before .before .before .before .before .before .before .args .ranges)) (now (c .before .before .before .before .before .before .before .before .before .before .before .before .before .before .before .before .before .before .before .before .before .before .args .s)) (c .before .before .before .before .before .before .before .before .before .before .before .before .before .before .before .before .before .before .before .before .before .before .args .at) (c .before .before .before .before .before .before .before .before .before .before .before .before .before .before .before .before .before .before .before .before .before .before .args .levels) (c .before .before .before .before .before .before .before .before .before .before .before .before .before .before .before .before .before .before .before .before .before .before .args .row) x m e (c .before .before .before .before .before .before .before .before .before .before .before .before .before .before .before .cell .ensures .0) (c .before .before .before .before .before .before .before .before .before .before .before .before .before .before .if3 .left) _ _ (u .0) (c .before .before .before .before .before .before .before .before .before .attrs-fit .result) (c .before .before .before .before .before .before .before .before .before .attrs-fit .ensures) (not-false _ (c .before .before .before .before .before .before .before .before .if4 .left)) (w .0) in
-          tells-to (now (c .before .before .before .before .before .before .before .before .before .before .before .before .before .before .before .before .before .before .before .before .before .before .args .s)) (c .inside .result) m
-          (v .2 ∙ within-group (now (c .before .before .before .before .before .before .before .before .before .before .before .before .before .before .before .before .before .before .before .before .before .before .args .table)) (now (c .before .before .before .before .before .before .before .before .before .before .before .before .before .before .before .before .before .before .before .before .before .before .args .pool)) (now (c .before .before .before .before .before .before .before .before .before .before .before .before .before .before .before .before .before .before .before .before .before .before .args .ranges)) (c .before .before .before .before .before .before .before .before .before .before .before .before .before .before .before .before .before .before .before .before .before .before .args .levels - 1) (c .before .before .before .before .before .before .before .before .before .before .before .before .before .before .before .before .before .before .before .before .before .before .args .row) (length (now (c .before .before .before .before .before .before .before .before .before .before .before .before .before .before .before .before .before .before .before .before .before .before .args .s)) - c .before .before .before .before .before .before .before .before .before .before .before .before .before .before .before .before .before .before .before .before .before .before .args .at) (v .0) (c .before .before .before .before .before .before .before .before .before .before .before .before .before .before .before .cell .ensures .0) (c .before .before .before .if6 .taken) (c .before .before .cell2 .ensures .0) (c .before .cell3 .ensures .0))
+          let g = within-group (now (c .before .before .before .before .before .before .before .before .before .before .before .before .before .before .before .before .before .before .before .before .before .before .args .table)) (now (c .before .before .before .before .before .before .before .before .before .before .before .before .before .before .before .before .before .before .before .before .before .before .args .pool)) (now (c .before .before .before .before .before .before .before .before .before .before .before .before .before .before .before .before .before .before .before .before .before .before .args .ranges)) (c .before .before .before .before .before .before .before .before .before .before .before .before .before .before .before .before .before .before .before .before .before .before .args .levels - 1) (c .before .before .before .before .before .before .before .before .before .before .before .before .before .before .before .before .before .before .before .before .before .before .args .row) (length (now (c .before .before .before .before .before .before .before .before .before .before .before .before .before .before .before .before .before .before .before .before .before .before .args .s)) - c .before .before .before .before .before .before .before .before .before .before .before .before .before .before .before .before .before .before .before .before .before .before .args .at) (v .0) (c .before .before .before .before .before .before .before .before .before .before .before .before .before .before .before .cell .ensures .0) (c .before .before .before .if6 .taken) (c .before .before .cell2 .ensures .0) (c .before .cell3 .ensures .0) in
+          tells-to (now (c .before .before .before .before .before .before .before .before .before .before .before .before .before .before .before .before .before .before .before .before .before .before .args .s)) (c .inside .result) m (v .2 ∙ g .0) (v .3 ∙ g .1)
           (c .inside .ensures .0 (v .0) m (v .1) (omega arith)),
       further (now (c .before .before .before .before .before .before .before .before .before .before .before .before .before .before .before .before .before .before .before .before .before .before .args .s)) (c .before .before .before .before .before .before .before .before .before .before .before .before .before .before .before .before .before .before .before .before .before .before .args .at) (c .before .before .before .before .before .done3 .given .0 .0 .at) (c .inside .result) (omega arith) (c .inside .ensures .1),
     )
@@ -720,18 +721,18 @@ fault-returns-11 t c =
     let w = rw (c .before .before .before .done3 .given .1) at (c .before .before .before .before .before .attributes .ensures) in (
       λ x m e.
           let v = tag-open (now (c .before .before .before .before .before .before .before .before .before .before .before .before .before .before .before .before .before .before .before .before .args .table)) (now (c .before .before .before .before .before .before .before .before .before .before .before .before .before .before .before .before .before .before .before .before .args .pool)) (now (c .before .before .before .before .before .before .before .before .before .before .before .before .before .before .before .before .before .before .before .before .args .ranges)) (now (c .before .before .before .before .before .before .before .before .before .before .before .before .before .before .before .before .before .before .before .before .args .s)) (c .before .before .before .before .before .before .before .before .before .before .before .before .before .before .before .before .before .before .before .before .args .at) (c .before .before .before .before .before .before .before .before .before .before .before .before .before .before .before .before .before .before .before .before .args .levels) (c .before .before .before .before .before .before .before .before .before .before .before .before .before .before .before .before .before .before .before .before .args .row) x m e (c .before .before .before .before .before .before .before .before .before .before .before .before .before .cell .ensures .0) (c .before .before .before .before .before .before .before .before .before .before .before .before .if3 .left) _ _ (u .0) (c .before .before .before .before .before .before .before .attrs-fit .result) (c .before .before .before .before .before .before .before .attrs-fit .ensures) (not-false _ (c .before .before .before .before .before .before .if4 .left)) (w .0) in
-          tells-to (now (c .before .before .before .before .before .before .before .before .before .before .before .before .before .before .before .before .before .before .before .before .args .s)) (c .leaf-inside .result) m
-          (v .2 ∙ within-leaf (now (c .before .before .before .before .before .before .before .before .before .before .before .before .before .before .before .before .before .before .before .before .args .table)) (now (c .before .before .before .before .before .before .before .before .before .before .before .before .before .before .before .before .before .before .before .before .args .pool)) (now (c .before .before .before .before .before .before .before .before .before .before .before .before .before .before .before .before .before .before .before .before .args .ranges)) (c .before .before .before .before .before .before .before .before .before .before .before .before .before .before .before .before .before .before .before .before .args .levels - 1) (c .before .before .before .before .before .before .before .before .before .before .before .before .before .before .before .before .before .before .before .before .args .row) (length (now (c .before .before .before .before .before .before .before .before .before .before .before .before .before .before .before .before .before .before .before .before .args .s)) - c .before .before .before .before .before .before .before .before .before .before .before .before .before .before .before .before .before .before .before .before .args .at) (v .0) (c .before .before .before .before .before .before .before .before .before .before .before .before .before .cell .ensures .0) (c .before .if6 .left))
+          let g = within-leaf (now (c .before .before .before .before .before .before .before .before .before .before .before .before .before .before .before .before .before .before .before .before .args .table)) (now (c .before .before .before .before .before .before .before .before .before .before .before .before .before .before .before .before .before .before .before .before .args .pool)) (now (c .before .before .before .before .before .before .before .before .before .before .before .before .before .before .before .before .before .before .before .before .args .ranges)) (c .before .before .before .before .before .before .before .before .before .before .before .before .before .before .before .before .before .before .before .before .args .levels - 1) (c .before .before .before .before .before .before .before .before .before .before .before .before .before .before .before .before .before .before .before .before .args .row) (length (now (c .before .before .before .before .before .before .before .before .before .before .before .before .before .before .before .before .before .before .before .before .args .s)) - c .before .before .before .before .before .before .before .before .before .before .before .before .before .before .before .before .before .before .before .before .args .at) (v .0) (c .before .before .before .before .before .before .before .before .before .before .before .before .before .cell .ensures .0) (c .before .if6 .left) in
+          tells-to (now (c .before .before .before .before .before .before .before .before .before .before .before .before .before .before .before .before .before .before .before .before .args .s)) (c .leaf-inside .result) m (v .2 ∙ g .0) (v .3 ∙ g .1)
           (c .leaf-inside .ensures .0 (now (c .before .before .before .before .before .before .before .before .before .before .before .before .before .before .before .before .before .before .before .before .args .pool)) (c .before .before .before .before .before .before .before .before .before .before .before .before .before .before .before .before .before .before .before .before .args .levels - 1) (v .0) m (v .1) (omega arith)),
       further (now (c .before .before .before .before .before .before .before .before .before .before .before .before .before .before .before .before .before .before .before .before .args .s)) (c .before .before .before .before .before .before .before .before .before .before .before .before .before .before .before .before .before .before .before .before .args .at) (c .before .before .before .done3 .given .0 .0 .at) (c .leaf-inside .result) (omega arith) (c .leaf-inside .ensures .1),
     )
 
 abbrev inside-Inv-loop : inside-lts.InvT-loop
-inside-Inv-loop t table pool ranges s start levels name name-end first n from at₀ item₀ count₀ at item count =
-    (start ≤ at) × (count ≤ at) × ((i : Inside) (m : List ℕ) → content (elementOf levels) (part s name name-end) (drop start s) ≡ read i m → Onward levels (part s name name-end) m (faultIn (nodesBy table pool ranges (nodeAt table pool ranges levels) first n) 0 from i) (faultIn (nodesFrom table pool ranges levels first n item) count from) (drop at s))
+inside-Inv-loop t table pool ranges s start levels name name-end first n from at₀ item₀ count₀ total₀ at item count total =
+    (start + total ≤ at) × (count ≤ at) × ((i : Inside) (m : List ℕ) → content (elementOf levels) (part s name name-end) (drop start s) ≡ read i m → Walk levels (part s name name-end) m (faultIn (nodesBy table pool ranges (nodeAt table pool ranges levels) first n) 0 from i) (countOn 0 (nodesBy table pool ranges (nodeAt table pool ranges levels) first n) 0 i) (nodesFrom table pool ranges levels first n item) count from (countOn total (nodesFrom table pool ranges levels first n item) count) (drop at s))
 
 abbrev inside-μ-loop : inside-lts.MeasureT-loop
-inside-μ-loop t table pool ranges s start levels name name-end first n from at₀ item₀ count₀ at item count =
+inside-μ-loop t table pool ranges s start levels name name-end first n from at₀ item₀ count₀ total₀ at item count total =
     length s - at
 
 inside-loop-holds : (t : ℕ) → inside-lts.Need-loop-holds (
@@ -747,8 +748,10 @@ inside-loop-holds : (t : ℕ) → inside-lts.Need-loop-holds (
   spot-of-reads.Learnt,
   fault-below t,
   fault.Post,
+  marked-reads.Asked,
+  marked-reads.Learnt,
 ) (inside-at t) inside.Post inside-Inv-loop inside-μ-loop
-inside-loop-holds t c = (search needs, search needs, λ i m e. group-start (now (c .before .before .before .before .args .table)) (now (c .before .before .before .before .args .pool)) (now (c .before .before .before .before .args .ranges)) (c .before .before .before .before .args .levels) (c .before .before .before .before .args .first) (c .before .before .before .before .args .n) (c .before .before .before .before .args .from) _ _ i m e)
+inside-loop-holds t c = (search needs, search needs, λ i m e. group-start (now (c .before .before .before .before .args .table)) (now (c .before .before .before .before .args .pool)) (now (c .before .before .before .before .args .ranges)) (c .before .before .before .before .args .levels) (c .before .before .before .before .args .first) (c .before .before .before .before .args .n) (c .before .before .before .before .args .from) (countOn 0) _ _ i m e)
 
 inside-next-piece-requires : (t : ℕ) → inside-lts.Need-next-piece-requires (
   next-piece-reads.Asked,
@@ -763,6 +766,8 @@ inside-next-piece-requires : (t : ℕ) → inside-lts.Need-next-piece-requires (
   spot-of-reads.Learnt,
   fault-below t,
   fault.Post,
+  marked-reads.Asked,
+  marked-reads.Learnt,
 ) (inside-at t) inside.Post inside-Inv-loop inside-μ-loop
 inside-next-piece-requires t c κs = search needs
 
@@ -779,6 +784,8 @@ inside-enum-told : (t : ℕ) → inside-lts.Need-enum-told (
   spot-of-reads.Learnt,
   fault-below t,
   fault.Post,
+  marked-reads.Asked,
+  marked-reads.Learnt,
 ) (inside-at t) inside.Post inside-Inv-loop inside-μ-loop
 inside-enum-told t c = search needs
 
@@ -795,10 +802,12 @@ inside-returns : (t : ℕ) → inside-lts.Need-returns (
   spot-of-reads.Learnt,
   fault-below t,
   fault.Post,
+  marked-reads.Asked,
+  marked-reads.Learnt,
 ) (inside-at t) inside.Post inside-Inv-loop inside-μ-loop
 inside-returns t c =
     let x = rw (c .enum-told .given .1) at (c .before .before .next-piece .ensures) in
-    (λ i m e h. absurd (group-refused _ _ m _ _ _ _ _ (c .before .before .before .loop .inv .2 i m e) (x .0)), tt)
+    (λ i m e h. absurd (group-refused _ _ m _ _ _ _ _ _ _ (c .before .before .before .loop .inv .2 i m e) (x .0)), tt)
 
 inside-enum-known-done : (t : ℕ) → inside-lts.Need-enum-known-done (
   next-piece-reads.Asked,
@@ -813,6 +822,8 @@ inside-enum-known-done : (t : ℕ) → inside-lts.Need-enum-known-done (
   spot-of-reads.Learnt,
   fault-below t,
   fault.Post,
+  marked-reads.Asked,
+  marked-reads.Learnt,
 ) (inside-at t) inside.Post inside-Inv-loop inside-μ-loop
 inside-enum-known-done t c = search needs
 
@@ -829,6 +840,8 @@ inside-enough-requires : (t : ℕ) → inside-lts.Need-enough-requires (
   spot-of-reads.Learnt,
   fault-below t,
   fault.Post,
+  marked-reads.Asked,
+  marked-reads.Learnt,
 ) (inside-at t) inside.Post inside-Inv-loop inside-μ-loop
 inside-enough-requires t c κs = search needs
 
@@ -845,10 +858,12 @@ inside-returns-2 : (t : ℕ) → inside-lts.Need-returns-2 (
   spot-of-reads.Learnt,
   fault-below t,
   fault.Post,
+  marked-reads.Asked,
+  marked-reads.Learnt,
 ) (inside-at t) inside.Post inside-Inv-loop inside-μ-loop
 inside-returns-2 t c =
     let x = rw (c .before .before .before .done .given .1) at (c .before .before .before .before .before .next-piece .ensures) in
-    (λ i m e h. group-past _ _ m _ _ _ _ _ (c .before .before .before .before .before .before .loop .inv .2 i m e) (x .0) (c .before .enough .ensures (now (c .before .before .before .before .before .before .before .before .before .before .before .args .pool)) (now (c .before .before .before .before .before .before .before .before .before .before .before .args .ranges)) (c .before .before .before .before .before .before .before .before .before .before .before .args .levels)) (c .if1 .taken), omega arith)
+    (λ i m e h. let k = group-past _ _ m _ _ _ _ _ _ _ (c .before .before .before .before .before .before .loop .inv .2 i m e) (x .0) (c .before .enough .ensures (now (c .before .before .before .before .before .before .before .before .before .before .before .args .pool)) (now (c .before .before .before .before .before .before .before .before .before .before .before .args .ranges)) (c .before .before .before .before .before .before .before .before .before .before .before .args .levels)) (c .if1 .taken) in (k .0, count-end _ _ _ (k .1), k .2), omega arith)
 
 inside-returns-3 : (t : ℕ) → inside-lts.Need-returns-3 (
   next-piece-reads.Asked,
@@ -863,10 +878,12 @@ inside-returns-3 : (t : ℕ) → inside-lts.Need-returns-3 (
   spot-of-reads.Learnt,
   fault-below t,
   fault.Post,
+  marked-reads.Asked,
+  marked-reads.Learnt,
 ) (inside-at t) inside.Post inside-Inv-loop inside-μ-loop
 inside-returns-3 t c =
     let x = rw (c .before .before .before .done .given .1) at (c .before .before .before .before .before .next-piece .ensures) in
-    (λ i m e h. (group-short _ _ m _ _ _ _ _ (c .before .before .before .before .before .before .loop .inv .2 i m e) (x .0) (c .before .enough .ensures (now (c .before .before .before .before .before .before .before .before .before .before .before .args .pool)) (now (c .before .before .before .before .before .before .before .before .before .before .before .args .ranges)) (c .before .before .before .before .before .before .before .before .before .before .before .args .levels)) (c .if1 .left), h), tt)
+    (λ i m e h. (group-short _ _ m _ _ _ _ _ _ _ (c .before .before .before .before .before .before .loop .inv .2 i m e) (x .0) (c .before .enough .ensures (now (c .before .before .before .before .before .before .before .before .before .before .before .args .pool)) (now (c .before .before .before .before .before .before .before .before .before .before .before .args .ranges)) (c .before .before .before .before .before .before .before .before .before .before .before .args .levels)) (c .if1 .left), h), tt)
 
 inside-enum-known-text : (t : ℕ) → inside-lts.Need-enum-known-text (
   next-piece-reads.Asked,
@@ -881,6 +898,8 @@ inside-enum-known-text : (t : ℕ) → inside-lts.Need-enum-known-text (
   spot-of-reads.Learnt,
   fault-below t,
   fault.Post,
+  marked-reads.Asked,
+  marked-reads.Learnt,
 ) (inside-at t) inside.Post inside-Inv-loop inside-μ-loop
 inside-enum-known-text t c = search needs
 
@@ -897,6 +916,8 @@ inside-part-requires : (t : ℕ) → inside-lts.Need-part-requires (
   spot-of-reads.Learnt,
   fault-below t,
   fault.Post,
+  marked-reads.Asked,
+  marked-reads.Learnt,
 ) (inside-at t) inside.Post inside-Inv-loop inside-μ-loop
 inside-part-requires t c κs = search needs
 
@@ -913,6 +934,8 @@ inside-all-ws-requires : (t : ℕ) → inside-lts.Need-all-ws-requires (
   spot-of-reads.Learnt,
   fault-below t,
   fault.Post,
+  marked-reads.Asked,
+  marked-reads.Learnt,
 ) (inside-at t) inside.Post inside-Inv-loop inside-μ-loop
 inside-all-ws-requires t c κs = search needs
 
@@ -929,11 +952,13 @@ inside-returns-4 : (t : ℕ) → inside-lts.Need-returns-4 (
   spot-of-reads.Learnt,
   fault-below t,
   fault.Post,
+  marked-reads.Asked,
+  marked-reads.Learnt,
 ) (inside-at t) inside.Post inside-Inv-loop inside-μ-loop
 inside-returns-4 t c =
     let x = rw (c .before .before .before .before .text .given .1) at (c .before .before .before .before .before .before .next-piece .ensures) in
     let g = rw (c .before .before .part .ensures) at (c .before .all-ws .ensures) in
-    (λ i m e h. (group-between _ _ m _ _ _ _ _ (c .before .before .before .before .before .before .before .loop .inv .2 i m e) (x .0) g (not-true _ (c .if2 .taken)), h), tt)
+    (λ i m e h. (group-between _ _ m _ _ _ _ _ _ _ (c .before .before .before .before .before .before .before .loop .inv .2 i m e) (x .0) g (not-true _ (c .if2 .taken)), h), tt)
 
 inside-loop-less : (t : ℕ) → inside-lts.Need-loop-less (
   next-piece-reads.Asked,
@@ -948,6 +973,8 @@ inside-loop-less : (t : ℕ) → inside-lts.Need-loop-less (
   spot-of-reads.Learnt,
   fault-below t,
   fault.Post,
+  marked-reads.Asked,
+  marked-reads.Learnt,
 ) (inside-at t) inside.Post inside-Inv-loop inside-μ-loop
 inside-loop-less t c =
     let x = rw (c .before .before .before .before .text .given .1) at (c .before .before .before .before .before .before .next-piece .ensures) in
@@ -966,11 +993,13 @@ inside-loop-again : (t : ℕ) → inside-lts.Need-loop-again (
   spot-of-reads.Learnt,
   fault-below t,
   fault.Post,
+  marked-reads.Asked,
+  marked-reads.Learnt,
 ) (inside-at t) inside.Post inside-Inv-loop inside-μ-loop
 inside-loop-again t c =
     let x = rw (c .before .before .before .before .text .given .1) at (c .before .before .before .before .before .before .next-piece .ensures) in
     let g = rw (c .before .before .part .ensures) at (c .before .all-ws .ensures) in
-    (omega arith, omega arith, λ i m e. group-text _ _ m _ _ _ _ _ (c .before .before .before .before .before .before .before .loop .inv .2 i m e) (x .0) g (not-false _ (c .if2 .left)))
+    (omega arith, omega arith, λ i m e. group-text _ _ m _ _ _ _ _ _ _ (c .before .before .before .before .before .before .before .loop .inv .2 i m e) (count-quiet _ _ _) (x .0) g (not-false _ (c .if2 .left)))
 
 inside-enum-known-done-2 : (t : ℕ) → inside-lts.Need-enum-known-done-2 (
   next-piece-reads.Asked,
@@ -985,6 +1014,8 @@ inside-enum-known-done-2 : (t : ℕ) → inside-lts.Need-enum-known-done-2 (
   spot-of-reads.Learnt,
   fault-below t,
   fault.Post,
+  marked-reads.Asked,
+  marked-reads.Learnt,
 ) (inside-at t) inside.Post inside-Inv-loop inside-μ-loop
 inside-enum-known-done-2 t c = search needs
 
@@ -1001,6 +1032,8 @@ inside-loop-less-2 : (t : ℕ) → inside-lts.Need-loop-less-2 (
   spot-of-reads.Learnt,
   fault-below t,
   fault.Post,
+  marked-reads.Asked,
+  marked-reads.Learnt,
 ) (inside-at t) inside.Post inside-Inv-loop inside-μ-loop
 inside-loop-less-2 t c =
     let x = rw (c .before .done2 .given .1) at (c .before .before .before .next-piece .ensures) in
@@ -1019,10 +1052,12 @@ inside-loop-again-2 : (t : ℕ) → inside-lts.Need-loop-again-2 (
   spot-of-reads.Learnt,
   fault-below t,
   fault.Post,
+  marked-reads.Asked,
+  marked-reads.Learnt,
 ) (inside-at t) inside.Post inside-Inv-loop inside-μ-loop
 inside-loop-again-2 t c =
     let x = rw (c .before .done2 .given .1) at (c .before .before .before .next-piece .ensures) in
-    (omega arith, omega arith, λ i m e. group-note _ _ m _ _ _ _ _ (c .before .before .before .before .loop .inv .2 i m e) (x .0))
+    (omega arith, omega arith, λ i m e. group-note _ _ m _ _ _ _ _ _ _ (c .before .before .before .before .loop .inv .2 i m e) (count-quiet _ _ _) (x .0))
 
 inside-enum-told-2 : (t : ℕ) → inside-lts.Need-enum-told-2 (
   next-piece-reads.Asked,
@@ -1037,6 +1072,8 @@ inside-enum-told-2 : (t : ℕ) → inside-lts.Need-enum-told-2 (
   spot-of-reads.Learnt,
   fault-below t,
   fault.Post,
+  marked-reads.Asked,
+  marked-reads.Learnt,
 ) (inside-at t) inside.Post inside-Inv-loop inside-μ-loop
 inside-enum-told-2 t c = search needs
 
@@ -1053,6 +1090,8 @@ inside-spot-of-requires : (t : ℕ) → inside-lts.Need-spot-of-requires (
   spot-of-reads.Learnt,
   fault-below t,
   fault.Post,
+  marked-reads.Asked,
+  marked-reads.Learnt,
 ) (inside-at t) inside.Post inside-Inv-loop inside-μ-loop
 inside-spot-of-requires t c κs = search needs
 
@@ -1069,6 +1108,8 @@ inside-enum-told-3 : (t : ℕ) → inside-lts.Need-enum-told-3 (
   spot-of-reads.Learnt,
   fault-below t,
   fault.Post,
+  marked-reads.Asked,
+  marked-reads.Learnt,
 ) (inside-at t) inside.Post inside-Inv-loop inside-μ-loop
 inside-enum-told-3 t c = search needs
 
@@ -1085,11 +1126,13 @@ inside-returns-5 : (t : ℕ) → inside-lts.Need-returns-5 (
   spot-of-reads.Learnt,
   fault-below t,
   fault.Post,
+  marked-reads.Asked,
+  marked-reads.Learnt,
 ) (inside-at t) inside.Post inside-Inv-loop inside-μ-loop
 inside-returns-5 t c =
     let x = rw (c .before .before .before .enum-told2 .given .1) at (c .before .before .before .before .before .next-piece .ensures) in
     let y = rw (c .enum-told3 .given .1) at (c .before .before .spot-of .ensures) in
-    (λ i m e h. (group-nowhere _ _ m _ _ _ _ _ (c .before .before .before .before .before .before .loop .inv .2 i m e) (x .0) (λ k w q. y .0 (now (c .before .before .before .before .before .before .before .before .before .before .before .args .ranges)) (c .before .before .before .before .before .before .before .before .before .before .before .args .levels) (c .before .before .before .before .before .before .before .before .before .before .before .args .levels) k w q), h), tt)
+    (λ i m e h. (group-nowhere _ _ m _ _ _ _ _ _ _ (c .before .before .before .before .before .before .loop .inv .2 i m e) (x .0) (λ k w q. y .0 (now (c .before .before .before .before .before .before .before .before .before .before .before .args .ranges)) (c .before .before .before .before .before .before .before .before .before .before .before .args .levels) (c .before .before .before .before .before .before .before .before .before .before .before .args .levels) k w q), h), tt)
 
 inside-enum-known-now : (t : ℕ) → inside-lts.Need-enum-known-now (
   next-piece-reads.Asked,
@@ -1104,6 +1147,8 @@ inside-enum-known-now : (t : ℕ) → inside-lts.Need-enum-known-now (
   spot-of-reads.Learnt,
   fault-below t,
   fault.Post,
+  marked-reads.Asked,
+  marked-reads.Learnt,
 ) (inside-at t) inside.Post inside-Inv-loop inside-μ-loop
 inside-enum-known-now t c = search needs
 
@@ -1120,6 +1165,8 @@ inside-add-fault : (t : ℕ) → inside-lts.Need-add-fault (
   spot-of-reads.Learnt,
   fault-below t,
   fault.Post,
+  marked-reads.Asked,
+  marked-reads.Learnt,
 ) (inside-at t) inside.Post inside-Inv-loop inside-μ-loop
 inside-add-fault t c =
     let y = rw (c .before .now .given .1) at (c .before .before .before .spot-of .ensures) in
@@ -1138,6 +1185,8 @@ inside-fault-requires : (t : ℕ) → inside-lts.Need-fault-requires (
   spot-of-reads.Learnt,
   fault-below t,
   fault.Post,
+  marked-reads.Asked,
+  marked-reads.Learnt,
 ) (inside-at t) inside.Post inside-Inv-loop inside-μ-loop
 inside-fault-requires t c κs = search needs
 
@@ -1154,6 +1203,8 @@ inside-enum-known-z : (t : ℕ) → inside-lts.Need-enum-known-z (
   spot-of-reads.Learnt,
   fault-below t,
   fault.Post,
+  marked-reads.Asked,
+  marked-reads.Learnt,
 ) (inside-at t) inside.Post inside-Inv-loop inside-μ-loop
 inside-enum-known-z t c = search needs
 
@@ -1170,12 +1221,14 @@ inside-returns-6 : (t : ℕ) → inside-lts.Need-returns-6 (
   spot-of-reads.Learnt,
   fault-below t,
   fault.Post,
+  marked-reads.Asked,
+  marked-reads.Learnt,
 ) (inside-at t) inside.Post inside-Inv-loop inside-μ-loop
 inside-returns-6 t c =
     let x = rw (c .before .before .before .before .before .before .before .before .enum-told2 .given .1) at (c .before .before .before .before .before .before .before .before .before .before .next-piece .ensures) in
     let y = rw (c .before .before .before .before .before .now .given .1) at (c .before .before .before .before .before .before .before .spot-of .ensures) in
     let v = rw (c .before .z .given .1) at (c .before .before .before .fault .ensures) in
-    (λ i m e h. group-fault _ _ m _ _ _ _ _ (c .before .before .before .before .before .before .before .before .before .before .before .loop .inv .2 i m e) (x .0) (λ k w q. y .0 (now (c .before .before .before .before .before .before .before .before .before .before .before .before .before .before .before .before .args .ranges)) (c .before .before .before .before .before .before .before .before .before .before .before .before .before .before .before .before .args .levels) (c .before .before .before .before .before .before .before .before .before .before .before .before .before .before .before .before .args .levels) k w q) (λ k w q. v .0 k w q), tt)
+    (λ i m e h. group-fault _ _ m _ _ _ _ _ _ _ (c .before .before .before .before .before .before .before .before .before .before .before .loop .inv .2 i m e) (x .0) (λ k w q. y .0 (now (c .before .before .before .before .before .before .before .before .before .before .before .before .before .before .before .before .args .ranges)) (c .before .before .before .before .before .before .before .before .before .before .before .before .before .before .before .before .args .levels) (c .before .before .before .before .before .before .before .before .before .before .before .before .before .before .before .before .args .levels) k w q) (λ k w q. v .0 k w q), tt)
 
 inside-enum-known-next : (t : ℕ) → inside-lts.Need-enum-known-next (
   next-piece-reads.Asked,
@@ -1190,6 +1243,8 @@ inside-enum-known-next : (t : ℕ) → inside-lts.Need-enum-known-next (
   spot-of-reads.Learnt,
   fault-below t,
   fault.Post,
+  marked-reads.Asked,
+  marked-reads.Learnt,
 ) (inside-at t) inside.Post inside-Inv-loop inside-μ-loop
 inside-enum-known-next t c = search needs
 
@@ -1206,10 +1261,90 @@ inside-add-count : (t : ℕ) → inside-lts.Need-add-count (
   spot-of-reads.Learnt,
   fault-below t,
   fault.Post,
+  marked-reads.Asked,
+  marked-reads.Learnt,
 ) (inside-at t) inside.Post inside-Inv-loop inside-μ-loop
 inside-add-count t c =
     let y = rw (c .before .before .before .before .before .now .given .1) at (c .before .before .before .before .before .before .before .spot-of .ensures) in
     let v = rw (c .before .next .given .1) at (c .before .before .before .fault .ensures) in
+    omega arith
+
+inside-add-total : (t : ℕ) → inside-lts.Need-add-total (
+  next-piece-reads.Asked,
+  next-piece-reads.Learnt,
+  enough-reads.Asked,
+  enough-reads.Learnt,
+  part-reads.Asked,
+  part-reads.Learnt,
+  all-ws-reads.Asked,
+  all-ws-reads.Learnt,
+  spot-of-reads.Asked,
+  spot-of-reads.Learnt,
+  fault-below t,
+  fault.Post,
+  marked-reads.Asked,
+  marked-reads.Learnt,
+) (inside-at t) inside.Post inside-Inv-loop inside-μ-loop
+inside-add-total t c =
+    let v = rw (c .before .next .given .1) at (c .before .before .before .fault .ensures) in
+    omega arith
+
+inside-add-marked : (t : ℕ) → inside-lts.Need-add-marked (
+  next-piece-reads.Asked,
+  next-piece-reads.Learnt,
+  enough-reads.Asked,
+  enough-reads.Learnt,
+  part-reads.Asked,
+  part-reads.Learnt,
+  all-ws-reads.Asked,
+  all-ws-reads.Learnt,
+  spot-of-reads.Asked,
+  spot-of-reads.Learnt,
+  fault-below t,
+  fault.Post,
+  marked-reads.Asked,
+  marked-reads.Learnt,
+) (inside-at t) inside.Post inside-Inv-loop inside-μ-loop
+inside-add-marked t c =
+    let y = rw (c .before .before .before .before .before .now .given .1) at (c .before .before .before .before .before .before .before .spot-of .ensures) in
+    omega (arith, c .before .before .before .before .before .before .before .before .before .before .before .before .before .before .before .before .pre .1, y .1)
+
+inside-marked-requires : (t : ℕ) → inside-lts.Need-marked-requires (
+  next-piece-reads.Asked,
+  next-piece-reads.Learnt,
+  enough-reads.Asked,
+  enough-reads.Learnt,
+  part-reads.Asked,
+  part-reads.Learnt,
+  all-ws-reads.Asked,
+  all-ws-reads.Learnt,
+  spot-of-reads.Asked,
+  spot-of-reads.Learnt,
+  fault-below t,
+  fault.Post,
+  marked-reads.Asked,
+  marked-reads.Learnt,
+) (inside-at t) inside.Post inside-Inv-loop inside-μ-loop
+inside-marked-requires t c κs = search needs
+
+inside-add-total-2 : (t : ℕ) → inside-lts.Need-add-total-2 (
+  next-piece-reads.Asked,
+  next-piece-reads.Learnt,
+  enough-reads.Asked,
+  enough-reads.Learnt,
+  part-reads.Asked,
+  part-reads.Learnt,
+  all-ws-reads.Asked,
+  all-ws-reads.Learnt,
+  spot-of-reads.Asked,
+  spot-of-reads.Learnt,
+  fault-below t,
+  fault.Post,
+  marked-reads.Asked,
+  marked-reads.Learnt,
+) (inside-at t) inside.Post inside-Inv-loop inside-μ-loop
+inside-add-total-2 t c =
+    let v = rw (c .before .before .next .given .1) at (c .before .before .before .before .fault .ensures) in
     omega arith
 
 inside-loop-less-3 : (t : ℕ) → inside-lts.Need-loop-less-3 (
@@ -1225,9 +1360,11 @@ inside-loop-less-3 : (t : ℕ) → inside-lts.Need-loop-less-3 (
   spot-of-reads.Learnt,
   fault-below t,
   fault.Post,
+  marked-reads.Asked,
+  marked-reads.Learnt,
 ) (inside-at t) inside.Post inside-Inv-loop inside-μ-loop
 inside-loop-less-3 t c =
-    let v = rw (c .before .next .given .1) at (c .before .before .before .fault .ensures) in
+    let v = rw (c .before .before .next .given .1) at (c .before .before .before .before .fault .ensures) in
     omega arith
 
 inside-loop-again-3 : (t : ℕ) → inside-lts.Need-loop-again-3 (
@@ -1243,16 +1380,20 @@ inside-loop-again-3 : (t : ℕ) → inside-lts.Need-loop-again-3 (
   spot-of-reads.Learnt,
   fault-below t,
   fault.Post,
+  marked-reads.Asked,
+  marked-reads.Learnt,
 ) (inside-at t) inside.Post inside-Inv-loop inside-μ-loop
 inside-loop-again-3 t c =
-    let x = rw (c .before .before .before .before .before .before .before .before .enum-told2 .given .1) at (c .before .before .before .before .before .before .before .before .before .before .next-piece .ensures) in
-    let y = rw (c .before .before .before .before .before .now .given .1) at (c .before .before .before .before .before .before .before .spot-of .ensures) in
-    let v = rw (c .before .next .given .1) at (c .before .before .before .fault .ensures) in (
+    let x = rw (c .before .before .before .before .before .before .before .before .before .enum-told2 .given .1) at (c .before .before .before .before .before .before .before .before .before .before .before .next-piece .ensures) in
+    let y = rw (c .before .before .before .before .before .before .now .given .1) at (c .before .before .before .before .before .before .before .before .spot-of .ensures) in
+    let v = rw (c .before .before .next .given .1) at (c .before .before .before .before .fault .ensures) in (
       omega arith,
       omega arith,
       λ i m e.
-          group-next (now (c .before .before .before .before .before .before .before .before .before .before .before .before .before .before .before .before .args .table)) (now (c .before .before .before .before .before .before .before .before .before .before .before .before .before .before .before .before .args .pool)) (now (c .before .before .before .before .before .before .before .before .before .before .before .before .before .before .before .before .args .ranges)) (c .before .before .before .before .before .before .before .before .before .before .before .before .before .before .before .before .args .levels) (c .before .before .before .before .before .before .before .before .before .before .before .before .before .before .before .before .args .first) (c .before .before .before .before .before .before .before .before .before .before .before .before .before .before .before .before .args .n) (c .before .before .before .before .before .before .before .before .before .before .before .before .before .before .before .before .args .from) (c .before .before .before .before .before .now .given .0 .0) (c .before .before .before .before .before .now .given .0 .1 .0) (y .1 .0)
-          (group-child _ _ m _ _ _ _ _ (c .before .before .before .before .before .before .before .before .before .before .before .loop .inv .2 i m e) (x .0) (λ k w q. y .0 (now (c .before .before .before .before .before .before .before .before .before .before .before .before .before .before .before .before .args .ranges)) (c .before .before .before .before .before .before .before .before .before .before .before .before .before .before .before .before .args .levels) (c .before .before .before .before .before .before .before .before .before .before .before .before .before .before .before .before .args .levels) k w q) (λ k w q. v .0 k w q)),
+          group-next (now (c .before .before .before .before .before .before .before .before .before .before .before .before .before .before .before .before .before .args .table)) (now (c .before .before .before .before .before .before .before .before .before .before .before .before .before .before .before .before .before .args .pool)) (now (c .before .before .before .before .before .before .before .before .before .before .before .before .before .before .before .before .before .args .ranges)) (c .before .before .before .before .before .before .before .before .before .before .before .before .before .before .before .before .before .args .levels) (c .before .before .before .before .before .before .before .before .before .before .before .before .before .before .before .before .before .args .first) (c .before .before .before .before .before .before .before .before .before .before .before .before .before .before .before .before .before .args .n) (c .before .before .before .before .before .before .before .before .before .before .before .before .before .before .before .before .before .args .from) (countOn (c .before .before .before .before .before .before .before .before .before .before .before .before .loop .total + c .before .before .next .given .0 .1 .0 + c .marked .result)) (c .before .before .before .before .before .before .now .given .0 .0) (c .before .before .before .before .before .before .now .given .0 .1 .0) (y .1 .0)
+          (group-child _ _ m _ _ _ _ _ _ _ (c .before .before .before .before .before .before .before .before .before .before .before .before .loop .inv .2 i m e) (x .0) (λ k w q. y .0 (now (c .before .before .before .before .before .before .before .before .before .before .before .before .before .before .before .before .before .args .ranges)) (c .before .before .before .before .before .before .before .before .before .before .before .before .before .before .before .before .before .args .levels) (c .before .before .before .before .before .before .before .before .before .before .before .before .before .before .before .before .before .args .levels) k w q) _ (λ k w q.
+          let h = v .0 k w q in
+          (h .0, count-child _ _ k (y .0 (now (c .before .before .before .before .before .before .before .before .before .before .before .before .before .before .before .before .before .args .ranges)) (c .before .before .before .before .before .before .before .before .before .before .before .before .before .before .before .before .before .args .levels) (c .before .before .before .before .before .before .before .before .before .before .before .before .before .before .before .before .before .args .levels) k w q) (c .before .before .before .before .before .before .before .before .before .before .before .before .loop .total) (h .1) (row-marked (now (c .before .before .before .before .before .before .before .before .before .before .before .before .before .before .before .before .before .args .table)) (now (c .before .before .before .before .before .before .before .before .before .before .before .before .before .before .before .before .before .args .pool)) (now (c .before .before .before .before .before .before .before .before .before .before .before .before .before .before .before .before .before .args .ranges)) (c .before .before .before .before .before .before .before .before .before .before .before .before .before .before .before .before .before .args .levels) _ (c .marked .ensures .0 (now (c .before .before .before .before .before .before .before .before .before .before .before .before .before .before .before .before .before .args .pool)) (now (c .before .before .before .before .before .before .before .before .before .before .before .before .before .before .before .before .before .args .ranges)))), h .2))),
     )
 
 pub +fault+inside-spec : {M : Type 1} → statement M
@@ -1320,6 +1461,8 @@ pub +fault+inside-spec : {M : Type 1} → statement M
       spot-of-reads.Learnt,
       fault-below t,
       fault.Post,
+      marked-reads.Asked,
+      marked-reads.Learnt,
     )
     (inside-at t)
     inside.Post
@@ -1353,5 +1496,9 @@ pub +fault+inside-spec : {M : Type 1} → statement M
     (inside-returns-6 t)
     (inside-enum-known-next t)
     (inside-add-count t)
+    (inside-add-total t)
+    (inside-add-marked t)
+    (inside-marked-requires t)
+    (inside-add-total-2 t)
     (inside-loop-less-3 t)
     (inside-loop-again-3 t)

@@ -1,11 +1,11 @@
-use Rattle.schema.proofs.Whole.{root-other, root-unfit, root-refused, root-empty, root-short, root-inside, root-bad, root-fine}
+use Rattle.schema.proofs.Whole.{root-other, root-unfit, root-refused, root-empty, root-short, root-open}
 use Rattle.schema.proofs.Tagged.{not-past, head-refused}
 use Rattle.markup.specs.Document.{depth}
 use borrow.Author.Tests.{not-true, not-false}
 use mathlib.Core.Path.{_∙_}
 use denote.Ref.{now}
-use native.Mathlib.Omega.{arith}
 use borrow.Author.Needs.{needs}
+use native.Mathlib.Omega.{arith}
 use Rattle.schema.proofs.file.shape.Statement.{statement}
 use Rattle.schema.proofs.file.shape.Tie as tie
 
@@ -15,8 +15,8 @@ returns c = (λ x m e. absurd (not-past depth (now (c .before .before .before .b
 sub-from : tie.Need-sub-from
 sub-from c = search needs
 
-add-t15 : tie.Need-add-t15
-add-t15 c = search needs
+add-t13 : tie.Need-add-t13
+add-t13 c = search needs
 
 name-requires : tie.Need-name-requires
 name-requires c κs = search needs
@@ -56,12 +56,6 @@ returns-4 c =
     let g = rw (c .before .before .before .before .before .name-of .ensures, c .before .before .before .before .part .ensures) at (c .before .before .before .same .ensures) in
     (λ x m e. root-unfit (now (c .before .before .before .before .before .before .before .before .before .before .before .before .before .before .before .args .table)) (now (c .before .before .before .before .before .before .before .before .before .before .before .before .before .before .before .args .pool)) (now (c .before .before .before .before .before .before .before .before .before .before .before .before .before .before .before .args .ranges)) (now (c .before .before .before .before .before .before .before .before .before .before .before .before .before .before .before .args .s)) (c .before .before .before .before .before .before .before .before .before .before .before .before .before .before .before .args .root) x m e _ _ (u .0) (c .before .before .before .same .result) g (not-false _ (c .before .before .if2 .left)) (c .before .root-attrs-fit .result) (c .before .root-attrs-fit .ensures (now (c .before .before .before .before .before .before .before .before .before .before .before .before .before .before .before .args .ranges))) (not-true _ (c .if3 .taken)), search needs)
 
-cell-requires : tie.Need-cell-requires
-cell-requires c κs = search needs
-
-cell-requires-2 : tie.Need-cell-requires-2
-cell-requires-2 c κs = search needs
-
 attributes-requires : tie.Need-attributes-requires
 attributes-requires c κs = search needs
 
@@ -71,6 +65,12 @@ enum-told-2 c = search needs
 enum-told-3 : tie.Need-enum-told-3
 enum-told-3 c = search needs
 
+cell-requires : tie.Need-cell-requires
+cell-requires c κs = search needs
+
+cell-requires-2 : tie.Need-cell-requires-2
+cell-requires-2 c κs = search needs
+
 enough-requires : tie.Need-enough-requires
 enough-requires c κs = search needs
 
@@ -78,60 +78,38 @@ returns-5 : tie.Need-returns-5
 returns-5 c =
     let u = rw (c .before .before .before .before .before .before .before .before .before .before .before .before .before .before .start .given .1) at (c .before .before .before .before .before .before .before .before .before .before .before .before .before .before .before .before .name .ensures) in
     let g = rw (c .before .before .before .before .before .before .before .before .before .before .before .before .name-of .ensures, c .before .before .before .before .before .before .before .before .before .before .before .part .ensures) at (c .before .before .before .before .before .before .before .before .before .before .same .ensures) in
-    let w = rw (c .before .before .enum-told3 .given .1) at (c .before .before .before .before .attributes .ensures) in
-    (λ x m e. root-empty (now (c .before .before .before .before .before .before .before .before .before .before .before .before .before .before .before .before .before .before .before .before .before .before .args .table)) (now (c .before .before .before .before .before .before .before .before .before .before .before .before .before .before .before .before .before .before .before .before .before .before .args .pool)) (now (c .before .before .before .before .before .before .before .before .before .before .before .before .before .before .before .before .before .before .before .before .before .before .args .ranges)) (now (c .before .before .before .before .before .before .before .before .before .before .before .before .before .before .before .before .before .before .before .before .before .before .args .s)) (c .before .before .before .before .before .before .before .before .before .before .before .before .before .before .before .before .before .before .before .before .before .before .args .root) x m e _ _ (u .0) (c .before .before .before .before .before .before .before .before .before .before .same .result) g (not-false _ (c .before .before .before .before .before .before .before .before .before .if2 .left)) (c .before .before .before .before .before .before .before .before .root-attrs-fit .result) (c .before .before .before .before .before .before .before .before .root-attrs-fit .ensures (now (c .before .before .before .before .before .before .before .before .before .before .before .before .before .before .before .before .before .before .before .before .before .before .args .ranges))) (not-false _ (c .before .before .before .before .before .before .before .if3 .left)) (c .before .before .before .before .before .before .cell .ensures .0) (c .before .before .before .before .before .cell2 .ensures .0) (omega arith) (w .0) (c .before .enough .ensures (now (c .before .before .before .before .before .before .before .before .before .before .before .before .before .before .before .before .before .before .before .before .before .before .args .pool)) (now (c .before .before .before .before .before .before .before .before .before .before .before .before .before .before .before .before .before .before .before .before .before .before .args .ranges)) 11) (c .if4 .taken), search needs)
+    let w = rw (c .before .before .before .before .enum-told3 .given .1) at (c .before .before .before .before .before .before .attributes .ensures) in
+    (λ x m e. root-empty (now (c .before .before .before .before .before .before .before .before .before .before .before .before .before .before .before .before .before .before .before .before .before .before .args .table)) (now (c .before .before .before .before .before .before .before .before .before .before .before .before .before .before .before .before .before .before .before .before .before .before .args .pool)) (now (c .before .before .before .before .before .before .before .before .before .before .before .before .before .before .before .before .before .before .before .before .before .before .args .ranges)) (now (c .before .before .before .before .before .before .before .before .before .before .before .before .before .before .before .before .before .before .before .before .before .before .args .s)) (c .before .before .before .before .before .before .before .before .before .before .before .before .before .before .before .before .before .before .before .before .before .before .args .root) x m e _ _ (u .0) (c .before .before .before .before .before .before .before .before .before .before .same .result) g (not-false _ (c .before .before .before .before .before .before .before .before .before .if2 .left)) (c .before .before .before .before .before .before .before .before .root-attrs-fit .result) (c .before .before .before .before .before .before .before .before .root-attrs-fit .ensures (now (c .before .before .before .before .before .before .before .before .before .before .before .before .before .before .before .before .before .before .before .before .before .before .args .ranges))) (not-false _ (c .before .before .before .before .before .before .before .if3 .left)) (w .0) (c .before .before .before .cell .ensures .0) (c .before .before .cell2 .ensures .0) (c .before .enough .ensures (now (c .before .before .before .before .before .before .before .before .before .before .before .before .before .before .before .before .before .before .before .before .before .before .args .pool)) (now (c .before .before .before .before .before .before .before .before .before .before .before .before .before .before .before .before .before .before .before .before .before .before .args .ranges)) 11) (c .if4 .taken), search needs)
 
 enum-known-done : tie.Need-enum-known-done
 enum-known-done c = search needs
 
-inside-requires : tie.Need-inside-requires
-inside-requires c κs = (c .before .before .before .before .before .before .before .before .before .before .before .before .before .before .before .before .before .before .before .before .before .pre, c .before .before .before .before .before .cell .ensures .1, c .before .before .before .before .cell2 .ensures .1)
-
-enum-told-4 : tie.Need-enum-told-4
-enum-told-4 c = search needs
-
-enum-told-5 : tie.Need-enum-told-5
-enum-told-5 c = search needs
-
-records-requires : tie.Need-records-requires
-records-requires c κs = c .before .before .before .before .before .before .before .before .before .before .before .before .before .before .before .before .before .before .before .before .before .before .before .before .pre
+root-inside-requires : tie.Need-root-inside-requires
+root-inside-requires c κs = search needs
 
 returns-6 : tie.Need-returns-6
 returns-6 c =
-    let u = rw (c .before .before .before .before .before .before .before .before .before .before .before .before .start .given .1) at (c .before .before .before .before .before .before .before .before .before .before .before .before .before .before .name .ensures) in
-    let g = rw (c .before .before .before .before .before .before .before .before .before .before .name-of .ensures, c .before .before .before .before .before .before .before .before .before .part .ensures) at (c .before .before .before .before .before .before .before .before .same .ensures) in
+    let u = rw (c .before .before .before .before .before .before .before .before .before .before .start .given .1) at (c .before .before .before .before .before .before .before .before .before .before .before .before .name .ensures) in
+    let g = rw (c .before .before .before .before .before .before .before .before .name-of .ensures, c .before .before .before .before .before .before .before .part .ensures) at (c .before .before .before .before .before .before .same .ensures) in
     let w = rw (c .enum-told2 .given .1) at (c .before .before .attributes .ensures) in
-    (λ x m e. absurd (root-refused (now (c .before .before .before .before .before .before .before .before .before .before .before .before .before .before .before .before .before .before .before .before .args .table)) (now (c .before .before .before .before .before .before .before .before .before .before .before .before .before .before .before .before .before .before .before .before .args .pool)) (now (c .before .before .before .before .before .before .before .before .before .before .before .before .before .before .before .before .before .before .before .before .args .ranges)) (now (c .before .before .before .before .before .before .before .before .before .before .before .before .before .before .before .before .before .before .before .before .args .s)) (c .before .before .before .before .before .before .before .before .before .before .before .before .before .before .before .before .before .before .before .before .args .root) x m e _ _ (u .0) (c .before .before .before .before .before .before .before .before .same .result) g (not-false _ (c .before .before .before .before .before .before .before .if2 .left)) (c .before .before .before .before .before .before .root-attrs-fit .result) (c .before .before .before .before .before .before .root-attrs-fit .ensures (now (c .before .before .before .before .before .before .before .before .before .before .before .before .before .before .before .before .before .before .before .before .args .ranges))) (w .0)), search needs)
+    (λ x m e. absurd (root-refused (now (c .before .before .before .before .before .before .before .before .before .before .before .before .before .before .before .before .before .before .args .table)) (now (c .before .before .before .before .before .before .before .before .before .before .before .before .before .before .before .before .before .before .args .pool)) (now (c .before .before .before .before .before .before .before .before .before .before .before .before .before .before .before .before .before .before .args .ranges)) (now (c .before .before .before .before .before .before .before .before .before .before .before .before .before .before .before .before .before .before .args .s)) (c .before .before .before .before .before .before .before .before .before .before .before .before .before .before .before .before .before .before .args .root) x m e _ _ (u .0) (c .before .before .before .before .before .before .same .result) g (not-false _ (c .before .before .before .before .before .if2 .left)) (c .before .before .before .before .root-attrs-fit .result) (c .before .before .before .before .root-attrs-fit .ensures (now (c .before .before .before .before .before .before .before .before .before .before .before .before .before .before .before .before .before .before .args .ranges))) (w .0)), search needs)
 
 returns-7 : tie.Need-returns-7
 returns-7 c =
     let u = rw (c .before .before .before .before .before .before .before .before .before .before .before .before .before .before .start .given .1) at (c .before .before .before .before .before .before .before .before .before .before .before .before .before .before .before .before .name .ensures) in
     let g = rw (c .before .before .before .before .before .before .before .before .before .before .before .before .name-of .ensures, c .before .before .before .before .before .before .before .before .before .before .before .part .ensures) at (c .before .before .before .before .before .before .before .before .before .before .same .ensures) in
-    let w = rw (c .before .before .enum-told3 .given .1) at (c .before .before .before .before .attributes .ensures) in
-    (λ x m e. root-short (now (c .before .before .before .before .before .before .before .before .before .before .before .before .before .before .before .before .before .before .before .before .before .before .args .table)) (now (c .before .before .before .before .before .before .before .before .before .before .before .before .before .before .before .before .before .before .before .before .before .before .args .pool)) (now (c .before .before .before .before .before .before .before .before .before .before .before .before .before .before .before .before .before .before .before .before .before .before .args .ranges)) (now (c .before .before .before .before .before .before .before .before .before .before .before .before .before .before .before .before .before .before .before .before .before .before .args .s)) (c .before .before .before .before .before .before .before .before .before .before .before .before .before .before .before .before .before .before .before .before .before .before .args .root) x m e _ _ (u .0) (c .before .before .before .before .before .before .before .before .before .before .same .result) g (not-false _ (c .before .before .before .before .before .before .before .before .before .if2 .left)) (c .before .before .before .before .before .before .before .before .root-attrs-fit .result) (c .before .before .before .before .before .before .before .before .root-attrs-fit .ensures (now (c .before .before .before .before .before .before .before .before .before .before .before .before .before .before .before .before .before .before .before .before .before .before .args .ranges))) (not-false _ (c .before .before .before .before .before .before .before .if3 .left)) (c .before .before .before .before .before .before .cell .ensures .0) (c .before .before .before .before .before .cell2 .ensures .0) (omega arith) (w .0) (c .before .enough .ensures (now (c .before .before .before .before .before .before .before .before .before .before .before .before .before .before .before .before .before .before .before .before .before .before .args .pool)) (now (c .before .before .before .before .before .before .before .before .before .before .before .before .before .before .before .before .before .before .before .before .before .before .args .ranges)) 11) (c .if4 .left), search needs)
+    let w = rw (c .before .before .before .before .enum-told3 .given .1) at (c .before .before .before .before .before .before .attributes .ensures) in
+    (λ x m e. root-short (now (c .before .before .before .before .before .before .before .before .before .before .before .before .before .before .before .before .before .before .before .before .before .before .args .table)) (now (c .before .before .before .before .before .before .before .before .before .before .before .before .before .before .before .before .before .before .before .before .before .before .args .pool)) (now (c .before .before .before .before .before .before .before .before .before .before .before .before .before .before .before .before .before .before .before .before .before .before .args .ranges)) (now (c .before .before .before .before .before .before .before .before .before .before .before .before .before .before .before .before .before .before .before .before .before .before .args .s)) (c .before .before .before .before .before .before .before .before .before .before .before .before .before .before .before .before .before .before .before .before .before .before .args .root) x m e _ _ (u .0) (c .before .before .before .before .before .before .before .before .before .before .same .result) g (not-false _ (c .before .before .before .before .before .before .before .before .before .if2 .left)) (c .before .before .before .before .before .before .before .before .root-attrs-fit .result) (c .before .before .before .before .before .before .before .before .root-attrs-fit .ensures (now (c .before .before .before .before .before .before .before .before .before .before .before .before .before .before .before .before .before .before .before .before .before .before .args .ranges))) (not-false _ (c .before .before .before .before .before .before .before .if3 .left)) (w .0) (c .before .before .before .cell .ensures .0) (c .before .before .cell2 .ensures .0) (c .before .enough .ensures (now (c .before .before .before .before .before .before .before .before .before .before .before .before .before .before .before .before .before .before .before .before .before .before .args .pool)) (now (c .before .before .before .before .before .before .before .before .before .before .before .before .before .before .before .before .before .before .before .before .before .before .args .ranges)) 11) (omega arith) (c .if4 .left), search needs)
 
 returns-8 : tie.Need-returns-8
 returns-8 c =
-    let u = rw (c .before .before .before .before .before .before .before .before .before .before .before .before .before .before .before .before .start .given .1) at (c .before .before .before .before .before .before .before .before .before .before .before .before .before .before .before .before .before .before .name .ensures) in
-    let g = rw (c .before .before .before .before .before .before .before .before .before .before .before .before .before .before .name-of .ensures, c .before .before .before .before .before .before .before .before .before .before .before .before .before .part .ensures) at (c .before .before .before .before .before .before .before .before .before .before .before .before .same .ensures) in
-    let w = rw (c .before .before .before .before .done .given .1) at (c .before .before .before .before .before .before .attributes .ensures) in
-    let v = rw (c .enum-told4 .given .1) at (c .before .before .inside .ensures) in (
+    let u = rw (c .before .before .before .before .before .before .before .before .before .before .before .before .start .given .1) at (c .before .before .before .before .before .before .before .before .before .before .before .before .before .before .name .ensures) in
+    let g = rw (c .before .before .before .before .before .before .before .before .before .before .name-of .ensures, c .before .before .before .before .before .before .before .before .before .part .ensures) at (c .before .before .before .before .before .before .before .before .same .ensures) in
+    let w = rw (c .before .before .done .given .1) at (c .before .before .before .before .attributes .ensures) in (
       λ x m e.
-          let i = root-inside (now (c .before .before .before .before .before .before .before .before .before .before .before .before .before .before .before .before .before .before .before .before .before .before .before .before .args .table)) (now (c .before .before .before .before .before .before .before .before .before .before .before .before .before .before .before .before .before .before .before .before .before .before .before .before .args .pool)) (now (c .before .before .before .before .before .before .before .before .before .before .before .before .before .before .before .before .before .before .before .before .before .before .before .before .args .ranges)) (now (c .before .before .before .before .before .before .before .before .before .before .before .before .before .before .before .before .before .before .before .before .before .before .before .before .args .s)) (c .before .before .before .before .before .before .before .before .before .before .before .before .before .before .before .before .before .before .before .before .before .before .before .before .args .root) x m e _ _ (u .0) (c .before .before .before .before .before .before .before .before .before .before .before .before .same .result) g (not-false _ (c .before .before .before .before .before .before .before .before .before .before .before .if2 .left)) (c .before .before .before .before .before .before .before .before .before .before .root-attrs-fit .result) (c .before .before .before .before .before .before .before .before .before .before .root-attrs-fit .ensures (now (c .before .before .before .before .before .before .before .before .before .before .before .before .before .before .before .before .before .before .before .before .before .before .before .before .args .ranges))) (not-false _ (c .before .before .before .before .before .before .before .before .before .if3 .left)) (c .before .before .before .before .before .before .before .before .cell .ensures .0) (c .before .before .before .before .before .before .before .cell2 .ensures .0) (omega arith) (w .0) in
-          root-bad (now (c .before .before .before .before .before .before .before .before .before .before .before .before .before .before .before .before .before .before .before .before .before .before .before .before .args .table)) (now (c .before .before .before .before .before .before .before .before .before .before .before .before .before .before .before .before .before .before .before .before .before .before .before .before .args .pool)) (now (c .before .before .before .before .before .before .before .before .before .before .before .before .before .before .before .before .before .before .before .before .before .before .before .before .args .ranges)) (now (c .before .before .before .before .before .before .before .before .before .before .before .before .before .before .before .before .before .before .before .before .before .before .before .before .args .s)) (c .before .before .before .before .before .before .before .before .before .before .before .before .before .before .before .before .before .before .before .before .before .before .before .before .args .root) x m e _ _ (u .0) (c .before .before .before .before .before .before .before .before .before .before .before .before .same .result) g (not-false _ (c .before .before .before .before .before .before .before .before .before .before .before .if2 .left)) (c .before .before .before .before .before .before .before .before .before .before .root-attrs-fit .result) (c .before .before .before .before .before .before .before .before .before .before .root-attrs-fit .ensures (now (c .before .before .before .before .before .before .before .before .before .before .before .before .before .before .before .before .before .before .before .before .before .before .before .before .args .ranges))) (not-false _ (c .before .before .before .before .before .before .before .before .before .if3 .left)) (c .before .before .before .before .before .before .before .before .cell .ensures .0) (c .before .before .before .before .before .before .before .cell2 .ensures .0) (omega arith) (w .0) (v .0 (i .0) m (i .1) (omega arith)),
-      search needs,
-    )
-
-returns-9 : tie.Need-returns-9
-returns-9 c =
-    let u = rw (c .before .before .before .before .before .before .before .before .before .before .before .before .before .before .before .before .before .start .given .1) at (c .before .before .before .before .before .before .before .before .before .before .before .before .before .before .before .before .before .before .before .name .ensures) in
-    let g = rw (c .before .before .before .before .before .before .before .before .before .before .before .before .before .before .before .name-of .ensures, c .before .before .before .before .before .before .before .before .before .before .before .before .before .before .part .ensures) at (c .before .before .before .before .before .before .before .before .before .before .before .before .before .same .ensures) in
-    let w = rw (c .before .before .before .before .before .done .given .1) at (c .before .before .before .before .before .before .before .attributes .ensures) in
-    let v = rw (c .before .enum-told5 .given .1) at (c .before .before .before .inside .ensures) in (
-      λ x m e.
-          let i = root-inside (now (c .before .before .before .before .before .before .before .before .before .before .before .before .before .before .before .before .before .before .before .before .before .before .before .before .before .args .table)) (now (c .before .before .before .before .before .before .before .before .before .before .before .before .before .before .before .before .before .before .before .before .before .before .before .before .before .args .pool)) (now (c .before .before .before .before .before .before .before .before .before .before .before .before .before .before .before .before .before .before .before .before .before .before .before .before .before .args .ranges)) (now (c .before .before .before .before .before .before .before .before .before .before .before .before .before .before .before .before .before .before .before .before .before .before .before .before .before .args .s)) (c .before .before .before .before .before .before .before .before .before .before .before .before .before .before .before .before .before .before .before .before .before .before .before .before .before .args .root) x m e _ _ (u .0) (c .before .before .before .before .before .before .before .before .before .before .before .before .before .same .result) g (not-false _ (c .before .before .before .before .before .before .before .before .before .before .before .before .if2 .left)) (c .before .before .before .before .before .before .before .before .before .before .before .root-attrs-fit .result) (c .before .before .before .before .before .before .before .before .before .before .before .root-attrs-fit .ensures (now (c .before .before .before .before .before .before .before .before .before .before .before .before .before .before .before .before .before .before .before .before .before .before .before .before .before .args .ranges))) (not-false _ (c .before .before .before .before .before .before .before .before .before .before .if3 .left)) (c .before .before .before .before .before .before .before .before .before .cell .ensures .0) (c .before .before .before .before .before .before .before .before .cell2 .ensures .0) (omega arith) (w .0) in
-          c .records .ensures .0 (i .0) m (i .1) ∙ root-fine (now (c .before .before .before .before .before .before .before .before .before .before .before .before .before .before .before .before .before .before .before .before .before .before .before .before .before .args .table)) (now (c .before .before .before .before .before .before .before .before .before .before .before .before .before .before .before .before .before .before .before .before .before .before .before .before .before .args .pool)) (now (c .before .before .before .before .before .before .before .before .before .before .before .before .before .before .before .before .before .before .before .before .before .before .before .before .before .args .ranges)) (now (c .before .before .before .before .before .before .before .before .before .before .before .before .before .before .before .before .before .before .before .before .before .before .before .before .before .args .s)) (c .before .before .before .before .before .before .before .before .before .before .before .before .before .before .before .before .before .before .before .before .before .before .before .before .before .args .root) x m e _ _ (u .0) (c .before .before .before .before .before .before .before .before .before .before .before .before .before .same .result) g (not-false _ (c .before .before .before .before .before .before .before .before .before .before .before .before .if2 .left)) (c .before .before .before .before .before .before .before .before .before .before .before .root-attrs-fit .result) (c .before .before .before .before .before .before .before .before .before .before .before .root-attrs-fit .ensures (now (c .before .before .before .before .before .before .before .before .before .before .before .before .before .before .before .before .before .before .before .before .before .before .before .before .before .args .ranges))) (not-false _ (c .before .before .before .before .before .before .before .before .before .before .if3 .left)) (c .before .before .before .before .before .before .before .before .before .cell .ensures .0) (c .before .before .before .before .before .before .before .before .cell2 .ensures .0) (omega arith) (w .0) (v .0 (i .0) m (i .1) (omega arith) .0),
-      c .records .ensures .1,
+          let i = root-open (now (c .before .before .before .before .before .before .before .before .before .before .before .before .before .before .before .before .before .before .before .before .args .table)) (now (c .before .before .before .before .before .before .before .before .before .before .before .before .before .before .before .before .before .before .before .before .args .pool)) (now (c .before .before .before .before .before .before .before .before .before .before .before .before .before .before .before .before .before .before .before .before .args .ranges)) (now (c .before .before .before .before .before .before .before .before .before .before .before .before .before .before .before .before .before .before .before .before .args .s)) (c .before .before .before .before .before .before .before .before .before .before .before .before .before .before .before .before .before .before .before .before .args .root) x m e _ _ (u .0) (c .before .before .before .before .before .before .before .before .same .result) g (not-false _ (c .before .before .before .before .before .before .before .if2 .left)) (c .before .before .before .before .before .before .root-attrs-fit .result) (c .before .before .before .before .before .before .root-attrs-fit .ensures (now (c .before .before .before .before .before .before .before .before .before .before .before .before .before .before .before .before .before .before .before .before .args .ranges))) (not-false _ (c .before .before .before .before .before .if3 .left)) (w .0) in
+          c .root-inside .ensures .0 (i .0) m (i .1) (omega arith) ∙ i .2,
+      c .root-inside .ensures .1,
     )
 
 pub shape-spec : {M : Type 1} → statement M
@@ -140,7 +118,7 @@ shape-spec =
     (tie.spec
     returns
     sub-from
-    add-t15
+    add-t13
     name-requires
     enum-known-start
     enum-told
@@ -151,19 +129,15 @@ shape-spec =
     returns-3
     root-attrs-fit-requires
     returns-4
-    cell-requires
-    cell-requires-2
     attributes-requires
     enum-told-2
     enum-told-3
+    cell-requires
+    cell-requires-2
     enough-requires
     returns-5
     enum-known-done
-    inside-requires
-    enum-told-4
-    enum-told-5
-    records-requires
+    root-inside-requires
     returns-6
     returns-7
-    returns-8
-    returns-9)
+    returns-8)

@@ -1,5 +1,6 @@
 use Rattle.schema.proofs.Leaf.{first-close, first-text, first-note, first-child, first-refused, endFault}
 use lib.ListN.{drop}
+use mathlib.Core.Path.{refl}
 use denote.Ref.{now}
 use borrow.Author.Needs.{needs}
 use Rattle.schema.proofs.leaves.end_of.Statement.{statement}
@@ -26,7 +27,7 @@ enum-told-4 c = search needs
 returns : tie.Need-returns
 returns c =
     let x = rw (c .before .done .given .1) at (c .before .before .before .next-piece .ensures) in
-    (λ d i m e h. first-close d _ (drop (c .before .before .before .before .before .args .start) (now (c .before .before .before .before .before .args .s))) i m e (endFault (c .before .before .before .before .before .args .from)) (x .0), search needs)
+    (λ d i m e h. let k = first-close d _ (drop (c .before .before .before .before .before .args .start) (now (c .before .before .before .before .before .args .s))) i m e (endFault (c .before .before .before .before .before .args .from)) (x .0) in (k .0, refl, k .1), search needs)
 
 returns-2 : tie.Need-returns-2
 returns-2 c =

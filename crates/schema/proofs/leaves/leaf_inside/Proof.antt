@@ -1,7 +1,7 @@
 use Rattle.schema.proofs.Leaf.{first-close, first-text, first-note, first-child, first-refused, leafFault, leaf-text, leaf-other, leaf-empty, tells-to, further}
 use Rattle.schema.specs.Table.{textsOf}
 use lib.ListN.{drop}
-use mathlib.Core.Path.{_∙_}
+use mathlib.Core.Path.{refl, _∙_}
 use denote.Ref.{now}
 use native.Mathlib.Omega.{arith}
 use borrow.Author.Needs.{needs}
@@ -30,7 +30,7 @@ returns c =
           let q = leafFault (textsOf (now (c .before .before .before .before .before .before .before .before .before .before .before .args .table)) p (now (c .before .before .before .before .before .before .before .before .before .before .before .args .ranges)) (c .before .before .before .before .before .before .before .before .before .before .before .args .row)) (c .before .before .before .before .before .before .before .before .before .before .before .args .from) in
           let k = first-text d _ (drop (c .before .before .before .before .before .before .before .before .before .before .before .args .start) (now (c .before .before .before .before .before .before .before .before .before .before .before .args .s))) i m e q (x .0) in
           let g = rw (c .before .before .before .part .ensures) at (c .before .before .fits-text .ensures p) in
-          tells-to (now (c .before .before .before .before .before .before .before .before .before .before .before .args .s)) (c .end-of .result) m (k .2 ∙ leaf-text _ _ _ (k .0) g (c .before .if1 .taken)) (c .end-of .ensures .0 d (k .0) m (k .1) h),
+          tells-to (now (c .before .before .before .before .before .before .before .before .before .before .before .args .s)) (c .end-of .result) m (k .2 ∙ leaf-text _ _ _ (k .0) g (c .before .if1 .taken)) refl (c .end-of .ensures .0 d (k .0) m (k .1) h),
       further (now (c .before .before .before .before .before .before .before .before .before .before .before .args .s)) (c .before .before .before .before .before .before .before .before .before .before .before .args .start) (c .before .before .before .before .before .text .given .0 .1 .0) (c .end-of .result) (omega arith) (c .end-of .ensures .1),
     )
 
@@ -49,7 +49,7 @@ returns-2 c =
       λ p d i m e h.
           let q = leafFault (textsOf (now (c .before .before .before .before .before .before .before .before .before .before .args .table)) p (now (c .before .before .before .before .before .before .before .before .before .before .args .ranges)) (c .before .before .before .before .before .before .before .before .before .before .args .row)) (c .before .before .before .before .before .before .before .before .before .before .args .from) in
           let k = first-close d _ (drop (c .before .before .before .before .before .before .before .before .before .before .args .start) (now (c .before .before .before .before .before .before .before .before .before .before .args .s))) i m e q (x .0) in
-          (k .0 ∙ leaf-empty _ _ (c .before .fits-text2 .ensures p) ∙ rw (c .if2 .taken), k .1),
+          (k .0 ∙ leaf-empty _ _ (c .before .fits-text2 .ensures p) ∙ rw (c .if2 .taken), refl, k .1),
       search needs,
     )
 
