@@ -1,5 +1,5 @@
 -- Tests of whole lists as facts of every element, and two tests that hold together.
-use mathlib.Core.Path.{_≡_, refl, sym}
+use mathlib.Core.Path.{_≡_, refl, sym, ap₂, _∙_}
 use mathlib.Core.Bool.{Bool, true, false, not, _&&_, _||_, false≢true}
 use mathlib.Core.List.{List, [], _∷_}
 use Rattle.laws.specs.Lists.{all, any}
@@ -18,27 +18,34 @@ module _ {A : Type 0} where
   every-both [] f h g = tt
   every-both (x ∷ l) f h g = (f x (h .0) (g .0), every-both l f (h .1) (g .1))
 
-  -- none passes
-  pub any-told : (q : A → Bool) (l : List A) → any q l ≡ false → Every (λ x. q x ≡ false) l
-  unfolding any
-  any-told q [] h = tt
-  any-told q (x ∷ l) h = (or-left (q x) (any q l) h, any-told q l (or-right (q x) (any q l) h))
+-- a test f of a whole list that is v where q is v at every element: `all` with true, `any` with false
+module _ {A : Type 0} (v : Bool) (op : Bool → Bool → Bool) (q : A → Bool) (f : List A → Bool) (step : (x : A) (l : List A) → f (x ∷ l) ≡ op (q x) (f l)) where
+  told : ((a b : Bool) → op a b ≡ v → (a ≡ v) × (b ≡ v)) → (l : List A) → f l ≡ v → Every (λ x. q x ≡ v) l
+  told both [] h = tt
+  told both (x ∷ l) h = let p = both (q x) (f l) (sym (step x l) ∙ h) in (p .0, told both l (p .1))
 
-  pub any-tell : (q : A → Bool) (l : List A) → Every (λ x. q x ≡ false) l → any q l ≡ false
+  tell : f [] ≡ v → op v v ≡ v → (l : List A) → Every (λ x. q x ≡ v) l → f l ≡ v
+  tell start keep [] h = start
+  tell start keep (x ∷ l) h = step x l ∙ ap₂ op (h .0) (tell start keep l (h .1)) ∙ keep
+
+module _ {A : Type 0} (q : A → Bool) where
+  -- none passes
+  pub any-told : (l : List A) → any q l ≡ false → Every (λ x. q x ≡ false) l
   unfolding any
-  any-tell q [] h = refl
-  any-tell q (x ∷ l) h = rw (h .0) (any-tell q l (h .1))
+  any-told = told false _||_ q (any q) (λ x l. refl) (λ a b h. (or-left a b h, or-right a b h))
+
+  pub any-tell : (l : List A) → Every (λ x. q x ≡ false) l → any q l ≡ false
+  unfolding any
+  any-tell = tell false _||_ q (any q) (λ x l. refl) refl refl
 
   -- all pass
-  pub all-told : (q : A → Bool) (l : List A) → all q l ≡ true → Every (λ x. q x ≡ true) l
+  pub all-told : (l : List A) → all q l ≡ true → Every (λ x. q x ≡ true) l
   unfolding all
-  all-told q [] h = tt
-  all-told q (x ∷ l) h = (and-left (q x) (all q l) h, all-told q l (and-right (q x) (all q l) h))
+  all-told = told true _&&_ q (all q) (λ x l. refl) (λ a b h. (and-left a b h, and-right a b h))
 
-  pub all-tell : (q : A → Bool) (l : List A) → Every (λ x. q x ≡ true) l → all q l ≡ true
+  pub all-tell : (l : List A) → Every (λ x. q x ≡ true) l → all q l ≡ true
   unfolding all
-  all-tell q [] h = refl
-  all-tell q (x ∷ l) h = rw (h .0) (all-tell q l (h .1))
+  all-tell = tell true _&&_ q (all q) (λ x l. refl) refl refl
 
 -- each where the other
 pub same-truth : (a b : Bool) → (a ≡ true → b ≡ true) → (b ≡ true → a ≡ true) → a ≡ b
@@ -63,10 +70,6 @@ pub nand-told : (a b : Bool) → not (a && b) ≡ true → a ≡ true → b ≡ 
 nand-told true true h e = sym h
 nand-told true false h e = refl
 nand-told false b h e = absurd (false≢true e)
-
-pub nand-tell : (a b : Bool) → (a ≡ true → b ≡ false) → not (a && b) ≡ true
-nand-tell true b h = rw (h refl)
-nand-tell false b h = refl
 
 pub both-false : (a b : Bool) → (a ≡ true → b ≡ false) → a && b ≡ false
 both-false true b h = h refl

@@ -1,6 +1,6 @@
 -- What comparing a row's first bits with a probe's tells.
 use Prim.Native.Nat.{ℕ, _+_, _-_, _*_, _/_, _^_, _≤_, _<_}
-use mathlib.Core.Path.{_≡_, refl, sym, ap, ap₂, _∙_}
+use mathlib.Core.Path.{_≡_, sym, ap, _∙_}
 use mathlib.Core.Bool.{Bool, true, false, _&&_}
 use mathlib.Core.List.{List}
 use native.Mathlib.Omega.{arith}
@@ -17,6 +17,7 @@ use Rattle.rows.specs.declared.reader.Order.{Order}
 use Rattle.rows.specs.declared.reader.Order.the-variants.{Less, Same, More}
 use Rattle.rows.proofs.Ordering.{less-order, same-order, more-order}
 use Rattle.register.specs.Search.{keyAt, keyOf}
+use Rattle.register.specs.OnBytes.{standsAt}
 
 -- the first bits of row i, as the code cuts it out
 pub row-key : (w k i : ℕ) (reg : List ℕ) → 4 + w * (i + 1) ≤ length reg → firstBits k (take (4 + w * i + w - (4 + w * i)) (drop (4 + w * i) reg)) ≡ keyAt w k reg i
@@ -66,5 +67,5 @@ not-before i hi b h = rw (le-ltb i hi h)
 pub before-is : (i hi : ℕ) (a b : Bool) → i < hi → a ≡ b → a ≡ ltb i hi && b
 before-is i hi a b h e = rw (lt-ltb i hi h) e
 
-pub stands-in : (i hi : ℕ) (b : Bool) → ltb i hi && b ≡ true → i < hi
-stands-in i hi b e = ltb-true i hi (and-left (ltb i hi) b e)
+pub stands-in : (w k hi : ℕ) (row a : List ℕ) (i : ℕ) → standsAt w k hi row a i ≡ true → i < hi
+stands-in w k hi row a i e = ltb-true i hi (and-left (ltb i hi) (eqb (keyAt w k a i) (keyOf w k row)) e)

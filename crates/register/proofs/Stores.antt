@@ -1,98 +1,99 @@
 -- From what the code does on bytes to what its caller gets.
-use Prim.Native.Nat.{ℕ, _+_, _/_, _^_, _≤_, _<_}
-use mathlib.Core.Path.{_≡_, refl, sym, ap, ap₂, subst, _∙_}
-use mathlib.Core.Bool.{Bool, true, false, true≢false, false≢true}
+use Prim.Native.Nat.{ℕ, _+_, _*_, _≤_}
+use mathlib.Core.Path.{_≡_, sym, ap, ap₂, subst, _∙_}
+use mathlib.Core.Bool.{Bool, true, false, _&&_, true≢false}
 use mathlib.Core.List.{List}
+use native.Mathlib.Nat.{zero-add, mul-le-mul-left}
 use native.Mathlib.Omega.{arith}
+use lib.Dec.{leb}
 use lib.ListN.{length}
-use borrow.Author.Tests.{le-ltb}
-use Rattle.rows.specs.Pack.{num, each, Fit}
-use Rattle.model.specs.Map.{del}
+use borrow.Author.Tests.{leb-true, le-leb, le-ltb}
+use Rattle.laws.proofs.Truth.{and-left, and-right}
+use Rattle.rows.specs.Pack.{each, Fit}
 use Rattle.model.specs.Flow.{State, empty}
 use Rattle.register.specs.Layout.{Layout}
 use Rattle.register.specs.Bytes.{casesHeld, eventsHeld}
 use Rattle.register.specs.Calls.{emptied}
-use Rattle.register.specs.Stored.{Laid, Stored, Group, cases, events, rowsOf, keyBitsOf, withRows}
+use Rattle.register.specs.Stored.{Laid, Stored, Group, cases, events, rowsOf}
 use Rattle.register.specs.Storing.{Put, Dropped}
 use Rattle.register.specs.OnBytes.{PutDone, DropDone}
 use Rattle.register.specs.OnBytes.PutDone.{unfit, full, over, new}
 use Rattle.register.specs.OnBytes.DropDone.{misfit, absent, gone}
+use Rattle.register.specs.View.{groupOf, rowsBy}
+use Rattle.register.specs.declared.store.Part.{Part}
+use Rattle.register.specs.declared.store.Rows.{Rows}
 use Rattle.register.proofs.States.{cases-held, events-held, stored-empty}
 use Rattle.register.proofs.Changes.{countAt, startOf}
 use Rattle.register.proofs.Storing.{put-done, drop-done, key-number}
 
--- where a group begins and ends, by the header's counts
-abbrev pub startBy : Group → ℕ → ℕ
-startBy cases c = 0
-startBy events c = c
+-- ---- room for n rows, as the code asks for it
 
-abbrev pub endBy : Group → ℕ → ℕ → ℕ
-endBy cases c e = c
-endBy events c e = c + e
+module _ (w n size : ℕ) (t : Bool) (e : t ≡ leb n 4096 && leb (4 + w * n) size) where
+  pub room-few : t ≡ true → n ≤ 4096
+  room-few f = leb-true n 4096 (and-left (leb n 4096) (leb (4 + w * n) size) (sym e ∙ f))
 
-start-is : (g : Group) (s : State ℕ ℕ) (c : ℕ) → c ≡ length (s .cases) → startBy g c ≡ startOf g s
-start-is cases s c p = refl
-start-is events s c p = p
+  -- the rows up to any of them end within the register
+  pub room-end : t ≡ true → (i : ℕ) → i ≤ n → 4 + w * i ≤ size
+  room-end f i h =
+      let z : 4 + w * n ≤ size = leb-true (4 + w * n) size (and-right (leb n 4096) (leb (4 + w * n) size) (sym e ∙ f)) in
+      omega (arith, mul-le-mul-left w h)
 
-end-is : (g : Group) (s : State ℕ ℕ) (c e : ℕ) → c ≡ length (s .cases) → e ≡ length (s .events) → endBy g c e ≡ startOf g s + length (rowsOf g s)
-end-is cases s c e p q = omega arith
-end-is events s c e p q = omega arith
+  pub room-denied : t ≡ false → n ≤ 4096 → 4 + w * n ≤ size → ⊥
+  room-denied f p q =
+      let z : leb n 4096 && leb (4 + w * n) size ≡ true = rw (le-leb n 4096 p) (le-leb (4 + w * n) size q) in
+      true≢false (sym z ∙ sym e ∙ f)
 
-module _ (g : Group) (w k c e : ℕ) (row a b : List ℕ) (ok : Bool) (len : length b ≡ length a) (hc : c ≡ casesHeld a) (he : e ≡ eventsHeld a) where
-  pub put-is : length row ≡ w → Fit (each 8 row) → PutDone w k (countAt g) (startBy g c) (endBy g c e) (c + e) row a b ok → Put g w k row a b ok
-  put-is er f done =
-      record {
-        holds = λ l lay ew ek s h ready.
-            let pc : c ≡ length (s .cases) = hc ∙ cases-held l lay a s h in
-            let pe : e ≡ length (s .events) = he ∙ events-held l lay a s h in
-            let d1 : PutDone (l .bytes) k (countAt g) (startBy g c) (endBy g c e) (c + e) row a b ok
-            = subst (λ (x : ℕ). PutDone x k (countAt g) (startBy g c) (endBy g c e) (c + e) row a b ok) (sym ew) done in
-            let d2 : PutDone (l .bytes) (keyBitsOf g l) (countAt g) (startBy g c) (endBy g c e) (c + e) row a b ok
-            = subst (λ (x : ℕ). PutDone (l .bytes) x (countAt g) (startBy g c) (endBy g c e) (c + e) row a b ok) (sym ek) d1 in
-            let d3 : PutDone (l .bytes) (keyBitsOf g l) (countAt g) (startOf g s) (endBy g c e) (c + e) row a b ok
-            = subst (λ (x : ℕ). PutDone (l .bytes) (keyBitsOf g l) (countAt g) x (endBy g c e) (c + e) row a b ok) (start-is g s c pc) d2 in
-            put-done l lay g a s h row (er ∙ sym ew) f b ok (endBy g c e) (c + e) (end-is g s c e pc pe) (omega arith) len d3 ready;
-        refused = refuses done;
-        kept = len;
-      }
+-- ---- a group's rows
+
+-- by the header's counts, once the code knows the group
+pub told-rows : (p q : Part) (c e : ℕ) (a : List ℕ) → c ≡ casesHeld a → e ≡ eventsHeld a → p ≡ q →
+    rowsBy (groupOf q) c e ≡ rowsBy (groupOf p) (casesHeld a) (eventsHeld a)
+told-rows p q c e a pc pe f =
+    ap₂ (rowsBy (groupOf q)) pc pe ∙ ap (λ (x : Part). rowsBy (groupOf x) (casesHeld a) (eventsHeld a)) (sym f)
+
+module _ (g : Group) (a : List ℕ) (x : Rows) (hx : 4 ≤ length a → x ≡ rowsBy g (casesHeld a) (eventsHeld a)) where
+  -- they are the state's
+  in-state : (D : ℕ → ℕ → ℕ → ℕ → Type 0) (l : Layout) → Laid l → (s : State ℕ ℕ) → Stored l a s → D (x .at) (x .lo) (x .hi) (x .n) →
+      D (countAt g) (startOf g s) (startOf g s + length (rowsOf g s)) (length (s .cases) + length (s .events))
+  in-state D l lay s h d =
+      go g (subst (λ (y : Rows). D (y .at) (y .lo) (y .hi) (y .n)) (hx (h .long) ∙ ap₂ (rowsBy g) (cases-held l lay a s h) (events-held l lay a s h)) d)
     where
-      refuses : PutDone w k (countAt g) (startBy g c) (endBy g c e) (c + e) row a b ok → ok ≡ false → b ≡ a
-      refuses (unfit x q r) z = r
-      refuses (full i p t x q r) z = r
-      refuses (over i p t q r) z = absurd (true≢false (sym q ∙ z))
-      refuses (new i p t x y q r) z = absurd (true≢false (sym q ∙ z))
+      go : (g : Group) → (let y : Rows = rowsBy g (length (s .cases)) (length (s .events)) in D (y .at) (y .lo) (y .hi) (y .n)) →
+          D (countAt g) (startOf g s) (startOf g s + length (rowsOf g s)) (length (s .cases) + length (s .events))
+      go cases d = rw (zero-add (length (s .cases))) d
+      go events d = d
 
-  pub drop-is : DropDone w k (countAt g) (startBy g c) (endBy g c e) (c + e) row a b ok → Dropped g w k row a b ok
-  drop-is done =
-      record {
-        holds = λ l lay ew ek s h.
-            let pc : c ≡ length (s .cases) = hc ∙ cases-held l lay a s h in
-            let pe : e ≡ length (s .events) = he ∙ events-held l lay a s h in
-            let d1 : DropDone (l .bytes) k (countAt g) (startBy g c) (endBy g c e) (c + e) row a b ok
-            = subst (λ (x : ℕ). DropDone x k (countAt g) (startBy g c) (endBy g c e) (c + e) row a b ok) (sym ew) done in
-            let d2 : DropDone (l .bytes) (keyBitsOf g l) (countAt g) (startBy g c) (endBy g c e) (c + e) row a b ok
-            = subst (λ (x : ℕ). DropDone (l .bytes) x (countAt g) (startBy g c) (endBy g c e) (c + e) row a b ok) (sym ek) d1 in
-            let d3 : DropDone (l .bytes) (keyBitsOf g l) (countAt g) (startOf g s) (endBy g c e) (c + e) row a b ok
-            = subst (λ (x : ℕ). DropDone (l .bytes) (keyBitsOf g l) (countAt g) x (endBy g c e) (c + e) row a b ok) (start-is g s c pc) d2 in
-            let z = drop-done l lay g a s h row b ok (endBy g c e) (c + e) (end-is g s c e pc pe) (omega arith) len d3 in
-            (z .0, subst (λ (x : ℕ). Stored l b (withRows g (del x (rowsOf g s)) s)) (key-number g l row) (z .1));
-        refused = refuses done;
-        kept = len;
-      }
-    where
-      refuses : DropDone w k (countAt g) (startBy g c) (endBy g c e) (c + e) row a b ok → ok ≡ false → b ≡ a
-      refuses (misfit x q r) z = r
-      refuses (absent i p t q r) z = r
-      refuses (gone i p t q r) z = absurd (true≢false (sym q ∙ z))
+  module _ (w k : ℕ) (row b : List ℕ) (ok : Bool) (len : length b ≡ length a) where
+    pub put-is : length row ≡ w → Fit (each 8 row) → PutDone w k (x .at) (x .lo) (x .hi) (x .n) row a b ok → Put g w k row a b ok
+    put-is er f done =
+        record {
+          holds = λ l lay ew ek s h.
+              put-done l lay g a s h row (er ∙ sym ew) f b ok len
+              (rw (ek, ew) (in-state (λ at lo hi n. PutDone w k at lo hi n row a b ok) l lay s h done));
+          refused = refuses done;
+          kept = len;
+        }
+      where
+        refuses : PutDone w k (x .at) (x .lo) (x .hi) (x .n) row a b ok → ok ≡ false → b ≡ a
+        refuses (unfit x q r) z = r
+        refuses (full i p t x q r) z = r
+        refuses (over i p t q r) z = absurd (true≢false (sym q ∙ z))
+        refuses (new i p t x y q r) z = absurd (true≢false (sym q ∙ z))
 
--- too short to hold a state
-pub put-short : (g : Group) (w k : ℕ) (row a : List ℕ) → length a < 4 → Put g w k row a a false
-put-short g w k row a h =
-    record { holds = λ l lay ew ek s t ready. absurd (omega (arith, t .long)); refused = λ e. refl; kept = refl }
-
-pub drop-short : (g : Group) (w k : ℕ) (row a : List ℕ) → length a < 4 → Dropped g w k row a a false
-drop-short g w k row a h =
-    record { holds = λ l lay ew ek s t. absurd (omega (arith, t .long)); refused = λ e. refl; kept = refl }
+    pub drop-is : DropDone w k (x .at) (x .lo) (x .hi) (x .n) row a b ok → Dropped g w k row a b ok
+    drop-is done =
+        record {
+          holds = λ l lay ew ek s h.
+              rw (← key-number g l row)
+              (drop-done l lay g a s h row b ok len (rw (ek, ew) (in-state (λ at lo hi n. DropDone w k at lo hi n row a b ok) l lay s h done)));
+          refused = refuses done;
+          kept = len;
+        }
+      where
+        refuses : DropDone w k (x .at) (x .lo) (x .hi) (x .n) row a b ok → ok ≡ false → b ≡ a
+        refuses (misfit x q r) z = r
+        refuses (absent i p t q r) z = r
+        refuses (gone i p t q r) z = absurd (true≢false (sym q ∙ z))
 
 -- an emptied register holds nothing
 pub stored-emptied : (l : Layout) (reg : List ℕ) → 4 ≤ length reg → Stored l (emptied reg .register) empty

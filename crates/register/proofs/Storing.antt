@@ -2,7 +2,7 @@
 use Prim.Native.Nat.{ℕ, suc, _+_, _-_, _*_, _/_, _^_, _≤_, _<_}
 use mathlib.Core.Path.{_≡_, refl, sym, ap, ap₂, subst, _∙_}
 use mathlib.Core.Bool.{Bool, true, false, not}
-use mathlib.Core.List.{List, [], _∷_, _++_}
+use mathlib.Core.List.{List, _∷_, _++_}
 use mathlib.Core.Option.{none}
 use native.Mathlib.Omega.{arith}
 use lib.Dec.{eqb}
@@ -71,6 +71,9 @@ module _ (l : Layout) (lay : Laid l) (g : Group) (a : List ℕ) (s : State ℕ �
   abbrev n : ℕ
   n = length (s .cases) + length (s .events)
 
+  abbrev end : ℕ
+  end = startOf g s + length m
+
   -- other rows in the group
   stored-with : (q : Map ℕ) (b : List ℕ) → Asc 0 q → Fits (keyBitsOf g l) (restOf g l) q → startOf g s + length q + afterOf g s ≤ room l (length a) →
       length b ≡ length a → b ≡ encode l (length a) (withRows g q s) → Stored l b (withRows g q s)
@@ -113,9 +116,9 @@ module _ (l : Layout) (lay : Laid l) (g : Group) (a : List ℕ) (s : State ℕ �
     abbrev r : Row ℕ
     r = split (restOf g l) (num row)
 
-    put-new : (b : List ℕ) (i hi : ℕ) → hi ≡ startOf g s + length m → startOf g s ≤ i → Apart m v (i - startOf g s) → rowAt l (n + 1) ≤ length a → n < room l (length a) →
-        length b ≡ length a → b ≡ withCount (countAt g) (hi - startOf g s + 1) (inserted (l .bytes) i n row a) → Stored l b (withRows g (put r m) s)
-    put-new b i hi eh low p fits few len e =
+    put-new : (b : List ℕ) (i : ℕ) → startOf g s ≤ i → Apart m v (i - startOf g s) → rowAt l (n + 1) ≤ length a → n < room l (length a) →
+        length b ≡ length a → b ≡ withCount (countAt g) (end - startOf g s + 1) (inserted (l .bytes) i n row a) → Stored l b (withRows g (put r m) s)
+    put-new b i low p fits few len e =
         let us : Map ℕ = p .us in
         let vs : Map ℕ = p .vs in
         let ks : v ≡ r .key = key-number g l row in
@@ -125,7 +128,7 @@ module _ (l : Layout) (lay : Laid l) (g : Group) (a : List ℕ) (s : State ℕ �
         let pe : put r m ≡ us ++ r ∷ vs
         = ap (put r) (p .whole) ∙ put-in r us vs (subst (λ (k : ℕ). AllBelow k us) ks (p .below)) (subst (λ (k : ℕ). Asc (suc k) vs) ks (p .above)) in
         let lp : length (put r m) ≡ length m + 1 = ap length pe ∙ length-append us (r ∷ vs) ∙ omega arith in
-        let ec : hi - startOf g s + 1 ≡ length us + length vs + 1 = omega arith in
+        let ec : end - startOf g s + 1 ≡ length us + length vs + 1 = omega arith in
         let fm : Fits (keyBitsOf g l) (restOf g l) (us ++ vs) = subst (Fits (keyBitsOf g l) (restOf g l)) (p .whole) (fits-rows l lay g a s h) in
         stored-with (put r m) b (asc-put 0 r m (omega arith) (good-rows l lay g a s h))
         (rw pe (fits-in (keyBitsOf g l) (restOf g l) us vs r (row-fits l g row er f lay) fm))
@@ -160,31 +163,30 @@ module _ (l : Layout) (lay : Laid l) (g : Group) (a : List ℕ) (s : State ℕ �
         ∙ ap (λ (y : Map ℕ). encode l (length a) (withRows g y s)) (sym pe))
 
     -- by what the bytes say
-    pub put-done : (b : List ℕ) (ok : Bool) (hi k : ℕ) → hi ≡ startOf g s + length m → k ≡ n → length b ≡ length a →
-        PutDone (l .bytes) (keyBitsOf g l) (countAt g) (startOf g s) hi k row a b ok →
+    pub put-done : (b : List ℕ) (ok : Bool) → length b ≡ length a →
+        PutDone (l .bytes) (keyBitsOf g l) (countAt g) (startOf g s) end n row a b ok →
         (has (num row / 2 ^ restOf g l) m ≡ false → n < room l (length a)) → (ok ≡ true) × Stored l b (withRows g (put r m) s)
-    put-done b ok hi k eh ek len (unfit x q e) ready =
-        absurd (x (omega (arith, stored-few l lay a s h)) (rw ek (stored-end l lay a s h)))
-    put-done b ok hi k eh ek len (full i pl st x q e) ready =
-        let p : Apart m v (i - startOf g s) = apart l lay g a s h v hi i eh pl st in
+    put-done b ok len (unfit x q e) ready = absurd (x (stored-few l lay a s h) (stored-end l lay a s h))
+    put-done b ok len (full i pl st x q e) ready =
+        let p : Apart m v (i - startOf g s) = apart l lay g a s h v end i refl pl st in
         let d : n < room l (length a) = ready (ap isSome (ap (λ (y : ℕ). find y m) (sym (key-number g l row)) ∙ out v (i - startOf g s) p)) in
         let z = room-holds l (length a) (n + 1) (h .long) (omega arith) in
-        absurd (x (omega arith) (rw ek (z .1)))
-    put-done b ok hi k eh ek len (over i pl st q e) ready =
-        (q, put-old b i (pl .low) (within l lay g a s h v hi i eh pl st) len e)
-    put-done b ok hi k eh ek len (new i pl st few fits q e) ready =
-        let p : Apart m v (i - startOf g s) = apart l lay g a s h v hi i eh pl st in
+        absurd (x (omega arith) (z .1))
+    put-done b ok len (over i pl st q e) ready =
+        (q, put-old b i (pl .low) (within l lay g a s h v end i refl pl st) len e)
+    put-done b ok len (new i pl st few fits q e) ready =
+        let p : Apart m v (i - startOf g s) = apart l lay g a s h v end i refl pl st in
         let d : n < room l (length a) = ready (ap isSome (ap (λ (y : ℕ). find y m) (sym (key-number g l row)) ∙ out v (i - startOf g s) p)) in
-        (q, put-new b i hi eh (pl .low) p (rw ek at fits) d len (rw ek at e))
+        (q, put-new b i (pl .low) p fits d len e)
 
   -- ---- a row taken out
   module _ (probe : List ℕ) where
     abbrev u : ℕ
     u = keyOf (l .bytes) (keyBitsOf g l) probe
 
-    drop-gone : (b : List ℕ) (i hi : ℕ) → hi ≡ startOf g s + length m → startOf g s ≤ i → Within m u (i - startOf g s) → length b ≡ length a →
-        b ≡ withCount (countAt g) (hi - startOf g s - 1) (removed (l .bytes) i n a) → Stored l b (withRows g (del u m) s)
-    drop-gone b i hi eh low p len e =
+    drop-gone : (b : List ℕ) (i : ℕ) → startOf g s ≤ i → Within m u (i - startOf g s) → length b ≡ length a →
+        b ≡ withCount (countAt g) (end - startOf g s - 1) (removed (l .bytes) i n a) → Stored l b (withRows g (del u m) s)
+    drop-gone b i low p len e =
         let us : Map ℕ = p .us in
         let x : Row ℕ = p .row in
         let vs : Map ℕ = p .vs in
@@ -194,7 +196,7 @@ module _ (l : Layout) (lay : Laid l) (g : Group) (a : List ℕ) (s : State ℕ �
         let de : del u m ≡ us ++ vs
         = ap₂ (λ (k : ℕ) (y : Map ℕ). del k y) (sym (p .is)) (p .whole) ∙ del-out us x vs (subst (λ (k : ℕ). AllBelow k us) (sym (p .is)) (p .below)) (p .above) in
         let ld : length (del u m) ≡ length us + length vs = ap length de ∙ length-append us vs in
-        let ec : hi - startOf g s - 1 ≡ length us + length vs = omega arith in
+        let ec : end - startOf g s - 1 ≡ length us + length vs = omega arith in
         let en : n ≡ n - 1 + 1 = omega arith in
         let fm : Fits (keyBitsOf g l) (restOf g l) (us ++ x ∷ vs) = subst (Fits (keyBitsOf g l) (restOf g l)) (p .whole) (fits-rows l lay g a s h) in
         stored-with (del u m) b (asc-keep 0 (λ j. not (eqb j u)) m (good-rows l lay g a s h))
@@ -206,11 +208,11 @@ module _ (l : Layout) (lay : Laid l) (g : Group) (a : List ℕ) (s : State ℕ �
         ∙ remove-encode l g (length a) s us vs x i (n - 1) (omega arith) (omega arith) (subst (λ (k : ℕ). rowAt l k ≤ length a) en (stored-end l lay a s h))
         ∙ ap (λ (y : Map ℕ). encode l (length a) (withRows g y s)) (sym de))
 
-    pub drop-done : (b : List ℕ) (ok : Bool) (hi k : ℕ) → hi ≡ startOf g s + length m → k ≡ n → length b ≡ length a →
-        DropDone (l .bytes) (keyBitsOf g l) (countAt g) (startOf g s) hi k probe a b ok → (ok ≡ true) × Stored l b (withRows g (del u m) s)
-    drop-done b ok hi k eh ek len (misfit x q e) = absurd (x (omega (arith, stored-few l lay a s h)) (rw ek (stored-end l lay a s h)))
-    drop-done b ok hi k eh ek len (absent i pl st q e) =
-        let p : Apart m u (i - startOf g s) = apart l lay g a s h u hi i eh pl st in
+    pub drop-done : (b : List ℕ) (ok : Bool) → length b ≡ length a →
+        DropDone (l .bytes) (keyBitsOf g l) (countAt g) (startOf g s) end n probe a b ok → (ok ≡ true) × Stored l b (withRows g (del u m) s)
+    drop-done b ok len (misfit x q e) = absurd (x (stored-few l lay a s h) (stored-end l lay a s h))
+    drop-done b ok len (absent i pl st q e) =
+        let p : Apart m u (i - startOf g s) = apart l lay g a s h u end i refl pl st in
         let d : del u m ≡ m = keep-all u m (out u (i - startOf g s) p) in
         (q, rw (e, d, with-self g s) h)
-    drop-done b ok hi k eh ek len (gone i pl st q e) = (q, drop-gone b i hi eh (pl .low) (within l lay g a s h u hi i eh pl st) len (rw ek at e))
+    drop-done b ok len (gone i pl st q e) = (q, drop-gone b i (pl .low) (within l lay g a s h u end i refl pl st) len e)

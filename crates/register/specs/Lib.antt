@@ -10,3 +10,4 @@ pub mod Moves
 pub mod Search
 pub mod OnBytes
 pub mod Storing
+pub mod View

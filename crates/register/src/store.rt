@@ -1,11 +1,14 @@
 // Rows stored in a register and taken out again, over rows of w bytes whose keys are their first bits; the header is written with each.
 ghost use mathlib.Core.Path.{_≡_};
+ghost use mathlib.Core.Bool.{_&&_};
 ghost use Prim.Native.Nat.{_+_, _*_, _≤_, _<_};
+ghost use lib.Dec.{leb};
 ghost use lib.ListN.{length};
+ghost use Rattle.register.specs.Bytes.{casesHeld, eventsHeld};
 ghost use Rattle.register.specs.Calls.{emptied};
-ghost use Rattle.register.specs.Stored.{cases, events};
 ghost use Rattle.register.specs.OnBytes.{PutDone, DropDone};
 ghost use Rattle.register.specs.Storing.{Put, Dropped};
+ghost use Rattle.register.specs.View.{groupOf, rowsBy, InOrder};
 use crate::counts::count;
 use crate::counts::set_count;
 use crate::moving::clear;
@@ -15,141 +18,115 @@ use crate::moving::replace_row;
 use crate::search::place;
 use crate::search::stands;
 
-// The row in its place among the rows from lo up to hi of n, whose count stands at `at`.
-fn put_in(
-    reg: &mut [u8],
-    w: usize,
-    kbits: usize,
+// "All cases, then all events": the two groups of rows.
+pub enum Part {
+    Cases,
+    Events,
+}
+
+// A group's rows: from lo up to hi of n, and their count stands at `at`.
+struct Rows {
     at: usize,
     lo: usize,
     hi: usize,
     n: usize,
-    row: &[u8],
-) -> bool
-    requires { ⌜ (w ≤ 65536) × (kbits ≤ 8 * w) × (length (now row) ≡ w) ⌝ }
-    requires { ⌜ (at ≤ 2) × (lo ≤ hi) × (hi ≤ n) × (n < 131072) × (4 ≤ length (now reg)) ⌝ }
-    ensures { λ r. ⌜ PutDone w kbits at lo hi n (now (row .entry)) (now (reg .entry)) (now (reg .exit)) r ⌝ }
+}
+
+// A group's rows by the header's counts; none where there is no header.
+fn rows_of(reg: &[u8], part: Part) -> Rows
+    ensures { λ r. ⌜ InOrder r × (4 ≤ length (now (reg .entry)) → r ≡ rowsBy (groupOf part) (casesHeld (now (reg .entry))) (eventsHeld (now (reg .entry)))) ⌝ }
+{
+    if reg.len() < 4 {
+        return Rows {
+            at: 0,
+            lo: 0,
+            hi: 0,
+            n: 0,
+        };
+    }
+    let c = count(reg, 0);
+    let e = count(reg, 2);
+    match part {
+        Part::Cases => Rows {
+            at: 0,
+            lo: 0,
+            hi: c,
+            n: c + e,
+        },
+        Part::Events => Rows {
+            at: 2,
+            lo: c,
+            hi: c + e,
+            n: c + e,
+        },
+    }
+}
+
+// Whether n rows may stand: at most 4,096, and they end within the register.
+fn room_for(reg: &[u8], w: usize, n: usize) -> bool
+    requires { ⌜ w ≤ 65536 ⌝ }
+    ensures { λ r. ⌜ r ≡ leb n 4096 && leb (4 + w * n) (length (now (reg .entry))) ⌝ }
 {
     if 4096 < n {
         return false;
     }
-    if reg.len() < 4 + w * n {
+    4 + w * n <= reg.len()
+}
+
+// The row in its place among its group's rows.
+fn put_in(reg: &mut [u8], w: usize, kbits: usize, g: Rows, row: &[u8]) -> bool
+    requires { ⌜ (w ≤ 65536) × (kbits ≤ 8 * w) × (length (now row) ≡ w) × InOrder g ⌝ }
+    ensures { λ r. ⌜ PutDone w kbits (g .at) (g .lo) (g .hi) (g .n) (now (row .entry)) (now (reg .entry)) (now (reg .exit)) r ⌝ }
+{
+    if !room_for(reg, w, g.n) {
         return false;
     }
-    let i = place(reg, w, lo, hi, row, kbits, 0);
-    if stands(reg, w, i, hi, row, kbits) {
+    let i = place(reg, w, g.lo, g.hi, row, kbits, 0);
+    if stands(reg, w, i, g.hi, row, kbits) {
         replace_row(reg, w, i, row);
         return true;
     }
-    if 4096 <= n {
+    if !room_for(reg, w, g.n + 1) {
         return false;
     }
-    if reg.len() < 4 + w * (n + 1) {
-        return false;
-    }
-    insert_row(reg, w, i, n, row);
-    set_count(reg, at, hi - lo + 1);
+    insert_row(reg, w, i, g.n, row);
+    set_count(reg, g.at, g.hi - g.lo + 1);
     true
 }
 
-// The row with the probe's key goes from the rows from lo up to hi of n, whose count stands at `at`.
-fn drop_in(
-    reg: &mut [u8],
-    w: usize,
-    kbits: usize,
-    at: usize,
-    lo: usize,
-    hi: usize,
-    n: usize,
-    probe: &[u8],
-) -> bool
-    requires { ⌜ (w ≤ 65536) × (kbits ≤ 8 * w) × (length (now probe) ≡ w) ⌝ }
-    requires { ⌜ (at ≤ 2) × (lo ≤ hi) × (hi ≤ n) × (n < 131072) × (4 ≤ length (now reg)) ⌝ }
-    ensures { λ r. ⌜ DropDone w kbits at lo hi n (now (probe .entry)) (now (reg .entry)) (now (reg .exit)) r ⌝ }
+// The row with the probe's key goes from its group's rows.
+fn drop_in(reg: &mut [u8], w: usize, kbits: usize, g: Rows, probe: &[u8]) -> bool
+    requires { ⌜ (w ≤ 65536) × (kbits ≤ 8 * w) × (length (now probe) ≡ w) × InOrder g ⌝ }
+    ensures { λ r. ⌜ DropDone w kbits (g .at) (g .lo) (g .hi) (g .n) (now (probe .entry)) (now (reg .entry)) (now (reg .exit)) r ⌝ }
 {
-    if 4096 < n {
+    if !room_for(reg, w, g.n) {
         return false;
     }
-    if reg.len() < 4 + w * n {
-        return false;
-    }
-    let i = place(reg, w, lo, hi, probe, kbits, 0);
-    if stands(reg, w, i, hi, probe, kbits) {
-        remove_row(reg, w, i, n);
-        set_count(reg, at, hi - lo - 1);
+    let i = place(reg, w, g.lo, g.hi, probe, kbits, 0);
+    if stands(reg, w, i, g.hi, probe, kbits) {
+        remove_row(reg, w, i, g.n);
+        set_count(reg, g.at, g.hi - g.lo - 1);
         return true;
     }
     true
 }
 
-// A case's row in its place. False, and every byte as it was, where the counts claim too much or there is no room.
-pub fn put_case(reg: &mut [u8], w: usize, kbits: usize, row: &[u8]) -> bool
+// A row in its place in its group. False, and every byte as it was, where the counts claim too much or there is no room.
+pub fn put(reg: &mut [u8], part: Part, w: usize, kbits: usize, row: &[u8]) -> bool
     requires { ⌜ (w ≤ 65536) × (kbits ≤ 8 * w) × (length (now row) ≡ w) ⌝ }
-    ensures { λ r. ⌜ Put cases w kbits (now (row .entry)) (now (reg .entry)) (now (reg .exit)) r ⌝ }
+    ensures { λ r. ⌜ Put (groupOf part) w kbits (now (row .entry)) (now (reg .entry)) (now (reg .exit)) r ⌝ }
 {
-    if reg.len() < 4 {
-        return false;
-    }
-    let standing = count(reg, 0);
-    let others = count(reg, 2);
-    put_in(reg, w, kbits, 0, 0, standing, standing + others, row)
+    let g = rows_of(reg, part);
+    put_in(reg, w, kbits, g, row)
 }
 
-// An event's row in its place, likewise.
-pub fn put_event(reg: &mut [u8], w: usize, kbits: usize, row: &[u8]) -> bool
-    requires { ⌜ (w ≤ 65536) × (kbits ≤ 8 * w) × (length (now row) ≡ w) ⌝ }
-    ensures { λ r. ⌜ Put events w kbits (now (row .entry)) (now (reg .entry)) (now (reg .exit)) r ⌝ }
-{
-    if reg.len() < 4 {
-        return false;
-    }
-    let others = count(reg, 0);
-    let standing = count(reg, 2);
-    put_in(
-        reg,
-        w,
-        kbits,
-        2,
-        others,
-        others + standing,
-        others + standing,
-        row,
-    )
-}
-
-// The case with the probe's key goes, if it stands.
-pub fn drop_case(reg: &mut [u8], w: usize, kbits: usize, probe: &[u8]) -> bool
+// The row with the probe's key goes from its group, if it stands.
+pub fn remove(reg: &mut [u8], part: Part, w: usize, kbits: usize, probe: &[u8]) -> bool
     requires { ⌜ (w ≤ 65536) × (kbits ≤ 8 * w) × (length (now probe) ≡ w) ⌝ }
-    ensures { λ r. ⌜ Dropped cases w kbits (now (probe .entry)) (now (reg .entry)) (now (reg .exit)) r ⌝ }
+    ensures { λ r. ⌜ Dropped (groupOf part) w kbits (now (probe .entry)) (now (reg .entry)) (now (reg .exit)) r ⌝ }
 {
-    if reg.len() < 4 {
-        return false;
-    }
-    let standing = count(reg, 0);
-    let others = count(reg, 2);
-    drop_in(reg, w, kbits, 0, 0, standing, standing + others, probe)
-}
-
-// The event with the probe's key goes, if it stands.
-pub fn drop_event(reg: &mut [u8], w: usize, kbits: usize, probe: &[u8]) -> bool
-    requires { ⌜ (w ≤ 65536) × (kbits ≤ 8 * w) × (length (now probe) ≡ w) ⌝ }
-    ensures { λ r. ⌜ Dropped events w kbits (now (probe .entry)) (now (reg .entry)) (now (reg .exit)) r ⌝ }
-{
-    if reg.len() < 4 {
-        return false;
-    }
-    let others = count(reg, 0);
-    let standing = count(reg, 2);
-    drop_in(
-        reg,
-        w,
-        kbits,
-        2,
-        others,
-        others + standing,
-        others + standing,
-        probe,
-    )
+    let g = rows_of(reg, part);
+    drop_in(reg, w, kbits, g, probe)
 }
 
 // Empties the register: 0, or 3 under 4 bytes.

@@ -1,10 +1,12 @@
 // Reads each register image that its arguments name, and prints whether it is sound and where a case stands; then fills and clears a register of its own.
 // The images were packed by another tool (docs/REGISTER.md).
+ghost use Prim.Native.Nat.{_≤_};
 use libc::STDOUT_FILENO;
 use markup::bytes::part;
 use register::layout::CASE_KEY;
 use register::layout::EVENT_KEY;
 use register::layout::ROW;
+use register::store::Part;
 
 fn word(s: &[u8]) {
     io::write_all(STDOUT_FILENO, s);
@@ -74,30 +76,20 @@ fn counts(reg: &[u8]) {
     answer(b"events", register::counts::count(reg, 2) as u64);
 }
 
-fn put_case(reg: &mut [u8], row: &[u8]) -> bool {
+fn put(reg: &mut [u8], part: Part, kbits: usize, row: &[u8]) -> bool
+    requires { ⌜ kbits ≤ 728 ⌝ }
+{
     if row.len() == ROW {
-        return register::store::put_case(reg, ROW, CASE_KEY, row);
+        return register::store::put(reg, part, ROW, kbits, row);
     }
     false
 }
 
-fn put_event(reg: &mut [u8], row: &[u8]) -> bool {
+fn remove(reg: &mut [u8], part: Part, kbits: usize, row: &[u8]) -> bool
+    requires { ⌜ kbits ≤ 728 ⌝ }
+{
     if row.len() == ROW {
-        return register::store::put_event(reg, ROW, EVENT_KEY, row);
-    }
-    false
-}
-
-fn drop_case(reg: &mut [u8], row: &[u8]) -> bool {
-    if row.len() == ROW {
-        return register::store::drop_case(reg, ROW, CASE_KEY, row);
-    }
-    false
-}
-
-fn drop_event(reg: &mut [u8], row: &[u8]) -> bool {
-    if row.len() == ROW {
-        return register::store::drop_event(reg, ROW, EVENT_KEY, row);
+        return register::store::remove(reg, part, ROW, kbits, row);
     }
     false
 }
@@ -111,17 +103,17 @@ fn begin(reg: &mut [u8]) {
 }
 
 fn fill(reg: &mut [u8], case: &[u8], event: &[u8]) {
-    yes(b"put_case", put_case(reg, case));
+    yes(b"put_case", put(reg, Part::Cases, CASE_KEY, case));
     sound(reg);
     find(reg);
-    yes(b"put_event", put_event(reg, event));
+    yes(b"put_event", put(reg, Part::Events, EVENT_KEY, event));
     sound(reg);
     counts(reg);
 }
 
 fn clear(reg: &mut [u8], case: &[u8], event: &[u8]) {
-    yes(b"drop_event", drop_event(reg, event));
-    yes(b"drop_case", drop_case(reg, case));
+    yes(b"drop_event", remove(reg, Part::Events, EVENT_KEY, event));
+    yes(b"drop_case", remove(reg, Part::Cases, CASE_KEY, case));
     sound(reg);
     yes(b"zero", soundness::texts::all_zero(reg));
 }
