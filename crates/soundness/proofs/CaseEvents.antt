@@ -1,28 +1,23 @@
--- A case's events as the code walks them.
-use Prim.Native.Nat.{ℕ, suc, _+_, _-_, _*_, _/_, _%_, _^_, _≤_, _<_, max}
-use mathlib.Core.Path.{_≡_, refl, sym, ap, _∙_, subst}
+-- A case's events one after the other: each allowed, above the one before it and fitting it, which decides whether they are good together.
+use Prim.Native.Nat.{ℕ, suc, _+_, _*_, _/_, _%_, _^_, _<_, max}
+use mathlib.Core.Path.{_≡_, refl, sym, _∙_, subst}
 use mathlib.Core.Bool.{Bool, true, false, not, _&&_, _||_, false≢true}
-use mathlib.Core.List.{List, [], _∷_, map}
-use native.Mathlib.Nat.{mod-lt}
+use mathlib.Core.List.{[], _∷_, map}
 use native.Mathlib.Omega.{arith}
 use lib.Dec.{eqb, ltb, leb}
-use lib.Pow.{pow-pos}
-use borrow.Author.Tests.{eqb-true, eq-eqb, ne-eqb}
+use borrow.Author.Tests.{eqb-true, eq-eqb, ne-eqb, leb-true, le-leb}
 use Rattle.laws.specs.Lists.{all}
 use Rattle.laws.proofs.Truth.{and-left, and-right}
 use Rattle.rows.specs.Row.{never}
 use Rattle.model.specs.Map.{Row, Map, Asc}
-use Rattle.register.specs.Layout.{siad, caseOf, eventRest}
-use Rattle.register.specs.Bytes.{split, rowIn, eventsFrom}
 use Rattle.register.specs.Fields.{kindOf, dateOf, endOf, eventKeyOf, eventIn}
 use Rattle.register.specs.Events.{shareDay}
 use Rattle.register.specs.Allowed.{eventAllowed, endAllowed, eventRowAllowed}
 use Rattle.register.specs.Sound.{ascending, eventsFree}
-use Rattle.register.proofs.Every.{Every, every-both, all-told}
+use Rattle.register.proofs.Every.{Every, all-told, all-tell, same-truth, and-tell}
+use Rattle.register.proofs.Ascending.{asc-told, asc-tell}
 use Rattle.soundness.proofs.EventFacts.{fits, late, passes, Rising, Sane}
 use Rattle.soundness.proofs.Neighbours.{neighbours}
-use Rattle.register.proofs.Walks.{from-next, from-none, from-every}
-use Rattle.register.proofs.Ascending.{asc-told}
 
 -- ---- the tests of one event
 
@@ -30,9 +25,9 @@ pub share-is : (a b ka kb da eb db ea : ℕ) → ka ≡ kindOf a → kb ≡ kind
     (eqb ka 2 && eqb kb 2) && (leb da eb && leb db ea) ≡ shareDay a b
 share-is a b ka kb da eb db ea p q r s t u = rw (p, q, r, s, t, u)
 
-pub fits-is : (taken prev latest e date end kind last : ℕ) (shared : Bool) → date ≡ dateOf e → end ≡ endOf e → kind ≡ kindOf e → last ≡ kindOf prev → shared ≡ shareDay prev e →
-    leb taken date && (not (eqb kind 2 && ltb end date) && (not shared && (not (eqb last 3 && eqb kind 3) && not (eqb kind 3 && ltb date latest)))) ≡ fits taken prev latest e
-fits-is taken prev latest e date end kind last shared d n k l s = rw (d, n, k, l, s)
+pub fits-is : (taken least prev latest e date end kind last key : ℕ) (shared : Bool) → date ≡ dateOf e → end ≡ endOf e → kind ≡ kindOf e → last ≡ kindOf prev → shared ≡ shareDay prev e → key ≡ eventKeyOf e →
+    leb least key && (leb taken date && (not (eqb kind 2 && ltb end date) && (not shared && (not (eqb last 3 && eqb kind 3) && not (eqb kind 3 && ltb date latest))))) ≡ leb least (eventKeyOf e) && fits taken prev latest e
+fits-is taken least prev latest e date end kind last key shared d n k l s g = rw (d, n, k, l, s, g)
 
 module _ (latest e end date day : ℕ) (n : end ≡ endOf e) (d : date ≡ dateOf e) (y : day ≡ max latest date) where
   pub later-none : end ≡ never → day ≡ max latest (late e)
@@ -43,37 +38,48 @@ module _ (latest e end date day : ℕ) (n : end ≡ endOf e) (d : date ≡ dateO
 
 -- ---- the walk
 
-abbrev pub events : List ℕ → ℕ → ℕ → List ℕ
-events reg i hi = map eventIn (eventsFrom siad reg i (hi - i))
+-- the rows of a run pass one by one: with keys from b on, after the event p and the latest day m
+unfoldable pub follow : ℕ → ℕ → ℕ → ℕ → Map ℕ → Bool
+follow t b p m [] = true
+follow t b p m (x ∷ us) =
+    (eventRowAllowed x && (leb b (eventKeyOf (eventIn x)) && fits t p m (eventIn x)))
+    && follow t (suc (eventKeyOf (eventIn x))) (eventIn x) (max m (late (eventIn x))) us
 
-module _ (reg : List ℕ) (t : ℕ) (target : Bool) (p m i hi : ℕ) (inv : target ≡ passes t p m (events reg i hi)) where
-  abbrev here : ℕ
-  here = eventIn (split (eventRest siad) (rowIn siad reg i))
+record Passed (t b p m : ℕ) (us : Map ℕ) : Type 0 where
+  rows : Every (λ r. eventRowAllowed r ≡ true) us
+  up : Rising b (map eventIn us)
+  fit : passes t p m (map eventIn us) ≡ true
 
-  next-event : i < hi → events reg i hi ≡ here ∷ events reg (i + 1) hi
-  next-event h = ap (map eventIn) (from-next (λ j. split (eventRest siad) (rowIn siad reg j)) i hi h)
+follow-told : (t b p m : ℕ) (us : Map ℕ) → follow t b p m us ≡ true → Passed t b p m us
+unfolding follow Rising passes
+follow-told t b p m [] h = record { rows = tt; up = tt; fit = refl }
+follow-told t b p m (x ∷ us) h =
+    let e = eventIn x in
+    let a = and-left (eventRowAllowed x && (leb b (eventKeyOf e) && fits t p m e)) _ h in
+    let c = and-right (eventRowAllowed x) (leb b (eventKeyOf e) && fits t p m e) a in
+    let r = follow-told t (suc (eventKeyOf e)) e (max m (late e)) us (and-right (eventRowAllowed x && (leb b (eventKeyOf e) && fits t p m e)) _ h) in
+    record {
+      rows = (and-left (eventRowAllowed x) _ a, r .rows);
+      up = (leb-true b (eventKeyOf e) (and-left (leb b (eventKeyOf e)) _ c), r .up);
+      fit = and-tell (fits t p m e) _ (and-right (leb b (eventKeyOf e)) _ c) (r .fit);
+    }
 
-  module _ (e : ℕ) (good : Bool) (h : i < hi) (q : e ≡ here) (g : good ≡ fits t p m e) where
-    step : target ≡ (good && passes t e (max m (late e)) (events reg (i + 1) hi))
-    unfolding passes
-    step = inv ∙ ap (passes t p m) (next-event h) ∙ rw (← q, ← g)
-
-    pub event-fits : (m' : ℕ) → m' ≡ max m (late e) → good ≡ true → target ≡ passes t e m' (events reg (i + 1) hi)
-    event-fits m' f b = step ∙ rw (b, f)
-
-    pub event-not : good ≡ false → false ≡ target
-    event-not b = sym (step ∙ rw b)
-
-  pub events-done : hi ≤ i → true ≡ target
-  unfolding passes
-  events-done h = sym (inv ∙ ap (λ (l : Map ℕ). passes t p m (map eventIn l)) (from-none (λ j. split (eventRest siad) (rowIn siad reg j)) i hi h))
+follow-tell : (t b p m : ℕ) (us : Map ℕ) → Passed t b p m us → follow t b p m us ≡ true
+unfolding follow Rising passes
+follow-tell t b p m [] h = refl
+follow-tell t b p m (x ∷ us) h =
+    let e = eventIn x in
+    let f = h .fit in
+    and-tell (eventRowAllowed x && (leb b (eventKeyOf e) && fits t p m e)) _
+    (and-tell (eventRowAllowed x) _ (h .rows .0) (and-tell (leb b (eventKeyOf e)) _ (le-leb b (eventKeyOf e) (h .up .0)) (and-left (fits t p m e) _ f)))
+    (follow-tell t (suc (eventKeyOf e)) e (max m (late e)) us (record { rows = h .rows .1; up = h .up .1; fit = and-right (fits t p m e) _ f }))
 
 -- ---- what the walk decides
 
 -- of an event's row: its case, and no bits beyond its own
-record Mine (c : ℕ) (r : Row ℕ) : Type 0 where
-  own : r .key / 2 ^ 19 ≡ c
-  small : r .val < 2 ^ 47
+pub record Mine (c : ℕ) (r : Row ℕ) : Type 0 where
+  pub own : r .key / 2 ^ 19 ≡ c
+  pub small : r .val < 2 ^ 47
 
 rising : (c d : ℕ) (m : Map ℕ) → Asc (c * 2 ^ 19 + d) m → Every (Mine c) m → Rising d (map eventIn m)
 unfolding Asc Rising
@@ -105,12 +111,28 @@ sane c (r ∷ m) g a =
     let s = g .0 .small in
     (record { kind = omega arith; end = ended (eventIn r) (and-left (eventAllowed (eventIn r)) _ (a .0)) }, sane c m (g .1) (a .1))
 
-pub free-is : (reg : List ℕ) (t lo hi c : ℕ) → all (λ e. eqb (caseOf siad (e .key)) c) (eventsFrom siad reg lo (hi - lo)) ≡ true →
-    ascending (eventsFrom siad reg lo (hi - lo)) ≡ true → all eventRowAllowed (eventsFrom siad reg lo (hi - lo)) ≡ true →
-    passes t 0 0 (events reg lo hi) ≡ eventsFree t (events reg lo hi)
-free-is reg t lo hi c o u a =
-    let m = eventsFrom siad reg lo (hi - lo) in
-    let g : Every (Mine c) m =
-    every-both m (λ r e s. record { own = eqb-true (caseOf siad (r .key)) c e; small = s }) (all-told (λ e. eqb (caseOf siad (e .key)) c) m o)
-    (from-every (λ j. split (eventRest siad) (rowIn siad reg j)) (λ r. r .val < 2 ^ 47) lo (hi - lo) (λ j x y. mod-lt (rowIn siad reg j) (pow-pos 47))) in
-    sym (neighbours t (map eventIn m) (rising c 0 m (begins c m (asc-told m u) g) g) (sane c m g (all-told eventRowAllowed m a)))
+-- and back
+climbing : (c d : ℕ) (m : Map ℕ) → Rising d (map eventIn m) → Every (Mine c) m → Asc (c * 2 ^ 19 + d) m
+unfolding Asc Rising
+climbing c d [] h g = tt
+climbing c d (r ∷ m) h g =
+    let o = g .0 .own in
+    let s = g .0 .small in
+    let k : eventKeyOf (eventIn r) ≡ r .key % 2 ^ 19 = omega arith in
+    let e : c * 2 ^ 19 + suc (eventKeyOf (eventIn r)) ≡ suc (r .key) = omega arith in
+    let l = h .0 in
+    (omega arith, subst (λ (z : ℕ). Asc z m) e (climbing c (suc (eventKeyOf (eventIn r))) m (h .1) (g .1)))
+
+-- neighbours suffice for a case's rows
+pub follow-is : (c t : ℕ) (us : Map ℕ) → Every (Mine c) us → follow t 0 0 0 us ≡ (all eventRowAllowed us && (ascending us && eventsFree t (map eventIn us)))
+follow-is c t us g =
+    same-truth (follow t 0 0 0 us) (all eventRowAllowed us && (ascending us && eventsFree t (map eventIn us)))
+    (λ h.
+    let f = follow-told t 0 0 0 us h in
+    and-tell (all eventRowAllowed us) _ (all-tell eventRowAllowed us (f .rows))
+    (and-tell (ascending us) _ (asc-tell (c * 2 ^ 19 + 0) us (climbing c 0 us (f .up) g)) (neighbours t (map eventIn us) (f .up) (sane c us g (f .rows)) ∙ f .fit)))
+    (λ h.
+    let a = all-told eventRowAllowed us (and-left (all eventRowAllowed us) _ h) in
+    let v = and-right (all eventRowAllowed us) (ascending us && eventsFree t (map eventIn us)) h in
+    let r = rising c 0 us (begins c us (asc-told us (and-left (ascending us) _ v)) g) g in
+    follow-tell t 0 0 0 us (record { rows = a; up = r; fit = sym (neighbours t (map eventIn us) r (sane c us g a)) ∙ and-right (ascending us) _ v }))

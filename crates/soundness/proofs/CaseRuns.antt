@@ -1,32 +1,28 @@
--- Cases and events in one walk: the events of each case are the next ones, and none is left over.
+-- Cases and events in one walk: each case's events are the next ones, and none is left over. Good runs suffice: events of different cases are in order
+-- because the cases ascend.
 use Prim.Native.Nat.{ℕ, suc, _≤_, _<_}
-use mathlib.Core.Path.{_≡_, refl, sym, ap, _∙_}
+use mathlib.Core.Path.{_≡_, refl, sym, ap, _∙_, subst}
 use mathlib.Core.Logic.{_⊎_, inl, inr}
-use mathlib.Core.Bool.{Bool, true, false, cond, _&&_}
+use mathlib.Core.Bool.{Bool, true, false, cond, _&&_, false≢true}
 use mathlib.Core.List.{List, [], _∷_, _++_}
 use native.Mathlib.Omega.{arith}
 use lib.Dec.{eqb}
 use borrow.Author.Tests.{eqb-true, eq-eqb, ne-eqb}
 use Rattle.laws.specs.Lists.{all}
 use Rattle.laws.proofs.Order.{Tri, below, equal, above, tri}
-use Rattle.laws.proofs.Truth.{and-false}
+use Rattle.laws.proofs.Lists.{all-append, all-left, all-right, all-join}
+use Rattle.laws.proofs.Truth.{and-left, and-right, and-false}
 use Rattle.model.specs.Map.{Row, Map, find, has, keep, Asc, isSome}
 use Rattle.model.proofs.MapLaws.{asc-weaken, find-below}
-use Rattle.register.proofs.Every.{Every, every-map, all-tell}
+use Rattle.register.specs.Sound.{Rules, ascending}
+use Rattle.register.proofs.Every.{Every, every-map, all-told, all-tell, same-truth, and-tell}
+use Rattle.register.proofs.Ascending.{asc-told, asc-tell}
+use Rattle.soundness.specs.Walk.{runOf, goodRun}
 
 and-swap : (a b c : Bool) → (a && (b && c)) ≡ (b && (a && c))
 and-swap true b c = refl
 and-swap false true c = refl
 and-swap false false c = refl
-
-all-append : {A : Type 0} (p : A → Bool) (us vs : List A) → all p (us ++ vs) ≡ (all p us && all p vs)
-unfolding all
-all-append p [] vs = refl
-all-append p (u ∷ us) vs = rw (all-append p us vs) (and-three (p u) (all p us) (all p vs))
-  where
-    and-three : (a b c : Bool) → (a && (b && c)) ≡ ((a && b) && c)
-    and-three true b c = refl
-    and-three false b c = refl
 
 pub all-cong : {A : Type 0} (p q : A → Bool) (l : List A) → Every (λ x. p x ≡ q x) l → all p l ≡ all q l
 unfolding all
@@ -59,30 +55,26 @@ asc-every b [] h = tt
 asc-every b (x ∷ m) h = (h .0, every-map m (λ y k. omega arith) (asc-every (suc (x .key)) m (h .1)))
 
 module _ (own : ℕ → ℕ) where
-  -- the rows of the case c at the front, and what follows them
-  unfoldable pub runOf : ℕ → Map ℕ → Map ℕ
-  runOf c [] = []
-  runOf c (x ∷ m) = cond (eqb (own (x .key)) c) (x ∷ runOf c m) []
-
+  -- what follows the rows of the case c at the front
   unfoldable pub restOf : ℕ → Map ℕ → Map ℕ
   restOf c [] = []
   restOf c (x ∷ m) = cond (eqb (own (x .key)) c) (restOf c m) (x ∷ m)
 
-  run-rest : (c : ℕ) (m : Map ℕ) → runOf c m ++ restOf c m ≡ m
+  pub run-rest : (c : ℕ) (m : Map ℕ) → runOf own c m ++ restOf c m ≡ m
   unfolding runOf restOf
   run-rest c [] = refl
   run-rest c (x ∷ m) = go (eqb (own (x .key)) c) refl (run-rest c m)
     where
-      go : (b : Bool) → eqb (own (x .key)) c ≡ b → runOf c m ++ restOf c m ≡ m → runOf c (x ∷ m) ++ restOf c (x ∷ m) ≡ x ∷ m
+      go : (b : Bool) → eqb (own (x .key)) c ≡ b → runOf own c m ++ restOf c m ≡ m → runOf own c (x ∷ m) ++ restOf c (x ∷ m) ≡ x ∷ m
       go true e h = simp (e, h)
       go false e h = simp e
 
-  run-own : (c : ℕ) (m : Map ℕ) → Every (λ x. own (x .key) ≡ c) (runOf c m)
+  pub run-own : (c : ℕ) (m : Map ℕ) → Every (λ x. own (x .key) ≡ c) (runOf own c m)
   unfolding runOf
   run-own c [] = tt
   run-own c (x ∷ m) = go (eqb (own (x .key)) c) refl (run-own c m)
     where
-      go : (b : Bool) → eqb (own (x .key)) c ≡ b → Every (λ x. own (x .key) ≡ c) (runOf c m) → Every (λ x. own (x .key) ≡ c) (runOf c (x ∷ m))
+      go : (b : Bool) → eqb (own (x .key)) c ≡ b → Every (λ x. own (x .key) ≡ c) (runOf own c m) → Every (λ x. own (x .key) ≡ c) (runOf own c (x ∷ m))
       go true e h = simp e (eqb-true _ _ e, h)
       go false e h = simp e tt
 
@@ -94,6 +86,24 @@ module _ (own : ℕ → ℕ) where
       go : (d : Bool) → eqb (own (x .key)) c ≡ d → Asc (suc (x .key)) (restOf c m) → Asc b (restOf c (x ∷ m))
       go true e g = simp e (asc-weaken b (suc (x .key)) (restOf c m) (omega arith) g)
       go false e g = simp e h
+
+  run-asc : (b c : ℕ) (m : Map ℕ) → Asc b m → Asc b (runOf own c m)
+  unfolding runOf Asc
+  run-asc b c [] h = tt
+  run-asc b c (x ∷ m) h = go (eqb (own (x .key)) c) refl (run-asc (suc (x .key)) c m (h .1))
+    where
+      go : (d : Bool) → eqb (own (x .key)) c ≡ d → Asc (suc (x .key)) (runOf own c m) → Asc b (runOf own c (x ∷ m))
+      go true e g = simp e (h .0, g)
+      go false e g = simp e tt
+
+  pub run-part : (P : Row ℕ → Type 0) (c : ℕ) (m : Map ℕ) → Every P m → Every P (runOf own c m)
+  unfolding runOf
+  run-part P c [] h = tt
+  run-part P c (x ∷ m) h = go (eqb (own (x .key)) c) refl (run-part P c m (h .1))
+    where
+      go : (d : Bool) → eqb (own (x .key)) c ≡ d → Every P (runOf own c m) → Every P (runOf own c (x ∷ m))
+      go true e g = simp e (h .0, g)
+      go false e g = simp e tt
 
   -- what follows a run begins with a smaller case, or has greater cases alone
   Behind : ℕ → Map ℕ → Type 0
@@ -113,10 +123,10 @@ module _ (own : ℕ → ℕ) where
           simp f (inr (l, every-map m (λ y k. let z = mono (x .key) (y .key) (omega arith) in omega arith) (asc-every (suc (x .key)) m (h .1))))
 
   -- the walk
-  unfoldable pub grouped : (ℕ → Map ℕ → Bool) → Map ℕ → Map ℕ → Bool
-  grouped tog [] [] = true
-  grouped tog [] (x ∷ m) = false
-  grouped tog (c ∷ cs) m = tog (c .key) (runOf (c .key) m) && grouped tog cs (restOf (c .key) m)
+  unfoldable pub grouped : Rules → Map ℕ → Map ℕ → Bool
+  grouped rules [] [] = true
+  grouped rules [] (x ∷ m) = false
+  grouped rules (c ∷ cs) m = goodRun rules (c .key) (runOf own (c .key) m) && grouped rules cs (restOf (c .key) m)
 
   -- the paper's two conditions
   abbrev pub apart : (ℕ → Map ℕ → Bool) → Map ℕ → Map ℕ → Bool
@@ -179,34 +189,83 @@ module _ (own : ℕ → ℕ) where
         all-append (λ e. has (own (e .key)) (c ∷ cs)) us vs ∙ rw (head-out (c ∷ cs) (c .key) (asc-self c cs up) vs lost) (and-false (all (λ e. has (own (e .key)) (c ∷ cs)) us)) in
         rw (s, head-out cs (c .key) (asc-weaken (c .key) (suc (c .key)) cs (omega arith) up) vs lost) (sym (and-false (tog (c .key) us)))
 
-  module _ (mono : (j k : ℕ) → j ≤ k → own j ≤ own k) (tog : ℕ → Map ℕ → Bool) where
-    pub grouped-is : (a b : ℕ) (cs m : Map ℕ) → Asc a cs → Asc b m → apart tog cs m ≡ grouped tog cs m
-    unfolding grouped all find Asc
-    grouped-is a b [] [] h g = refl
-    grouped-is a b [] (x ∷ m) h g = refl
-    grouped-is a b (c ∷ cs) m h g =
-        ap (λ (l : Map ℕ). apart tog (c ∷ cs) l) (sym (run-rest (c .key) m))
-        ∙ step (rest-cut mono b (c .key) m g)
-        ∙ ap (λ (z : Bool). tog (c .key) (runOf (c .key) m) && z) (grouped-is (suc (c .key)) b cs (restOf (c .key) m) (h .1) (rest-asc b (c .key) m g))
+  -- a case that stands is not below the first
+  has-above : (k b : ℕ) (cs : Map ℕ) → Asc b cs → has k cs ≡ true → b ≤ k
+  has-above k b cs h e = go (tri k b)
+    where
+      go : Tri k b → b ≤ k
+      go (below l _ _) = absurd (false≢true (sym (has-below k b cs l h) ∙ e))
+      go (equal l _ _) = omega arith
+      go (above l _ _) = omega arith
+
+  module _ (mono : (j k : ℕ) → j ≤ k → own j ≤ own k) where
+    -- a case's events are before those of greater cases
+    asc-join : (b c : ℕ) (us vs : Map ℕ) → Asc b us → Asc 0 vs → Every (λ x. own (x .key) ≡ c) us → Every (λ x. c < own (x .key)) vs → Every (λ x. b ≤ x .key) vs → Asc b (us ++ vs)
+    unfolding Asc
+    asc-join b c [] [] h g mine after l = tt
+    asc-join b c [] (v ∷ vs) h g mine after l = (l .0, g .1)
+    asc-join b c (u ∷ us) vs h g mine after l =
+        (h .0, asc-join (suc (u .key)) c us vs (h .1) g (mine .1) after (every-map vs (λ y k. go y k (tri (u .key) (y .key))) after))
       where
-        step : Behind (c .key) (restOf (c .key) m) ⊎ Every (λ x. c .key < own (x .key)) (restOf (c .key) m) →
-            apart tog (c ∷ cs) (runOf (c .key) m ++ restOf (c .key) m) ≡ (tog (c .key) (runOf (c .key) m) && apart tog cs (restOf (c .key) m))
-        step (inl l) = behind tog c cs (runOf (c .key) m) (restOf (c .key) m) (h .1) (run-own (c .key) m) l
-        step (inr l) = ahead tog c cs (runOf (c .key) m) (restOf (c .key) m) (h .1) (run-own (c .key) m) l
+        go : (y : Row ℕ) → c < own (y .key) → Tri (u .key) (y .key) → u .key < y .key
+        go y k (below p _ _) = p
+        go y k (equal p _ _) = let z = mono (y .key) (u .key) (omega arith) in let q = mine .0 in absurd (omega arith)
+        go y k (above p _ _) = let z = mono (y .key) (u .key) (omega arith) in let q = mine .0 in absurd (omega arith)
 
-  -- a run that is known, and what follows it
-  abbrev pub Other : ℕ → Map ℕ → Type 0
-  Other c [] = Unit {0}
-  Other c (x ∷ m) = own (x .key) ≡ c → ⊥
+    module _ (rules : Rules) where
+      -- what the events m of the cases cs have to be
+      abbrev pub inPlace : Map ℕ → Map ℕ → Bool
+      inPlace cs m = all (rules .event-row) m && (ascending m && apart (rules .together) cs m)
 
-  run-none : (c : ℕ) (vs : Map ℕ) → Other c vs → (runOf c vs ≡ []) × (restOf c vs ≡ vs)
-  unfolding runOf restOf
-  run-none c [] n = (refl, refl)
-  run-none c (x ∷ vs) n = (simp (ne-eqb (own (x .key)) c n), simp (ne-eqb (own (x .key)) c n))
+      module _ (c : Row ℕ) (cs m : Map ℕ) (up : Asc (suc (c .key)) cs) where
+        abbrev us : Map ℕ
+        us = runOf own (c .key) m
 
-  pub run-is : (c : ℕ) (us vs : Map ℕ) → Every (λ x. own (x .key) ≡ c) us → Other c vs → (runOf c (us ++ vs) ≡ us) × (restOf c (us ++ vs) ≡ vs)
-  unfolding runOf restOf
-  run-is c [] vs h n = run-none c vs n
-  run-is c (u ∷ us) vs h n =
-      let g = run-is c us vs (h .1) n in
-      (simp (eq-eqb (own (u .key)) c (h .0), g .0), simp (eq-eqb (own (u .key)) c (h .0), g .1))
+        abbrev vs : Map ℕ
+        vs = restOf (c .key) m
+
+        run-on : goodRun rules (c .key) us ≡ true → inPlace cs vs ≡ true → inPlace (c ∷ cs) m ≡ true
+        run-on g w =
+            let p = rules .event-row in
+            let u = and-right (all p us) (ascending us && rules .together (c .key) us) g in
+            let v = and-right (all p vs) (ascending vs && apart (rules .together) cs vs) w in
+            let s = and-right (ascending vs) (apart (rules .together) cs vs) v in
+            let after : Every (λ x. c .key < own (x .key)) vs =
+            every-map vs (λ x k. has-above (own (x .key)) (suc (c .key)) cs up k) (all-told (λ e. has (own (e .key)) cs) vs (and-left (all (λ e. has (own (e .key)) cs) vs) _ s)) in
+            let order : ascending (us ++ vs) ≡ true =
+            asc-tell 0 (us ++ vs) (asc-join 0 (c .key) us vs (asc-told us (and-left (ascending us) _ u)) (asc-told vs (and-left (ascending vs) _ v)) (run-own (c .key) m) after (every-map vs (λ x k. omega arith) after)) in
+            subst (λ (l : Map ℕ). inPlace (c ∷ cs) l ≡ true) (run-rest (c .key) m)
+            (and-tell (all p (us ++ vs)) _ (all-join p us vs (and-left (all p us) _ g) (and-left (all p vs) _ w))
+            (and-tell (ascending (us ++ vs)) _ order
+            (ahead (rules .together) c cs us vs up (run-own (c .key) m) after ∙ and-tell (rules .together (c .key) us) _ (and-right (ascending us) _ u) s)))
+
+        run-back : inPlace (c ∷ cs) m ≡ true → goodRun rules (c .key) us && inPlace cs vs ≡ true
+        run-back h =
+            let p = rules .event-row in
+            let a : all p (us ++ vs) ≡ true = rw (run-rest (c .key) m) (and-left (all p m) _ h) in
+            let v = and-right (all p m) (ascending m && apart (rules .together) (c ∷ cs) m) h in
+            let up0 = asc-told m (and-left (ascending m) _ v) in
+            let s : apart (rules .together) (c ∷ cs) (us ++ vs) ≡ true = rw (run-rest (c .key) m) (and-right (ascending m) _ v) in
+            let t = sym (step (rest-cut mono 0 (c .key) m up0)) ∙ s in
+            and-tell (goodRun rules (c .key) us) _
+            (and-tell (all p us) _ (all-left p us vs a) (and-tell (ascending us) _ (asc-tell 0 us (run-asc 0 (c .key) m up0)) (and-left (rules .together (c .key) us) _ t)))
+            (and-tell (all p vs) _ (all-right p us vs a) (and-tell (ascending vs) _ (asc-tell 0 vs (rest-asc 0 (c .key) m up0)) (and-right (rules .together (c .key) us) _ t)))
+          where
+            step : Behind (c .key) vs ⊎ Every (λ x. c .key < own (x .key)) vs →
+                apart (rules .together) (c ∷ cs) (us ++ vs) ≡ (rules .together (c .key) us && apart (rules .together) cs vs)
+            step (inl l) = behind (rules .together) c cs us vs up (run-own (c .key) m) l
+            step (inr l) = ahead (rules .together) c cs us vs up (run-own (c .key) m) l
+
+      left-over : (a b : Bool) → false ≡ a && (b && false)
+      left-over true b = sym (and-false b)
+      left-over false b = refl
+
+      pub grouped-is : (b : ℕ) (cs m : Map ℕ) → Asc b cs → grouped rules cs m ≡ inPlace cs m
+      unfolding grouped all find Asc ascending
+      grouped-is b [] [] h = refl
+      grouped-is b [] (x ∷ m) h = left-over (all (rules .event-row) (x ∷ m)) (ascending (x ∷ m))
+      grouped-is b (c ∷ cs) m h =
+          ap (λ (z : Bool). goodRun rules (c .key) (runOf own (c .key) m) && z) (grouped-is (suc (c .key)) cs (restOf (c .key) m) (h .1))
+          ∙ same-truth (goodRun rules (c .key) (runOf own (c .key) m) && inPlace cs (restOf (c .key) m)) (inPlace (c ∷ cs) m)
+          (λ k. run-on c cs m (h .1) (and-left (goodRun rules (c .key) (runOf own (c .key) m)) _ k) (and-right (goodRun rules (c .key) (runOf own (c .key) m)) _ k))
+          (run-back c cs m (h .1))

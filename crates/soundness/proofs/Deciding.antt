@@ -10,12 +10,13 @@ use lib.Seq.{take-all}
 use borrow.Author.Tests.{leb-true, le-leb, lt-leb}
 use Rattle.laws.specs.Lists.{all}
 use Rattle.laws.proofs.Truth.{and-left, and-right}
-use Rattle.model.specs.Map.{Map, has}
+use Rattle.model.specs.Map.{has}
 use Rattle.register.specs.Layout.{siad, caseOf, caseRest, eventRest}
 use Rattle.register.specs.Bytes.{split, room, casesHeld, eventsHeld, rowAt, rowIn, casesFrom, eventsFrom, stateOf, used}
 use Rattle.register.specs.Allowed.{caseRowAllowed, eventRowAllowed}
 use Rattle.register.specs.Sound.{ascending, eventsOf, valid, siadRules, isSound}
 use Rattle.register.proofs.From.{from-length}
+use Rattle.soundness.proofs.OnePass.{state}
 
 pub too-short : (reg : List ℕ) → length reg < 4 → false ≡ isSound reg
 unfolding isSound
@@ -25,63 +26,32 @@ module _ (reg : List ℕ) (cases events : ℕ) (ec : cases ≡ casesHeld reg) (e
   abbrev rows : ℕ
   rows = cases + events
 
-  abbrev cs : Map ℕ
-  cs = casesFrom siad reg 0 cases
-
-  abbrev es : Map ℕ
-  es = eventsFrom siad reg cases (rows - cases)
-
-  -- the cases as the walk from row 0 counts them
-  abbrev from0 : Map ℕ
-  from0 = casesFrom siad reg 0 (cases - 0)
-
-  up : ascending cs ≡ ascending from0
-  up = let e : cases ≡ cases - 0 = omega arith in ap (λ (k : ℕ). ascending (casesFrom siad reg 0 k)) e
-
-  -- "every event's case standing, each case's events free"
-  abbrev groups : Bool
-  groups = all (λ e. has (caseOf siad (e .key)) cs) es && all (λ c. siadRules .together (c .key) (eventsOf siad (c .key) es)) cs
+  abbrev good : Bool
+  good = valid siad siadRules (length reg) (state reg cases rows)
 
   abbrev tail : Bool
   tail = all (λ b. eqb b 0) (drop (4 + 91 * rows) reg)
 
-  whole : isSound reg ≡ ((leb rows (room siad (length reg)) && ((all caseRowAllowed cs && all eventRowAllowed es) && ((ascending cs && ascending es) && groups))) && tail)
+  whole : isSound reg ≡ good && tail
   unfolding isSound
   whole =
       let e : casesHeld reg + eventsHeld reg - casesHeld reg ≡ eventsHeld reg = omega arith in
-      rw (le-leb 4 (length reg) long, from-length (λ j. split (caseRest siad) (rowIn siad reg j)) 0 (casesHeld reg), from-length (λ j. split (eventRest siad) (rowIn siad reg j)) (casesHeld reg) (eventsHeld reg), ec, ee, e)
+      rw (le-leb 4 (length reg) long, ec, ee, e, from-length (λ j. split (caseRest siad) (rowIn siad reg j)) 0 (casesHeld reg), from-length (λ j. split (eventRest siad) (rowIn siad reg j)) (casesHeld reg) (eventsHeld reg))
 
   pub no-room : room siad (length reg) < rows → false ≡ isSound reg
-  no-room h = sym (whole ∙ rw (lt-leb rows (room siad (length reg)) h))
+  no-room h =
+      let e : rows ≡ cases + (rows - cases) = omega arith in
+      let n : leb (length (casesFrom siad reg 0 cases) + length (eventsFrom siad reg cases (rows - cases))) (room siad (length reg)) ≡ false =
+      rw (from-length (λ j. split (caseRest siad) (rowIn siad reg j)) 0 cases, from-length (λ j. split (eventRest siad) (rowIn siad reg j)) cases (rows - cases), ← e) (lt-leb rows (room siad (length reg)) h) in
+      sym (whole ∙ rw n)
 
-  module _ (r : rows ≤ room siad (length reg)) where
-    fits : leb rows (room siad (length reg)) ≡ true
-    fits = le-leb rows (room siad (length reg)) r
+  pub not-valid : (v : Bool) → v ≡ good → v ≡ false → false ≡ isSound reg
+  not-valid v g f = sym (whole ∙ rw (sym g ∙ f))
 
-    pub case-out : all caseRowAllowed cs ≡ false → false ≡ isSound reg
-    case-out a = sym (whole ∙ rw (fits, a))
-
-    module _ (a : all caseRowAllowed cs ≡ true) where
-      pub event-out : all eventRowAllowed es ≡ false → false ≡ isSound reg
-      event-out b = sym (whole ∙ rw (fits, a, b))
-
-      module _ (b : all eventRowAllowed es ≡ true) where
-        pub cases-fall : ascending from0 ≡ false → false ≡ isSound reg
-        cases-fall c = sym (whole ∙ rw (fits, a, b, up ∙ c))
-
-        module _ (c : ascending from0 ≡ true) where
-          pub events-fall : ascending es ≡ false → false ≡ isSound reg
-          events-fall d = sym (whole ∙ rw (fits, a, b, up ∙ c, d))
-
-          module _ (d : ascending es ≡ true) where
-            pub not-grouped : (g : Bool) → (ascending cs ≡ true → ascending es ≡ true → all eventRowAllowed es ≡ true → g ≡ groups) → g ≡ false → false ≡ isSound reg
-            not-grouped g h f = sym (whole ∙ rw (fits, a, b, up ∙ c, d, sym (h (up ∙ c) d b) ∙ f))
-
-            pub by-tail : (g z : Bool) → (ascending cs ≡ true → ascending es ≡ true → all eventRowAllowed es ≡ true → g ≡ groups) → g ≡ true →
-                z ≡ all (λ b. eqb b 0) (take (length reg - (4 + 91 * rows)) (drop (4 + 91 * rows) reg)) → z ≡ isSound reg
-            by-tail g z h f e =
-                let l : length (drop (4 + 91 * rows) reg) ≤ length reg - (4 + 91 * rows) = rw length-drop (omega arith) in
-                e ∙ ap (all (λ b. eqb b 0)) (take-all (length reg - (4 + 91 * rows)) (drop (4 + 91 * rows) reg) l) ∙ sym (whole ∙ rw (fits, a, b, up ∙ c, d, sym (h (up ∙ c) d b) ∙ f))
+  pub by-tail : (v z : Bool) → v ≡ good → v ≡ true → z ≡ all (λ b. eqb b 0) (take (length reg - (4 + 91 * rows)) (drop (4 + 91 * rows) reg)) → z ≡ isSound reg
+  by-tail v z g f e =
+      let l : length (drop (4 + 91 * rows) reg) ≤ length reg - (4 + 91 * rows) = rw length-drop (omega arith) in
+      e ∙ ap (all (λ b. eqb b 0)) (take-all (length reg - (4 + 91 * rows)) (drop (4 + 91 * rows) reg) l) ∙ sym (whole ∙ rw (sym g ∙ f))
 
 -- ---- what soundness tells
 

@@ -6,7 +6,8 @@ pub mod TextTests
 pub mod Runs
 pub mod RowFields
 pub mod CaseEvents
-pub mod GroupWalk
+pub mod CaseWalk
+pub mod OnePass
 pub mod Deciding
 pub mod KeyTexts
 pub mod FindPlace

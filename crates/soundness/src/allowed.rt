@@ -56,13 +56,13 @@ pub fn event_of(row: &[u8]) -> u64
     rows::reader::get(row, EVENT, 52)
 }
 
-// An event's row.
-pub fn event_row_allowed(row: &[u8]) -> bool
-    requires { ⌜ length (now row) ≡ rowBytes ⌝ }
+// An event's row, whose 52 bits are e.
+pub fn event_row_allowed(row: &[u8], e: u64) -> bool
+    requires { ⌜ (length (now row) ≡ rowBytes) × (e ≡ eventIn (split (eventRest siad) (num (now row)))) ⌝ }
     ensures { λ r. ⌜ r ≡ eventRowAllowed (split (eventRest siad) (num (now (row .entry)))) ⌝ }
 {
     let pad = rows::reader::get(row, AFTER_EVENT, 14);
-    event_allowed(event_of(row)) & (pad == 0)
+    event_allowed(e) & (pad == 0)
 }
 
 // A case's key.

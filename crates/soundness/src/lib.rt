@@ -2,8 +2,6 @@
 pub mod allowed;
 pub mod fields;
 pub mod find;
-pub mod grouped;
 pub mod sound;
 pub mod texts;
 pub mod together;
-pub mod walk;

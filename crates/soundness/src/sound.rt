@@ -1,19 +1,23 @@
-// "Sound means" (document 01, "The register"), decided.
+// "Sound means" (document 01, "The register"), decided in one pass over the rows.
 ghost use mathlib.Core.Path.{_≡_};
-ghost use Prim.Native.Nat.{_≤_};
+ghost use mathlib.Core.Bool.{_&&_, _||_};
+ghost use Prim.Native.Nat.{_+_, _-_, _/_, _^_, _≤_};
+ghost use lib.Dec.{eqb, ltb};
+ghost use lib.ListN.{length};
 ghost use Rattle.days.specs.Table.{Firsts};
-ghost use Rattle.register.specs.Bytes.{room};
-ghost use Rattle.register.specs.Layout.{siad};
-ghost use Rattle.register.specs.Sound.{isSound};
-use crate::grouped::grouped;
+ghost use Rattle.register.specs.Allowed.{caseRowAllowed};
+ghost use Rattle.register.specs.Bytes.{room, rowAt, rowIn, split, casesFrom, eventsFrom};
+ghost use Rattle.register.specs.Layout.{siad, caseRest};
+ghost use Rattle.register.specs.Sound.{valid, siadRules, isSound};
+use crate::allowed::case_row_allowed;
+use crate::fields::row_at;
 use crate::texts::all_zero;
-use crate::walk::cases_allowed;
-use crate::walk::climbs;
-use crate::walk::events_allowed;
+use crate::together::Run;
+use crate::together::case_events;
 use register::counts::count;
 use register::layout::CASE_KEY;
-use register::layout::EVENT_KEY;
 use register::layout::ROW;
+use register::search::below;
 
 // The rows that a register of that many bytes has room for.
 pub fn room_of(len: usize) -> usize
@@ -29,6 +33,43 @@ pub fn room_of(len: usize) -> usize
     fit
 }
 
+// Whether row i is allowed as a case, and above the case before it.
+fn case_fits(t: &[u32; 2400], reg: &[u8], i: usize) -> bool
+    requires { ⌜ Firsts (now t) × (rowAt siad (i + 1) ≤ length (now reg)) ⌝ }
+    ensures { λ r. ⌜ r ≡ caseRowAllowed (split (caseRest siad) (rowIn siad (now (reg .entry)) i))
+        && (eqb i 0 || ltb (rowIn siad (now (reg .entry)) (i - 1) / 2 ^ caseRest siad) (rowIn siad (now (reg .entry)) i / 2 ^ caseRest siad)) ⌝ }
+{
+    let row = row_at(reg, i);
+    if !case_row_allowed(t, row) {
+        return false;
+    }
+    if i == 0 {
+        return true;
+    }
+    below(reg, ROW, i - 1, row, CASE_KEY, 0)
+}
+
+// Whether the rows are valid, in one pass with two moving places: case i, and its events from row j on.
+fn rows_valid(t: &[u32; 2400], reg: &[u8], cases: usize, rows: usize) -> bool
+    requires { ⌜ Firsts (now t) × (cases ≤ rows) × (rows ≤ room siad (length (now reg))) × (rowAt siad rows ≤ length (now reg)) ⌝ }
+    ensures { λ r. ⌜ r ≡ valid siad siadRules (length (now (reg .entry)))
+        (record { cases = casesFrom siad (now (reg .entry)) 0 cases; events = eventsFrom siad (now (reg .entry)) cases (rows - cases) }) ⌝ }
+{
+    let mut i = 0;
+    let mut j = cases;
+    while i < cases {
+        if !case_fits(t, reg, i) {
+            return false;
+        }
+        let Run::End(end) = case_events(reg, i, j, rows) else {
+            return false;
+        };
+        j = end;
+        i += 1;
+    }
+    j == rows
+}
+
 // Whether a register's bytes are sound, whatever they are.
 pub fn sound(t: &[u32; 2400], reg: &[u8]) -> bool
     requires { ⌜ Firsts (now t) ⌝ }
@@ -42,19 +83,7 @@ pub fn sound(t: &[u32; 2400], reg: &[u8]) -> bool
     if room_of(reg.len()) < rows {
         return false;
     }
-    if !cases_allowed(t, reg, cases) {
-        return false;
-    }
-    if !events_allowed(reg, cases, rows) {
-        return false;
-    }
-    if !climbs(reg, ROW, CASE_KEY, 0, cases) {
-        return false;
-    }
-    if !climbs(reg, ROW, EVENT_KEY, cases, rows) {
-        return false;
-    }
-    if !grouped(reg, cases, rows) {
+    if !rows_valid(t, reg, cases, rows) {
         return false;
     }
     let end = 4 + ROW * rows;

@@ -1,24 +1,40 @@
-// A case's events together: free of 23 and 25 to 28, by neighbours and a running latest day, since they ascend.
+// A case's events together: in order and free of 23 and 25 to 28, by neighbours and a running latest day, since they ascend.
 ghost use mathlib.Core.Path.{_≡_};
-ghost use mathlib.Core.Bool.{true, cond, not, _&&_};
-ghost use mathlib.Core.List.{map};
-ghost use Prim.Native.Nat.{ℕ, _+_, _-_, _≤_, _<_, max};
+ghost use mathlib.Core.Bool.{cond, not, _&&_};
+ghost use Prim.Native.Nat.{_+_, _-_, _/_, _^_, _≤_, _<_, max};
 ghost use lib.Dec.{eqb, ltb, leb};
 ghost use lib.ListN.{length};
-ghost use Rattle.laws.specs.Lists.{all};
 ghost use Rattle.rows.specs.Row.{never};
-ghost use Rattle.register.specs.Layout.{siad, caseOf};
-ghost use Rattle.register.specs.Bytes.{rowAt, eventsFrom};
-ghost use Rattle.register.specs.Fields.{dateOf, endOf, eventIn};
+ghost use Rattle.register.specs.Layout.{siad, caseRest};
+ghost use Rattle.register.specs.Bytes.{rowAt, rowIn, eventsFrom};
+ghost use Rattle.register.specs.Fields.{dateOf, endOf, eventKeyOf};
 ghost use Rattle.register.specs.Events.{isSuspension, isConclusion, shareDay};
-ghost use Rattle.register.specs.Allowed.{eventRowAllowed};
-ghost use Rattle.register.specs.Sound.{ascending, eventsFree};
+ghost use Rattle.soundness.specs.Walk.{ran};
 use crate::allowed::event_of;
+use crate::allowed::event_row_allowed;
 use crate::fields::date_of;
 use crate::fields::end_of;
+use crate::fields::event_key_of;
 use crate::fields::kind_of;
-use crate::walk::row_at;
+use crate::fields::row_at;
+use register::layout::CASE_KEY;
 use register::layout::NEVER;
+use register::layout::ROW;
+use register::layout::TAKEN;
+use register::search::stands;
+
+// What a case's events so far ask of the next: the least key, the event before it and the latest day; zeros at first.
+struct Before {
+    least: u64,
+    prev: u64,
+    latest: u64,
+}
+
+// The row at which a case's events end, where they are good.
+pub enum Run {
+    End(usize),
+    Bad,
+}
 
 // Whether two suspensions share a day.
 pub fn share_day(a: u64, b: u64) -> bool
@@ -51,38 +67,56 @@ fn later(latest: u64, e: u64) -> u64
     larger(day, end)
 }
 
-// Whether an event fits its case: the taking in, the event before it and the latest day before it.
-fn fits_after(taken: u64, prev: u64, latest: u64, e: u64) -> bool
-    ensures { λ r. ⌜ r ≡ leb taken (dateOf e) && (not (isSuspension e && ltb (endOf e) (dateOf e)) && (not (shareDay prev e) && (not (isConclusion prev && isConclusion e) && not (isConclusion e && ltb (dateOf e) latest)))) ⌝ }
+// Whether an event fits its case: its key above the last, the taking in, the event before it and the latest day so far.
+fn fits_after(taken: u64, b: Before, e: u64) -> bool
+    ensures { λ r. ⌜ r ≡ leb (b .least) (eventKeyOf e)
+        && (leb taken (dateOf e) && (not (isSuspension e && ltb (endOf e) (dateOf e)) && (not (shareDay (b .prev) e) && (not (isConclusion (b .prev) && isConclusion e) && not (isConclusion e && ltb (dateOf e) (b .latest)))))) ⌝ }
 {
     let date = date_of(e);
     let end = end_of(e);
     let kind = kind_of(e);
-    let last = kind_of(prev);
-    let shared = share_day(prev, e);
-    (taken <= date)
-        & (!((kind == 2) & (end < date))
-            & (!shared & (!((last == 3) & (kind == 3)) & !((kind == 3) & (date < latest)))))
+    let last = kind_of(b.prev);
+    let shared = share_day(b.prev, e);
+    (b.least <= event_key_of(e))
+        & ((taken <= date)
+            & (!((kind == 2) & (end < date))
+                & (!shared & (!((last == 3) & (kind == 3)) & !((kind == 3) & (date < b.latest))))))
 }
 
-// Whether the events of one case, the rows from lo up to hi, are free of 23 and 25 to 28.
-pub fn events_free(reg: &[u8], taken: u64, lo: usize, hi: usize) -> bool
-    requires { ⌜ (lo ≤ hi) × (rowAt siad hi ≤ length (now reg)) ⌝ }
-    ensures { λ r. ⌜ ((c : ℕ) → all (λ e. eqb (caseOf siad (e .key)) c) (eventsFrom siad (now (reg .entry)) lo (hi - lo)) ≡ true
-        → ascending (eventsFrom siad (now (reg .entry)) lo (hi - lo)) ≡ true → all eventRowAllowed (eventsFrom siad (now (reg .entry)) lo (hi - lo)) ≡ true
-        → r ≡ eventsFree taken (map eventIn (eventsFrom siad (now (reg .entry)) lo (hi - lo)))) ⌝ }
+// What is asked of the next event once e is passed.
+fn passed(b: Before, e: u64) -> Before
+    ensures { λ r. ⌜ (r .least ≡ eventKeyOf e + 1) × (r .prev ≡ e) × (r .latest ≡ max (b .latest) (max (dateOf e) (cond (eqb (endOf e) never) 0 (endOf e)))) ⌝ }
 {
-    let mut prev = 0;
-    let mut latest = 0;
-    let mut i = lo;
-    while i < hi {
-        let e = event_of(row_at(reg, i));
-        if !fits_after(taken, prev, latest, e) {
-            return false;
-        }
-        latest = later(latest, e);
-        prev = e;
-        i += 1;
+    let least = event_key_of(e) + 1;
+    let latest = later(b.latest, e);
+    Before {
+        least,
+        prev: e,
+        latest,
     }
-    true
+}
+
+// The events of the case in row i: the rows from j on, as long as they name it.
+pub fn case_events(reg: &[u8], i: usize, j: usize, rows: usize) -> Run
+    requires { ⌜ (i < rows) × (j ≤ rows) × (rowAt siad rows ≤ length (now reg)) ⌝ }
+    ensures { λ r. ⌜ r ≡ ran (rowIn siad (now (reg .entry)) i / 2 ^ caseRest siad) j (eventsFrom siad (now (reg .entry)) j (rows - j)) ⌝ }
+{
+    let case = row_at(reg, i);
+    let taken = rows::reader::get(case, TAKEN, 17);
+    let mut b = Before {
+        least: 0,
+        prev: 0,
+        latest: 0,
+    };
+    let mut k = j;
+    while stands(reg, ROW, k, rows, case, CASE_KEY) {
+        let row = row_at(reg, k);
+        let e = event_of(row);
+        if !(event_row_allowed(row, e) & fits_after(taken, b, e)) {
+            return Run::Bad;
+        }
+        b = passed(b, e);
+        k += 1;
+    }
+    Run::End(k)
 }

@@ -18,8 +18,11 @@ kind-of-requires-2 c κs = search needs
 share-day-requires : tie.Need-share-day-requires
 share-day-requires c κs = search needs
 
+event-key-of-requires : tie.Need-event-key-of-requires
+event-key-of-requires c κs = search needs
+
 returns : tie.Need-returns
-returns c = fits-is (c .before .before .before .before .before .args .taken) (c .before .before .before .before .before .args .prev) (c .before .before .before .before .before .args .latest) (c .before .before .before .before .before .args .e) _ _ _ _ _ (c .before .before .before .before .date-of .ensures .0) (c .before .before .before .end-of .ensures .0) (c .before .before .kind-of .ensures) (c .before .kind-of2 .ensures) (c .share-day .ensures)
+returns c = fits-is (c .before .before .before .before .before .before .before .before .args .taken) (c .before .before .before .before .before .before .before .before .args .b .least) (c .before .before .before .before .before .before .before .before .args .b .prev) (c .before .before .before .before .before .before .before .before .args .b .latest) (c .before .before .before .before .before .before .before .before .args .e) _ _ _ _ _ _ (c .before .before .before .before .before .before .before .date-of .ensures .0) (c .before .before .before .before .before .before .end-of .ensures .0) (c .before .before .before .before .before .kind-of .ensures) (c .before .before .before .before .kind-of2 .ensures) (c .before .before .before .share-day .ensures) (c .before .before .event-key-of .ensures .0)
 
 pub fits-after-spec : {M : Type 1} → statement M
 fits-after-spec =
@@ -30,4 +33,5 @@ fits-after-spec =
     kind-of-requires
     kind-of-requires-2
     share-day-requires
+    event-key-of-requires
     returns)

@@ -1,7 +1,7 @@
 use Rattle.register.proofs.Walks.{row-is}
 use borrow.Author.Needs.{needs}
-use Rattle.soundness.proofs.walk.row_at.Statement.{statement}
-use Rattle.soundness.proofs.walk.row_at.Tie as tie
+use Rattle.soundness.proofs.fields.row_at.Statement.{statement}
+use Rattle.soundness.proofs.fields.row_at.Tie as tie
 
 mul-start : tie.Need-mul-start
 mul-start c = search needs
