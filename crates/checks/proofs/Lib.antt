@@ -6,4 +6,3 @@ pub mod Valid
 pub mod Kept
 pub mod WellReadable
 pub mod Worked
-pub mod Cases

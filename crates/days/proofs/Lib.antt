@@ -5,4 +5,3 @@ pub mod Years
 pub mod Digits
 pub mod Periods
 pub mod Reading
-pub mod Cases

@@ -1,4 +1,3 @@
-pub mod Cases
 pub mod From
 pub mod RowBytes
 pub mod States

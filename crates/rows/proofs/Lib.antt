@@ -8,4 +8,3 @@ pub mod Steps
 pub mod Writing
 pub mod Reading
 pub mod Comparing
-pub mod Examples
