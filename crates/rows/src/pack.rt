@@ -1,11 +1,11 @@
 // The rows of the table, packed: into a buffer of any length that has room for the fields.
 ghost use mathlib.Core.Path.{_≡_};
-ghost use mathlib.Core.List.{[], _∷_, _++_};
-ghost use Prim.Native.Nat.{_+_, _*_, _^_, _≤_, _<_};
+ghost use mathlib.Core.List.{_++_};
+ghost use Prim.Native.Nat.{_+_, _-_, _*_, _^_, _≤_, _<_};
 ghost use lib.ListN.{length};
-ghost use Rattle.rows.specs.Pack.{«bits», num};
+ghost use Rattle.rows.specs.Pack.{num};
 ghost use Rattle.rows.specs.Row.{keyBits, caseBits, eventBits, keyOf, caseOf, eventOf, keyFields, caseFields, eventNumber, rowNumber, KeyFits, CaseFits, EventFits};
-ghost use Rattle.rows.specs.Writer.{count, Tidy, Wrote, start};
+ghost use Rattle.rows.specs.Writer.{soFar, count, Tidy, Wrote, start};
 use crate::writer::Bits;
 use crate::writer::finish;
 use crate::writer::put;
@@ -83,14 +83,12 @@ pub fn event_number(kind: u64, date: u64, end: u64, code: u64, accesses: u64, co
     (((codes << 7) + accesses) << 2) + conferma
 }
 
-// The row of an event, given by its number.
-pub fn pack_event(out: &mut [u8], region: u64, asl: &[u8], day: u64, id: &[u8], event: u64)
-    requires { ⌜ KeyFits (keyOf region (now asl) day (now id)) ⌝ }
-    requires { ⌜ event < 2 ^ eventBits ⌝ }
-    requires { ⌜ keyBits + eventBits ≤ 8 * length (now out) ⌝ }
-    ensures { λ _. ⌜ num (now (out .exit)) ≡ rowNumber (length (now (out .entry))) (keyFields (keyOf region (now (asl .entry)) day (now (id .entry))) ++ (bits eventBits event ∷ [])) ⌝ }
+// An event's row behind a key that a writer has written: the event's number, then zero bits. What was written stays, so that the key serves the next event too.
+pub fn set_event(out: &mut [u8], s: Bits, event: u64)
+    requires { ⌜ Tidy s × (event < 2 ^ eventBits) × (count s + eventBits ≤ 8 * length (now out)) ⌝ }
+    ensures { λ _. ⌜ (num (now (out .exit)) ≡ (soFar (now (out .entry)) s * 2 ^ eventBits + event) * 2 ^ (8 * length (now (out .entry)) - (count s + eventBits)))
+        × (soFar (now (out .exit)) s ≡ soFar (now (out .entry)) s) ⌝ }
 {
-    let s = put_key(out, region, asl, day, id);
-    let s = put(out, s, 52, event);
-    finish(out, s);
+    let t = put(out, s, 52, event);
+    finish(out, t);
 }

@@ -1,0 +1,5 @@
+pub mod Turns
+pub mod Room
+pub mod RowsPacked
+pub mod Records
+pub mod FromLast

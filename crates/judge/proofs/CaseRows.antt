@@ -1,0 +1,115 @@
+-- A record's case in a sound register: whether it stands, and its events' rows.
+use Prim.Native.Nat.{ℕ, _+_, _-_, _/_, _^_, _≤_, _<_}
+use mathlib.Core.Path.{_≡_, refl, sym, _∙_}
+use mathlib.Core.Bool.{Bool, true, false, cond, not, _&&_}
+use mathlib.Core.List.{List}
+use native.Mathlib.Omega.{arith}
+use lib.Dec.{eqb, ltb}
+use lib.ListN.{length}
+use Rattle.rows.specs.Pack.{each, Fit}
+use Rattle.model.specs.Map.{Row, has}
+use Rattle.model.specs.Transmission.{insert, vary, cancel, isInsert, isCancel}
+use Rattle.register.specs.Layout.{siad, caseRest, eventRest, caseOf}
+use Rattle.register.specs.Bytes.{split, rowAt, rowIn, casesHeld, eventsHeld, eventsFrom, stateOf}
+use Rattle.register.specs.Fields.{eventIn, eventKeyOf}
+use Rattle.register.specs.Search.{keyAt, keyOf, Placed, Ranged}
+use Rattle.register.specs.Sound.{eventsOf, siadRules, isSound}
+use Rattle.register.specs.Stored.{Stored, cases}
+use Rattle.register.proofs.Found.{stands-has, case-at, cases-rise, range-events}
+use Rattle.register.proofs.From.{from-length}
+use Rattle.register.proofs.Halving.{at-key}
+use Rattle.register.proofs.SoundLaws.{sound-valid, sound-is-stored}
+use Rattle.register.proofs.States.{laid-siad}
+use Rattle.soundness.proofs.FindPlace.{keys-rise}
+use Rattle.checks.specs.Flow.{kindOf}
+use Rattle.checks.proofs.Valid.{Sound}
+use Rattle.judge.specs.Standing.{Climbs, OfCase}
+
+-- ---- the rows that a register claims
+
+pub cases-count : (reg : List ℕ) → length (stateOf siad reg .cases) ≡ casesHeld reg
+cases-count reg = from-length (λ j. split (caseRest siad) (rowIn siad reg j)) 0 (casesHeld reg)
+
+pub events-count : (reg : List ℕ) → length (stateOf siad reg .events) ≡ eventsHeld reg
+events-count reg = from-length (λ j. split (eventRest siad) (rowIn siad reg j)) (casesHeld reg) (eventsHeld reg)
+
+module _ (reg : List ℕ) (f : Fit (each 8 reg)) (h : isSound reg ≡ true) where
+  pub sound-state : Sound (length reg) (stateOf siad reg)
+  unfolding isSound
+  sound-state =
+      record {
+        is-valid = sound-valid siad laid-siad siadRules reg f h;
+        cases-fit = sound-is-stored reg f h .cases-fit;
+        events-fit = sound-is-stored reg f h .events-fit;
+      }
+
+  stored : Stored siad reg (stateOf siad reg)
+  stored = sound-is-stored reg f h
+
+  -- ---- whether the case stands
+
+  pub stands-is : (probe : List ℕ) (n i : ℕ) (stand : Bool) → n ≡ casesHeld reg →
+      Placed (keyAt 91 662 reg) (keyOf 91 662 probe + 0) 0 n i → stand ≡ ltb i n && eqb (keyAt 91 662 reg i) (keyOf 91 662 probe) →
+      stand ≡ has (keyOf 91 662 probe) (stateOf siad reg .cases)
+  stands-is probe n i stand e p t =
+      t ∙ stands-has siad laid-siad cases reg (stateOf siad reg) stored (keyOf 91 662 probe) n i (omega (arith, cases-count reg))
+      (at-key (keyAt 91 662 reg) (keyOf 91 662 probe) 0 n i p)
+
+  -- ---- its events
+
+  module _ (v lo hi : ℕ) (r : Ranged (keyAt 91 662 reg) v (casesHeld reg) (casesHeld reg + eventsHeld reg) lo hi) where
+    abbrev row : ℕ → Row ℕ
+    row j = split (eventRest siad) (rowIn siad reg j)
+
+    ranged : Ranged (keyAt 91 662 reg) v (length (stateOf siad reg .cases)) (length (stateOf siad reg .cases) + length (stateOf siad reg .events)) lo hi
+    ranged = rw (cases-count reg, events-count reg) r
+
+    pub events-are : eventsOf siad v (stateOf siad reg .events) ≡ eventsFrom siad reg lo (hi - lo)
+    events-are = range-events siad laid-siad reg (stateOf siad reg) stored v lo hi ranged
+
+    of-case : (j : ℕ) → lo ≤ j → j < hi → caseOf siad (row j .key) ≡ v
+    of-case j a b =
+        sym (case-at siad laid-siad reg (stateOf siad reg) stored j)
+        ∙ ranged .inside (cases-rise siad laid-siad reg (stateOf siad reg) stored) j a b
+
+    -- in one case's rows the events' own part of the key decides
+    own-part : (m n : ℕ) → caseOf siad (m / 2 ^ 47) ≡ v → caseOf siad (n / 2 ^ 47) ≡ v → m / 2 ^ 47 < n / 2 ^ 47 →
+        eventKeyOf (eventIn (split 47 m)) < eventKeyOf (eventIn (split 47 n))
+    own-part m n a b h = omega arith
+
+    pub events-climb : Climbs reg lo hi
+    events-climb p q a b c =
+        own-part (rowIn siad reg p) (rowIn siad reg q) (of-case p a (omega arith)) (of-case q (omega arith) c)
+        (keys-rise row 0 (casesHeld reg) (eventsHeld reg) (stored .good .1) p q (omega (arith, r .low)) b (omega (arith, r .high)))
+
+-- what the search for the case's rows tells
+pub case-rows : (reg : List ℕ) (v n rows lo hi : ℕ) → Fit (each 8 reg) → n ≡ casesHeld reg → rows ≡ casesHeld reg + eventsHeld reg →
+    rowAt siad (casesHeld reg + eventsHeld reg) ≤ length reg → Ranged (keyAt 91 662 reg) v n rows lo hi → OfCase v reg lo hi
+case-rows reg v n rows lo hi f e g w r =
+    record {
+      mid = r .mid;
+      end = omega (arith, r .high);
+      climbs = λ h. events-climb reg f h v lo hi held;
+      are = λ h. events-are reg f h v lo hi held;
+    }
+  where
+    held : Ranged (keyAt 91 662 reg) v (casesHeld reg) (casesHeld reg + eventsHeld reg) lo hi
+    held = rw (← g, ← e) r
+
+-- ---- a record's type
+
+pub insert-is : (t : ℕ) → eqb t 73 ≡ isInsert (kindOf t)
+insert-is t = go (eqb t 73) (eqb t 86)
+  where
+    go : (a b : Bool) → a ≡ isInsert (cond a insert (cond b vary cancel))
+    go true b = refl
+    go false true = refl
+    go false false = refl
+
+pub cancel-is : (t : ℕ) → not (eqb t 73) && not (eqb t 86) ≡ isCancel (kindOf t)
+cancel-is t = go (eqb t 73) (eqb t 86)
+  where
+    go : (a b : Bool) → not a && not b ≡ isCancel (cond a insert (cond b vary cancel))
+    go true b = refl
+    go false true = refl
+    go false false = refl

@@ -1,0 +1,113 @@
+-- A case's rows, which ascend: what is looked for in a part of them, and an event found by its key.
+use Prim.Native.Nat.{ℕ, zero, suc, _+_, _-_, _*_, _≤_, _<_}
+use mathlib.Core.Path.{_≡_, refl, sym, ap, ap₂, _∙_}
+use mathlib.Core.Bool.{Bool, true, false, _||_, or-false, or-true, or-assoc}
+use mathlib.Core.List.{List, [], _∷_, _++_, map}
+use native.Mathlib.Omega.{arith}
+use lib.Dec.{eqb}
+use lib.ListN.{length}
+use borrow.Author.Tests.{ne-eqb, eq-eqb}
+use Rattle.laws.specs.Lists.{any}
+use Rattle.laws.proofs.Order.{Tri, below, equal, above, tri}
+use Rattle.model.specs.Map.{Row, Map}
+use Rattle.register.specs.Layout.{siad, eventRest}
+use Rattle.register.specs.Bytes.{from, split, rowIn, eventsFrom}
+use Rattle.register.specs.Fields.{kindOf, eventIn, eventKeyOf}
+use Rattle.register.specs.Search.{Rises, Placed}
+use Rattle.register.proofs.Every.{any-tell}
+use Rattle.register.proofs.From.{from-length, from-cut}
+use Rattle.register.proofs.Walks.{from-next, from-none, from-every}
+use Rattle.judge.specs.Against.{keyAmong}
+use Rattle.judge.specs.Standing.{eventAt, eventKeyAt, standingIn, Climbs, Outside}
+
+-- ---- the events in some rows
+
+map-from : (f : ℕ → Row ℕ) (i k : ℕ) → map eventIn (from f i k) ≡ from (λ j. eventIn (f j)) i k
+unfolding from
+map-from f i zero = refl
+map-from f i (suc k) = ap (λ (l : List ℕ). eventIn (f i) ∷ l) (map-from f (suc i) k)
+
+any-append : (q : ℕ → Bool) (a b : List ℕ) → any q (a ++ b) ≡ (any q a || any q b)
+unfolding any
+any-append q [] b = refl
+any-append q (x ∷ a) b = ap (λ (t : Bool). q x || t) (any-append q a b) ∙ sym (or-assoc (q x) (any q a) (any q b))
+
+module _ (reg : List ℕ) where
+  rows : (i k : ℕ) → standingIn reg i k ≡ from (eventAt reg) i (k - i)
+  rows i k = map-from (λ j. split (eventRest siad) (rowIn siad reg j)) i (k - i)
+
+  pub next-row : (i hi : ℕ) → i < hi → standingIn reg i hi ≡ eventAt reg i ∷ standingIn reg (i + 1) hi
+  next-row i hi h = ap (map eventIn) (from-next (λ j. split (eventRest siad) (rowIn siad reg j)) i hi h)
+
+  pub no-row : (i hi : ℕ) → hi ≤ i → standingIn reg i hi ≡ []
+  no-row i hi h = ap (map eventIn) (from-none (λ j. split (eventRest siad) (rowIn siad reg j)) i hi h)
+
+  module _ (q : ℕ → Bool) where
+    any-cut : (lo i hi : ℕ) → lo ≤ i → i ≤ hi → any q (standingIn reg lo hi) ≡ (any q (standingIn reg lo i) || any q (standingIn reg i hi))
+    any-cut lo i hi h g =
+        ap (any q) (rows lo hi ∙ from-cut (eventAt reg) lo i hi h g) ∙ any-append q (from (eventAt reg) lo (i - lo)) (from (eventAt reg) i (hi - i))
+        ∙ ap₂ (λ (a b : List ℕ). any q a || any q b) (sym (rows lo i)) (sym (rows i hi))
+
+    any-none : (lo hi : ℕ) → lo ≤ hi → ((k : ℕ) → lo ≤ k → k < hi → q (eventAt reg k) ≡ false) → any q (standingIn reg lo hi) ≡ false
+    any-none lo hi h f =
+        ap (any q) (rows lo hi) ∙ any-tell q (from (eventAt reg) lo (hi - lo)) (from-every (eventAt reg) (λ x. q x ≡ false) lo (hi - lo) (λ j a b. f j a (omega arith)))
+
+    any-one : (lo i hi : ℕ) → lo ≤ i → i < hi → q (eventAt reg i) ≡ true → any q (standingIn reg lo hi) ≡ true
+    unfolding any
+    any-one lo i hi h g e =
+        any-cut lo i hi h (omega arith) ∙ ap (λ (l : List ℕ). any q (standingIn reg lo i) || any q l) (next-row i hi g) ∙ rw e (or-true (any q (standingIn reg lo i)))
+
+-- where only a part of the rows can pass, the part is enough
+pub part-enough : (q p : ℕ → Bool) (reg : List ℕ) (lo hi a e : ℕ) → ((b : ℕ) → q b ≡ false → p b ≡ false) → Outside q reg lo hi a e → Climbs reg lo hi →
+    any p (standingIn reg lo hi) ≡ any p (standingIn reg a e)
+part-enough q p reg lo hi a e f o up =
+    any-cut reg p lo a hi (o .low) (omega (arith, o .mid, o .high))
+    ∙ ap₂ (λ (s t : Bool). s || t) (any-none reg p lo a (o .low) (λ k h g. f (eventAt reg k) (o .before up k h g))) (any-cut reg p a e hi (o .mid) (o .high))
+    ∙ ap (λ (s : Bool). any p (standingIn reg a e) || s) (any-none reg p e hi (o .high) (λ k h g. f (eventAt reg k) (o .after up k h g)))
+    ∙ or-false (any p (standingIn reg a e))
+
+-- ---- an event by its key
+
+module _ (reg : List ℕ) (lo hi : ℕ) (up : Climbs reg lo hi) where
+  pub climb-rises : (a : ℕ) → lo ≤ a → Rises (eventKeyAt reg) a hi
+  climb-rises a h p q x y z = omega (arith, up p q (omega arith) y z)
+
+  module _ (e key i : ℕ) (k : key ≡ eventKeyOf e) (pl : Placed (eventKeyAt reg) key lo hi i) where
+    smaller : (j : ℕ) → lo ≤ j → j < i → eqb (eventKeyAt reg j) (eventKeyOf e) ≡ false
+    smaller j h g = ne-eqb (eventKeyAt reg j) (eventKeyOf e) (λ x. omega (arith, pl .under (climb-rises lo (omega arith)) j h g))
+
+    pub has-none : hi ≤ i → false ≡ keyAmong (standingIn reg lo hi) e
+    has-none h =
+        sym (any-none reg (λ a. eqb (eventKeyOf a) (eventKeyOf e)) lo hi (omega (arith, pl .low, pl .high)) (λ j x y. smaller j x (omega arith)))
+
+    pub has-here : (here : ℕ) → i < hi → here ≡ eventKeyAt reg i → eqb here key ≡ keyAmong (standingIn reg lo hi) e
+    has-here here h z = go (tri here key)
+      where
+        go : Tri here key → eqb here key ≡ keyAmong (standingIn reg lo hi) e
+        go (below l _ t) = absurd (omega (arith, pl .over (climb-rises lo (omega arith)) i (omega arith) h))
+        go (equal l _ t) = t ∙ sym (any-one reg (λ a. eqb (eventKeyOf a) (eventKeyOf e)) lo i hi (pl .low) h (eq-eqb (eventKeyAt reg i) (eventKeyOf e) (sym z ∙ l ∙ k)))
+        go (above l _ t) = t ∙ sym (any-none reg (λ a. eqb (eventKeyOf a) (eventKeyOf e)) lo hi (omega (arith, pl .low)) (λ j x y. near j x y (tri j i)))
+          where
+            near : (j : ℕ) → lo ≤ j → j < hi → Tri j i → eqb (eventKeyAt reg j) (eventKeyOf e) ≡ false
+            near j x y (below m _ _) = smaller j x m
+            near j x y (equal m _ _) = ne-eqb (eventKeyAt reg j) (eventKeyOf e) (λ w. let v : eventKeyAt reg j ≡ eventKeyAt reg i = ap (eventKeyAt reg) m in omega arith)
+            near j x y (above m _ _) = ne-eqb (eventKeyAt reg j) (eventKeyOf e) (λ w. omega (arith, up i j (pl .low) m y))
+
+-- the rows of a kind: from its first possible key up to the next kind's
+pub kind-rows : (reg : List ℕ) (lo hi kind a e : ℕ) → Placed (eventKeyAt reg) (kind * 131072) lo hi a → Placed (eventKeyAt reg) ((kind + 1) * 131072) a hi e →
+    Outside (λ b. eqb (kindOf b) kind) reg lo hi a e
+kind-rows reg lo hi kind a e p q =
+    record {
+      low = p .low;
+      mid = q .low;
+      high = q .high;
+      before = λ up k h g.
+          ne-eqb (kindOf (eventAt reg k)) kind (λ w. omega (arith, p .under (climb-rises reg lo hi up lo (omega arith)) k h g));
+      after = λ up k h g.
+          ne-eqb (kindOf (eventAt reg k)) kind (λ w. omega (arith, q .over (climb-rises reg lo hi up a (p .low)) k h g));
+    }
+
+-- as many events as rows
+pub rows-length : (reg : List ℕ) (lo hi : ℕ) (m : Map ℕ) → m ≡ eventsFrom siad reg lo (hi - lo) → length (map eventIn m) ≡ hi - lo
+rows-length reg lo hi m e =
+    ap (λ (l : Map ℕ). length (map eventIn l)) e ∙ ap length (rows reg lo hi) ∙ from-length (eventAt reg) lo (hi - lo)

@@ -1,0 +1,64 @@
+use Prim.Native.Nat.{ℕ, _-_}
+use mathlib.Core.Path.{_≡_, refl, ap₂}
+use lib.Dec.{eqb}
+use lib.ListN.{length, drop, drop-of-length-le}
+use borrow.Author.Tests.{eq-eqb, ne-eqb}
+use Rattle.laws.proofs.Places.{front}
+use Rattle.judge.specs.Against.{keyAmong}
+use Rattle.judge.proofs.Scan.{hit, miss, past}
+use borrow.Author.Needs.{needs}
+use Rattle.judge.proofs.events.key_among.Statement.{statement}
+use Rattle.judge.proofs.events.key_among.Tie as tie
+
+abbrev Inv-loop : tie.InvT-loop
+Inv-loop evs b key i₀ i = keyAmong evs b ≡ keyAmong (drop i evs) b
+
+abbrev μ-loop : tie.MeasureT-loop
+μ-loop evs b key i₀ i = length evs - i
+
+key-of-requires : tie.Need-key-of-requires Inv-loop μ-loop
+key-of-requires c κs = search needs
+
+loop-holds : tie.Need-loop-holds Inv-loop μ-loop
+loop-holds c = refl
+
+mul-key-of : tie.Need-mul-key-of Inv-loop μ-loop
+mul-key-of c = search needs
+
+shared-slice-read-key-of : tie.Need-shared-slice-read-key-of Inv-loop μ-loop
+shared-slice-read-key-of c = search needs
+
+key-of-requires-2 : tie.Need-key-of-requires-2 Inv-loop μ-loop
+key-of-requires-2 c κs = search needs
+
+returns : tie.Need-returns Inv-loop μ-loop
+returns c = hit _ _ (drop (c .before .before .before .before .loop .i) (c .before .before .before .before .before .before .before .args .evs .now)) (c .before .before .before .before .loop .inv) _ _ (front (c .before .before .before .before .before .before .before .args .evs .now) (c .before .before .before .before .loop .i) (c .before .before .before .loop-test .taken)) _ (ap₂ (λ (x y : ℕ). eqb x y) (c .before .key-of2 .ensures) (c .before .before .before .before .before .key-of .ensures)) (eq-eqb _ _ (c .if1 .taken))
+
+add-i : tie.Need-add-i Inv-loop μ-loop
+add-i c = search needs
+
+loop-less : tie.Need-loop-less Inv-loop μ-loop
+loop-less c = search needs
+
+loop-again : tie.Need-loop-again Inv-loop μ-loop
+loop-again c = miss _ _ (drop (c .before .before .before .before .loop .i) (c .before .before .before .before .before .before .before .args .evs .now)) (c .before .before .before .before .loop .inv) _ _ (front (c .before .before .before .before .before .before .before .args .evs .now) (c .before .before .before .before .loop .i) (c .before .before .before .loop-test .taken)) _ (ap₂ (λ (x y : ℕ). eqb x y) (c .before .key-of2 .ensures) (c .before .before .before .before .before .key-of .ensures)) (ne-eqb _ _ (c .if1 .left))
+
+returns-2 : tie.Need-returns-2 Inv-loop μ-loop
+returns-2 c = past _ _ (drop (c .before .loop .i) (c .before .before .before .before .args .evs .now)) (c .before .loop .inv) (drop-of-length-le (c .before .before .before .before .args .evs .now) (c .loop-test .left))
+
+pub key-among-spec : {M : Type 1} → statement M
+key-among-spec =
+    tie.close
+    (tie.spec
+    Inv-loop
+    μ-loop
+    key-of-requires
+    loop-holds
+    mul-key-of
+    shared-slice-read-key-of
+    key-of-requires-2
+    returns
+    add-i
+    loop-less
+    loop-again
+    returns-2)

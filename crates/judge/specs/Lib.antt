@@ -1,0 +1,4 @@
+pub mod Against
+pub mod Chain
+pub mod Standing
+pub mod View

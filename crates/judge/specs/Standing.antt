@@ -1,0 +1,40 @@
+-- The events in a case's rows, and where among them one is looked for.
+use Prim.Native.Nat.{ℕ, _-_, _≤_, _<_}
+use mathlib.Core.Path.{_≡_}
+use mathlib.Core.Bool.{Bool, true, false}
+use mathlib.Core.List.{List, map}
+use lib.ListN.{length}
+use Rattle.register.specs.Layout.{siad, eventRest}
+use Rattle.register.specs.Bytes.{split, rowAt, rowIn, eventsFrom, stateOf}
+use Rattle.register.specs.Fields.{eventIn, eventKeyOf}
+use Rattle.register.specs.Sound.{eventsOf, isSound}
+
+-- the 52 bits of the event in row i, and its part of the key
+abbrev pub eventAt : List ℕ → ℕ → ℕ
+eventAt reg i = eventIn (split (eventRest siad) (rowIn siad reg i))
+
+abbrev pub eventKeyAt : List ℕ → ℕ → ℕ
+eventKeyAt reg i = eventKeyOf (eventAt reg i)
+
+-- the events in the rows from lo up to hi
+abbrev pub standingIn : List ℕ → ℕ → ℕ → List ℕ
+standingIn reg lo hi = map eventIn (eventsFrom siad reg lo (hi - lo))
+
+-- their keys ascend, as those of one case's events do
+abbrev pub Climbs : List ℕ → ℕ → ℕ → Type 0
+Climbs reg lo hi = (p q : ℕ) → lo ≤ p → p < q → q < hi → eventKeyAt reg p < eventKeyAt reg q
+
+-- of the rows from lo up to hi, only those from a up to e can pass the test
+pub record Outside (q : ℕ → Bool) (reg : List ℕ) (lo hi a e : ℕ) : Type 0 where
+  pub low : lo ≤ a
+  pub mid : a ≤ e
+  pub high : e ≤ hi
+  pub before : Climbs reg lo hi → (k : ℕ) → lo ≤ k → k < a → q (eventAt reg k) ≡ false
+  pub after : Climbs reg lo hi → (k : ℕ) → e ≤ k → k < hi → q (eventAt reg k) ≡ false
+
+-- the rows from lo up to hi are, in a sound register, those of the events of the case c
+pub record OfCase (c : ℕ) (reg : List ℕ) (lo hi : ℕ) : Type 0 where
+  pub mid : lo ≤ hi
+  pub end : rowAt siad hi ≤ length reg
+  pub climbs : isSound reg ≡ true → Climbs reg lo hi
+  pub are : isSound reg ≡ true → eventsOf siad c (stateOf siad reg .events) ≡ eventsFrom siad reg lo (hi - lo)

@@ -1,0 +1,101 @@
+// The rows of one case, found by the event's part of the key.
+ghost use mathlib.Core.Path.{_≡_};
+ghost use mathlib.Core.Bool.{cond, not};
+ghost use Prim.Native.Nat.{_+_, _≤_, _<_, _^_};
+ghost use lib.Dec.{eqb};
+ghost use lib.ListN.{length};
+ghost use Rattle.laws.specs.Lists.{any};
+ghost use Rattle.register.specs.Bytes.{rowAt};
+ghost use Rattle.register.specs.Fields.{kindOf};
+ghost use Rattle.register.specs.Layout.{siad};
+ghost use Rattle.register.specs.Search.{Placed};
+ghost use Rattle.judge.specs.Against.{clash, keyAmong};
+ghost use Rattle.judge.specs.Standing.{eventAt, eventKeyAt, standingIn, Climbs, Outside};
+use crate::events::key_of;
+use register::search::Span;
+use soundness::allowed::event_of;
+use soundness::fields::kind_of;
+use soundness::fields::row_at;
+
+// The event in row i.
+pub fn event_at(reg: &[u8], i: usize) -> u64
+    requires { ⌜ rowAt siad (i + 1) ≤ length (now reg) ⌝ }
+    ensures { λ r. ⌜ (r ≡ eventAt (now (reg .entry)) i) × (r < 2 ^ 52) ⌝ }
+{
+    event_of(row_at(reg, i))
+}
+
+// The first row from lo up to hi whose event's key is not below the key, or hi.
+fn event_place(reg: &[u8], lo: usize, hi: usize, key: u64) -> usize
+    requires { ⌜ (lo ≤ hi) × (rowAt siad hi ≤ length (now reg)) ⌝ }
+    ensures { λ r. ⌜ Placed (eventKeyAt (now (reg .entry))) key lo hi r ⌝ }
+{
+    let mut a = lo;
+    let mut e = hi;
+    while a < e {
+        let mid = a + (e - a) / 2;
+        if key_of(event_at(reg, mid)) < key {
+            a = mid + 1;
+        } else {
+            e = mid;
+        }
+    }
+    a
+}
+
+// Whether an event with the key of e stands in the rows from lo up to hi.
+fn has_event(reg: &[u8], lo: usize, hi: usize, e: u64) -> bool
+    requires { ⌜ (lo ≤ hi) × (rowAt siad hi ≤ length (now reg)) ⌝ }
+    ensures { λ r. ⌜ (Climbs (now (reg .entry)) lo hi → r ≡ keyAmong (standingIn (now (reg .entry)) lo hi) e) ⌝ }
+{
+    let key = key_of(e);
+    let i = event_place(reg, lo, hi, key);
+    if hi <= i {
+        return false;
+    }
+    key_of(event_at(reg, i)) == key
+}
+
+// Whether one of the record's events stands there, or, with `standing` false, does not.
+pub fn some_event(reg: &[u8], lo: usize, hi: usize, evs: &[u64], standing: bool) -> bool
+    requires { ⌜ (lo ≤ hi) × (rowAt siad hi ≤ length (now reg)) ⌝ }
+    ensures { λ r. ⌜ (Climbs (now (reg .entry)) lo hi
+        → r ≡ any (λ e. cond standing (keyAmong (standingIn (now (reg .entry)) lo hi) e) (not (keyAmong (standingIn (now (reg .entry)) lo hi) e))) (now (evs .entry))) ⌝ }
+{
+    let mut i = 0;
+    while i < evs.len() {
+        if has_event(reg, lo, hi, evs[i]) == standing {
+            return true;
+        }
+        i += 1;
+    }
+    false
+}
+
+// The rows from lo up to hi with an event of that kind.
+fn of_kind(reg: &[u8], lo: usize, hi: usize, kind: u64) -> Span
+    requires { ⌜ (lo ≤ hi) × (rowAt siad hi ≤ length (now reg)) × (kind < 4) ⌝ }
+    ensures { λ r. ⌜ Outside (λ b. eqb (kindOf b) kind) (now (reg .entry)) lo hi (r .lo) (r .hi) ⌝ }
+{
+    let a = event_place(reg, lo, hi, kind * 131072);
+    let e = event_place(reg, a, hi, (kind + 1) * 131072);
+    Span { lo: a, hi: e }
+}
+
+// The rows from lo up to hi that can clash with a at all: suspensions, conclusions, all or none. (22 is asked of a record's own events, with no rows.)
+pub fn rivals(number: u64, reg: &[u8], lo: usize, hi: usize, a: u64) -> Span
+    requires { ⌜ (lo ≤ hi) × (rowAt siad hi ≤ length (now reg)) ⌝ }
+    ensures { λ r. ⌜ Outside (clash number a) (now (reg .entry)) lo hi (r .lo) (r .hi) ⌝ }
+{
+    let kind = kind_of(a);
+    if ((number == 26) & (kind != 2)) | ((number == 27) & (kind != 3)) {
+        return Span { lo, hi: lo };
+    }
+    if number == 26 {
+        return of_kind(reg, lo, hi, 2);
+    }
+    if (number == 22) | ((number != 27) & (kind == 3)) {
+        return Span { lo, hi };
+    }
+    of_kind(reg, lo, hi, 3)
+}
