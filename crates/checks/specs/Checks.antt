@@ -6,7 +6,7 @@ use lib.Dec.{eqb}
 use lib.ListN.{length}
 use Rattle.laws.specs.Lists.{any}
 use Rattle.rows.specs.Row.{keyNumber}
-use Rattle.model.specs.Map.{Map, has}
+use Rattle.model.specs.Map.{has}
 use Rattle.model.specs.Checks.{Check, check}
 use Rattle.model.specs.Transmission.{isCancel}
 use Rattle.model.specs.Machine.{Machine}
@@ -16,7 +16,7 @@ use Rattle.register.specs.Fields.{eventIn}
 use Rattle.register.specs.Events.{t23, t25, t26, t27, t28}
 use Rattle.register.specs.Sound.{eventsOf}
 use Rattle.tracks.specs.Flags.{zeroWritten, badConferma}
-use Rattle.tracks.specs.Record.{Head, Admission, Said, Record, admission, events}
+use Rattle.tracks.specs.Record.{Head, Record, admission, events}
 use Rattle.checks.specs.Flow.{kindOf, flow, next}
 use Rattle.checks.specs.Tests.{Context, outOfQuarter, dayFor, t11, t12, zeroKept, eventsIn}
 

@@ -2,16 +2,16 @@
 use Prim.Native.Nat.{ℕ, zero, suc, _+_, _-_, _*_, _/_, _%_, _≤_, _<_}
 use mathlib.Core.Path.{_≡_, refl, sym, ap, _∙_}
 use mathlib.Core.Bool.{Bool, true, false, cond, _&&_}
-use mathlib.Core.List.{List, [], _∷_}
+use mathlib.Core.List.{[], _∷_}
 use native.Mathlib.Numerals.{add-one}
 use native.Mathlib.Omega.{arith}
-use lib.Dec.{eqb, leb}
+use lib.Dec.{leb}
 use lib.ListN.{getD, List·getD-eq-default}
 use borrow.Author.Tests.{leb-true, le-leb}
 use Rattle.laws.specs.Lists.{all}
 use Rattle.laws.proofs.Lists.{all-at}
 use Rattle.laws.proofs.Truth.{and-left, and-right}
-use Rattle.days.specs.Calendar.{isLeap, monthLength, monthOf, lengthOf, firstOf, dayNumber, realDay}
+use Rattle.days.specs.Calendar.{isLeap, monthLength, monthOf, lengthOf, firstOf, realDay}
 
 pub first-next : (k : ℕ) → firstOf (k + 1) ≡ firstOf k + lengthOf k
 unfolding firstOf

@@ -5,16 +5,15 @@ use mathlib.Core.Path.{_≡_, refl, sym, ap, _∙_}
 use mathlib.Core.Bool.{Bool, true, false, cond, not, _&&_, _||_, true≢false, false≢true}
 use mathlib.Core.List.{List}
 use native.Mathlib.Omega.{arith}
-use native.Mathlib.Nat.{add-assoc}
 use lib.Dec.{eqb, leb}
 use lib.ListN.{length, take, drop, getD, length-take, length-drop}
 use lib.Seq.{take-take, drop-drop, getD-take, getD-drop, ext-getD}
 use borrow.Author.Tests.{eq-eqb, ne-eqb}
 use Rattle.laws.specs.Decimal.{isDigit, decimal}
 use Rattle.laws.specs.Lists.{all}
-use Rattle.laws.proofs.Truth.{and-left, and-right, and-false}
-use Rattle.days.specs.Calendar.{monthLength, realDay, dayNumber}
-use Rattle.days.specs.Dates.{yearText, monthText, dayText, hasDateForm, isDate, dayOf, Dated, undated, dated, dateAt}
+use Rattle.laws.proofs.Truth.{and-false}
+use Rattle.days.specs.Calendar.{realDay, dayNumber}
+use Rattle.days.specs.Dates.{yearText, isDate, dayOf, undated, dated, dateAt}
 
 -- what `digits` answers
 abbrev pub number : List ℕ → ℕ

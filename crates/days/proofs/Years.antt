@@ -1,10 +1,7 @@
 -- The year of a day.
 use Prim.Native.Nat.{ℕ, zero, suc, _+_, _-_, _*_, _/_, _≤_, _<_}
 use mathlib.Core.Path.{_≡_, refl, sym, ap, _∙_}
-use mathlib.Core.Bool.{Bool, true, false, cond}
 use native.Mathlib.Omega.{arith}
-use native.Mathlib.Decide.{ℕ-discrete}
-use lib.Dec.{leb}
 use borrow.Author.Tests.{le-leb, lt-leb}
 use Rattle.days.specs.Calendar.{monthLength, monthOf, lengthOf, firstOf, dayNumber, yearsTo, yearOf}
 use Rattle.days.proofs.Months.{first-mono, first-next, month-length, years-long, RealDay}

@@ -1,6 +1,6 @@
 -- Quoted text as bytes.
 use Prim.Native.Nat.{ℕ}
-use Prim.Native.Char.{Char, code}
+use Prim.Native.Char.{code}
 use Prim.Native.String as string
 use mathlib.Core.List.{List, [], _∷_}
 

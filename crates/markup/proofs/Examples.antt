@@ -1,5 +1,4 @@
 -- Short files computed: one list of texts with what is answered, one statement.
-use Prim.Native.Nat.{ℕ}
 use Prim.Native.String as string
 use mathlib.Core.Path.{_≡_, refl}
 use mathlib.Core.Bool.{Bool, true, false}

@@ -9,19 +9,16 @@ use lib.ListN.{take, drop, getD, take-append-drop}
 use Rattle.laws.specs.Lists.{all}
 use Rattle.laws.proofs.Truth.{and-left, and-right}
 use Rattle.markup.specs.Bytes.{inFile, isText, run, front, after}
-use Rattle.markup.specs.Reading.{Read, then}
 use Rattle.markup.specs.Reading.Read.{read}
-use Rattle.markup.specs.Comments.{dashed}
-use Rattle.markup.specs.Tags.{endTag}
-use Rattle.markup.specs.Elements.{Inside, Tree, Piece, tagPiece, piece, content, element}
+use Rattle.markup.specs.Elements.{Inside, Tree, tagPiece, piece, content, element}
 use Rattle.markup.specs.Elements.Inside.{end}
-use Rattle.markup.specs.Elements.Piece.{words, aside, closing, child}
+use Rattle.markup.specs.Elements.Piece.{words}
 use Rattle.markup.specs.Document.{document}
 use Rattle.reading.proofs.Elements.{tag-no-text}
 use Rattle.reading.specs.Places.{placeIn}
 use Rattle.reading.specs.Within.{alone, kids, Every, Deeply, ReadAt}
 use Rattle.laws.proofs.Lists.{all-left, all-right}
-use Rattle.reading.proofs.Cut.{never, then-is, read-in}
+use Rattle.reading.proofs.Cut.{never, read-in}
 use Rattle.reading.proofs.Leaves.{front-all}
 use Rattle.reading.proofs.Steps.{Built, built, Pieces, pieces}
 use Rattle.reading.proofs.Steps.Pieces.{closed, told, noted, born}

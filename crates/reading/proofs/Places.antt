@@ -8,7 +8,7 @@ use native.Mathlib.Omega.{arith}
 use lib.ListN.{length, drop, getD, length-append}
 use lib.Seq.{drop-append-seam}
 use Rattle.markup.specs.Reading.Read.{read}
-use Rattle.markup.specs.Tags.{Pair, Tag, tag}
+use Rattle.markup.specs.Tags.{Tag, tag}
 use Rattle.markup.specs.Elements.{Inside, Tree, content, element}
 use Rattle.markup.specs.Elements.Inside.{end, says, note, elem}
 use Rattle.markup.specs.Document.{document, depth}

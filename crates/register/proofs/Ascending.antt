@@ -1,9 +1,8 @@
 -- "keys strictly ascending", as a test and as the model's fact; parts of what ascends.
 use Prim.Native.Nat.{ℕ, suc, _+_, _-_, _≤_}
 use mathlib.Core.Path.{_≡_, refl}
-use mathlib.Core.Logic.{_↔_}
-use mathlib.Core.Bool.{Bool, true}
-use mathlib.Core.List.{List, [], _∷_, _++_}
+use mathlib.Core.Bool.{true}
+use mathlib.Core.List.{[], _∷_, _++_}
 use native.Mathlib.Omega.{arith}
 use lib.Dec.{ltb}
 use borrow.Author.Tests.{ltb-true, lt-ltb}
@@ -45,9 +44,6 @@ asc-tell b (r ∷ m) h =
     (all-tell (λ s. ltb (r .key) (s .key)) m (every-map m (λ s k. lt-ltb (r .key) (s .key) k) (asc-above (suc (r .key)) m (h .1))))
     (asc-tell (suc (r .key)) m (h .1))
 
-pub ascending-iff : (m : Map ℕ) → ascending m ≡ true ↔ Asc 0 m
-ascending-iff m = (asc-told m, asc-tell 0 m)
-
 -- ---- parts
 
 asc-right : (b : ℕ) (us vs : Map ℕ) → Asc b (us ++ vs) → Asc b vs
@@ -60,23 +56,8 @@ unfolding Asc
 asc-left b [] vs h = tt
 asc-left b (u ∷ us) vs h = (h .0, asc-left (suc (u .key)) us vs (h .1))
 
-all-right : {A : Type 0} (p : A → Bool) (us vs : List A) → all p (us ++ vs) ≡ true → all p vs ≡ true
-unfolding all
-all-right p [] vs h = h
-all-right p (u ∷ us) vs h = all-right p us vs (and-right (p u) _ h)
-
-all-left : {A : Type 0} (p : A → Bool) (us vs : List A) → all p (us ++ vs) ≡ true → all p us ≡ true
-unfolding all
-all-left p [] vs h = refl
-all-left p (u ∷ us) vs h = and-tell (p u) (all p us) (and-left (p u) _ h) (all-left p us vs (and-right (p u) _ h))
-
 -- of a walk, the part from i up to e
 module _ (lo i e hi : ℕ) (a : lo ≤ i) (b : i ≤ e) (c : e ≤ hi) where
-  pub all-part : {A : Type 0} (f : ℕ → A) (p : A → Bool) → all p (from f lo (hi - lo)) ≡ true → all p (from f i (e - i)) ≡ true
-  all-part f p h =
-      all-left p (from f i (e - i)) (from f e (hi - e))
-      (rw (← from-cut f i e hi b c) (all-right p (from f lo (i - lo)) (from f i (hi - i)) (rw (← from-cut f lo i hi a (omega arith)) h)))
-
   pub asc-part : (f : ℕ → Row ℕ) → Asc 0 (from f lo (hi - lo)) → Asc 0 (from f i (e - i))
   asc-part f h =
       asc-left 0 (from f i (e - i)) (from f e (hi - e))

@@ -1,7 +1,7 @@
 -- A row put in, replaced or taken out of the bytes is that done to the state: one law for cases and events.
 use Prim.Native.Nat.{ℕ, suc, _+_, _-_, _*_, _≤_}
 use mathlib.Core.Path.{_≡_, refl, sym, ap, ap₂, _∙_}
-use mathlib.Core.List.{List, [], _∷_, _++_, append-assoc}
+use mathlib.Core.List.{List, _∷_, _++_, append-assoc}
 use native.Mathlib.Omega.{arith}
 use lib.ListN.{length, replicate, length-append}
 use Rattle.rows.specs.Pack.{digits}
@@ -10,8 +10,8 @@ use Rattle.model.specs.Map.{Row, Map}
 use Rattle.model.specs.Flow.{State}
 use Rattle.register.specs.Layout.{Layout, caseRest, eventRest}
 use Rattle.register.specs.Bytes.{rowNumber, rowAt, rowsBytes, used, encode}
-use Rattle.register.specs.Stored.{Group, cases, events, rowsOf, restOf, withRows}
-use Rattle.register.specs.Moves.{onPart, inserted, replaced, removed, withCount}
+use Rattle.register.specs.Stored.{Group, cases, events, restOf, withRows}
+use Rattle.register.specs.Moves.{inserted, replaced, removed, withCount}
 use Rattle.register.proofs.RowBytes.{bytes-append, bytes-length}
 use Rattle.register.proofs.States.{head}
 use Rattle.register.proofs.Seams.{on-seam, opens, closes}

@@ -1,5 +1,5 @@
 -- What a search over the bytes says of the state.
-use Prim.Native.Nat.{ℕ, zero, suc, _+_, _-_, _*_, _/_, _^_, _≤_, _<_}
+use Prim.Native.Nat.{ℕ, zero, suc, _+_, _-_, _/_, _^_, _≤_, _<_}
 use mathlib.Core.Path.{_≡_, refl, sym, ap, ap₂, subst, _∙_}
 use mathlib.Core.Bool.{Bool, true, false, cond, _&&_}
 use mathlib.Core.List.{List, [], _∷_, _++_, append-nil}
@@ -14,7 +14,7 @@ use Rattle.model.proofs.MapLaws.{asc-weaken}
 use Rattle.model.proofs.MapPlace.{AllBelow, find-in, find-out}
 use Rattle.register.specs.Layout.{Layout, caseRest, eventRest, caseOf}
 use Rattle.register.specs.Bytes.{from, split, rowIn, eventsFrom}
-use Rattle.register.specs.Stored.{Laid, Stored, Group, cases, events, rowsOf, keyBitsOf}
+use Rattle.register.specs.Stored.{Laid, Stored, Group, cases, events, rowsOf}
 use Rattle.register.specs.Search.{keyAt, Rises, Placed, Ranged}
 use Rattle.register.proofs.From.{from-cut}
 use Rattle.register.proofs.States.{events-back}

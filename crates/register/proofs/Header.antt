@@ -1,12 +1,11 @@
 -- The header's counts, byte by byte.
 use Prim.Native.Nat.{ℕ, suc, _+_, _-_, _*_, _/_, _%_, _^_, _≤_}
-use mathlib.Core.Path.{_≡_, refl, sym, ap, ap₂, _∙_}
+use mathlib.Core.Path.{_≡_, sym, ap, _∙_}
 use mathlib.Core.List.{List, [], _∷_, _++_}
-use native.Mathlib.Numerals.{add-one}
 use native.Mathlib.Omega.{arith}
 use lib.ListN.{length, take, drop, getD, set, length-append, take-append-drop}
 use lib.Seq.{drop-cons, set-at, append-snoc, length-take-le}
-use Rattle.rows.specs.Pack.{packs, num, digits}
+use Rattle.rows.specs.Pack.{packs, num}
 use Rattle.register.specs.Moves.{withCount}
 
 module _ (reg : List ℕ) (at : ℕ) (h : at + 2 ≤ length reg) where

@@ -1,7 +1,7 @@
 -- The rows of a group at their places in the bytes, and the group cut where a search found a key's place.
 use Prim.Native.Nat.{ℕ, zero, suc, _+_, _-_, _*_, _/_, _^_, _≤_, _<_}
 use mathlib.Core.Path.{_≡_, refl, sym, ap, subst, _∙_}
-use mathlib.Core.Bool.{Bool, true, false, _&&_}
+use mathlib.Core.Bool.{true, false, _&&_}
 use mathlib.Core.List.{List, [], _∷_, _++_}
 use native.Mathlib.Omega.{arith}
 use lib.Dec.{ltb, eqb}
@@ -9,17 +9,16 @@ use lib.ListN.{length, take, drop, getD, take-append-drop, length-drop}
 use lib.Seq.{split-at, length-take-le, getD-take, getD-drop}
 use borrow.Author.Tests.{ltb-true, eqb-true, eqb-false, lt-ltb}
 use Rattle.laws.proofs.Truth.{and-left, and-right}
-use Rattle.rows.specs.Pack.{num}
 use Rattle.model.specs.Map.{Row, Map, Asc}
 use Rattle.model.specs.Flow.{State}
 use Rattle.model.proofs.MapPlace.{AllBelow, all-below, cut-asc}
 use Rattle.register.specs.Layout.{Layout}
-use Rattle.register.specs.Bytes.{from, split, rowAt, rowIn}
-use Rattle.register.specs.Stored.{Laid, Fits, Stored, Group, cases, events, rowsOf, keyBitsOf, restOf, withRows}
-use Rattle.register.specs.Search.{keyAt, keyOf, Rises, Placed}
+use Rattle.register.specs.Bytes.{from, split, rowIn}
+use Rattle.register.specs.Stored.{Laid, Fits, Stored, Group, cases, events, rowsOf, keyBitsOf, restOf}
+use Rattle.register.specs.Search.{keyAt, Rises, Placed}
 use Rattle.register.proofs.From.{from-at}
 use Rattle.register.proofs.States.{cases-back, events-back}
-use Rattle.register.proofs.Changes.{startOf, afterOf}
+use Rattle.register.proofs.Changes.{startOf}
 
 below-at : (k : ℕ) (d : Row ℕ) (m : Map ℕ) (p : ℕ) → AllBelow k m → p < length m → getD m p d .key < k
 below-at k d [] p b h = absurd (omega arith)

@@ -1,12 +1,12 @@
 -- A shift of a list by w places, as a loop does it one store at a time: to the right from the end, to the left from the front.
 use mathlib.Core.Path.{_≡_, refl, sym, ap, _∙_}
-use mathlib.Core.List.{List, [], _∷_, _++_, append-assoc, append-nil}
-use Prim.Native.Nat.{ℕ, zero, suc, _+_, _-_, _≤_, _<_, min}
+use mathlib.Core.List.{List, _∷_, _++_, append-nil}
+use Prim.Native.Nat.{ℕ, suc, _+_, _-_, _≤_, _<_}
 use native.Mathlib.Nat.{sub-self, add-comm}
 use native.Mathlib.Numerals.{add-one}
 use native.Mathlib.Omega.{arith}
-use lib.ListN.{length, getD, take, drop, set, length-append, length-take, length-drop, List·getD-append, drop-of-length-le, take-append-drop}
-use lib.Seq.{take-all, take-suc, drop-cons, append-snoc, set-at, getD-take, getD-drop, length-take-le, take-length, getD-append-add, take-suc-set, set-split}
+use lib.ListN.{length, getD, take, drop, set, length-append, length-take, length-drop, List·getD-append, drop-of-length-le}
+use lib.Seq.{take-all, take-suc, drop-cons, append-snoc, set-at, getD-take, getD-drop, length-take-le, take-length, getD-append-add}
 
 -- ---- to the right: from index k on the list is the one w places back
 unfoldable pub shifted : ℕ → List ℕ → ℕ → List ℕ

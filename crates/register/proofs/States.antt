@@ -1,19 +1,19 @@
 -- A register's bytes and its state are one: the state back from the bytes, the bytes back from the state.
-use Prim.Native.Nat.{ℕ, zero, suc, _+_, _-_, _*_, _/_, _^_, _≤_, _<_, min}
+use Prim.Native.Nat.{ℕ, suc, _+_, _-_, _*_, _/_, _≤_}
 use mathlib.Core.Path.{_≡_, refl, sym, ap, ap₂, _∙_}
-use mathlib.Core.Bool.{Bool, true}
+use mathlib.Core.Bool.{true}
 use mathlib.Core.List.{List, [], _∷_, _++_, append-assoc}
-use native.Mathlib.Nat.{mul-zero, mul-le-mul-left, mul-div-le, min-le-left, min-le-right, le-min, le-div-iff-mul-le}
+use native.Mathlib.Nat.{mul-le-mul-left, mul-div-le, min-le-left, min-le-right, le-min, le-div-iff-mul-le}
 use native.Mathlib.Omega.{arith}
 use lib.Dec.{eqb}
 use lib.ListN.{length, take, drop, replicate, length-append, length-drop, length-replicate, take-append-drop}
-use lib.Seq.{take-at, drop-at, take-add, drop-drop, length-take-le}
+use lib.Seq.{drop-drop, length-take-le}
 use borrow.Author.Tests.{eqb-true}
 use Rattle.laws.specs.Lists.{all}
 use Rattle.laws.proofs.Truth.{and-left, and-right}
 use Rattle.rows.specs.Pack.{num, digits, each, Fit}
-use Rattle.rows.proofs.Bytes.{digits-length, num-digits, digits-num, fit-take, fit-drop}
-use Rattle.model.specs.Map.{Map, Asc}
+use Rattle.rows.proofs.Bytes.{num-digits, digits-num, fit-take, fit-drop}
+use Rattle.model.specs.Map.{Asc}
 use Rattle.model.specs.Flow.{State, Good, empty}
 use Rattle.register.specs.Layout.{Layout, caseRest, eventRest, siad}
 use Rattle.register.specs.Bytes.{from, split, room, casesHeld, eventsHeld, rowAt, rowIn, casesFrom, eventsFrom, stateOf, rowsBytes, used, encode}

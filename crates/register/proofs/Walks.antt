@@ -1,15 +1,14 @@
 -- A walk over rows, from one to the next: the rest gives the same as the whole.
 use Prim.Native.Nat.{ℕ, zero, suc, _+_, _-_, _*_, _/_, _^_, _≤_, _<_}
 use mathlib.Core.Path.{_≡_, refl, sym, ap, ap₂, _∙_}
-use mathlib.Core.Bool.{Bool, true, false, _&&_, false≢true}
+use mathlib.Core.Bool.{Bool, true, false, _&&_}
 use mathlib.Core.List.{List, [], _∷_}
-use native.Mathlib.Nat.{mul-le-mul-left}
 use native.Mathlib.Numerals.{add-one}
 use native.Mathlib.Omega.{arith}
-use lib.Dec.{eqb, ltb}
+use lib.Dec.{ltb}
 use lib.ListN.{length, take, drop, length-drop}
 use lib.Seq.{length-take-le}
-use borrow.Author.Tests.{ltb-true, lt-ltb, eqb-true, eq-eqb}
+use borrow.Author.Tests.{ltb-true, lt-ltb}
 use Rattle.laws.specs.Lists.{all}
 use Rattle.laws.proofs.Order.{Tri, below, equal, above, tri}
 use Rattle.laws.proofs.Truth.{and-left, and-right}
@@ -63,12 +62,6 @@ module _ {A : Type 0} (f : ℕ → A) where
 
 -- ---- ascending keys: neighbours suffice
 
--- the next row lies within the register
-pub next-fits : (w k hi n : ℕ) → k + 1 < hi → 4 + w * hi ≤ n → 4 + w * (k + 1) + w ≤ n
-next-fits w k hi n h g =
-    let s : w * (k + 2) ≤ w * hi = mul-le-mul-left w (omega arith) in
-    omega arith
-
 pub climb : (r s : Row ℕ) (m : Map ℕ) → ascending (r ∷ s ∷ m) ≡ (ltb (r .key) (s .key) && ascending (s ∷ m))
 unfolding ascending all
 climb r s m =
@@ -81,33 +74,6 @@ climb r s m =
     let u = all-told (λ t. ltb (s .key) (t .key)) m (and-left (all (λ t. ltb (s .key) (t .key)) m) _ b) in
     and-tell (all (λ t. ltb (r .key) (t .key)) (s ∷ m)) _
     (and-tell (ltb (r .key) (s .key)) _ a (all-tell (λ t. ltb (r .key) (t .key)) m (every-map m (λ t e. let k : s .key < t .key = ltb-true (s .key) (t .key) e in lt-ltb (r .key) (t .key) (omega arith)) u))) b)
-
--- ---- a run of rows with one key
-
-pub row-within : (w i hi n : ℕ) → i < hi → 4 + w * hi ≤ n → 4 + w * i + w ≤ n
-row-within w i hi n h g =
-    let s : w * (i + 1) ≤ w * hi = mul-le-mul-left w (omega arith) in
-    omega arith
-
-module _ (w kbits : ℕ) (reg : List ℕ) (i k hi : ℕ) (stand : Bool)
-    (told : stand ≡ ltb k hi && eqb (keyAt w kbits reg k) (keyOf w kbits (take (4 + w * i + w - (4 + w * i)) (drop (4 + w * i) reg)))) where
-  probe : keyOf w kbits (take (4 + w * i + w - (4 + w * i)) (drop (4 + w * i) reg)) ≡ keyAt w kbits reg i
-  unfolding keyOf keyAt
-  probe = let q : 4 + w * i + w - (4 + w * i) ≡ w = omega arith in ap (λ (v : ℕ). num (take v (drop (4 + w * i) reg)) / 2 ^ (8 * w - kbits)) q
-
-  pub same-key : stand ≡ true → keyAt w kbits reg k ≡ keyAt w kbits reg i
-  same-key s = eqb-true _ _ (and-right (ltb k hi) _ (sym told ∙ s)) ∙ probe
-
-  pub other-key : stand ≡ false → k < hi → keyAt w kbits reg k ≡ keyAt w kbits reg i → ⊥
-  other-key s h e = false≢true (sym s ∙ told ∙ rw (lt-ltb k hi h) (eq-eqb _ _ (e ∙ sym probe)))
-
-pub one-more : (f : ℕ → ℕ) (v j k : ℕ) → ((m : ℕ) → j ≤ m → m < k → f m ≡ v) → f k ≡ v → (m : ℕ) → j ≤ m → m < k + 1 → f m ≡ v
-one-more f v j k h e m a b = go (tri m k)
-  where
-    go : Tri m k → f m ≡ v
-    go (below l _ _) = h m a l
-    go (equal l _ _) = ap f l ∙ e
-    go (above l _ _) = absurd (omega arith)
 
 module _ (l : Layout) (w kbits : ℕ) (reg : List ℕ) (e : l .bytes ≡ w) where
   abbrev rows : ℕ → Row ℕ

@@ -1,7 +1,7 @@
 -- What emptying, asking for soundness and finding answer (document 01, "What is built").
 use Prim.Native.Nat.{ℕ}
 use mathlib.Core.Bool.{Bool, cond, not, _&&_}
-use mathlib.Core.List.{List, []}
+use mathlib.Core.List.{List}
 use lib.Dec.{eqb, ltb}
 use lib.ListN.{length, replicate}
 use Rattle.laws.specs.Decimal.{decimal, isDigit}

@@ -1,6 +1,6 @@
 -- The fields in the bits of a row (document 01, "The register", the table): what `keyNumber`, `caseNumber` and `eventNumber` pack, read back.
 use Prim.Native.Nat.{ℕ, _+_, _*_, _/_, _%_, _^_}
-use mathlib.Core.List.{List, [], _∷_, _++_}
+use mathlib.Core.List.{[], _∷_, _++_}
 use lib.ListN.{take, drop, getD, replicate}
 use Rattle.rows.specs.Pack.{unpacks}
 use Rattle.rows.specs.Row.{Key, Case}

@@ -3,7 +3,7 @@ use Prim.Native.Nat.{ℕ, _+_, _*_, _^_, _≤_, _<_}
 use mathlib.Core.Path.{_≡_}
 use mathlib.Core.List.{List, [], _∷_}
 use lib.ListN.{length}
-use Rattle.model.specs.Map.{Row, Map}
+use Rattle.model.specs.Map.{Map}
 use Rattle.model.specs.Flow.{State, Good}
 use Rattle.register.specs.Layout.{Layout, caseRest, eventRest}
 use Rattle.register.specs.Bytes.{room, encode}

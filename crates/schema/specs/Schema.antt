@@ -2,8 +2,7 @@
 use Prim.Native.Nat.{ℕ}
 use Prim.Native.String as string
 use mathlib.Core.Bool.{Bool}
-use mathlib.Core.List.{List, []}
-use Rattle.laws.specs.Text.{bytes}
+use mathlib.Core.List.{List}
 use Rattle.schema.specs.Texts.{Texts}
 
 -- an attribute: its name, whether it is required, and its values

@@ -3,7 +3,7 @@
 --   many; 9 and 10 the first attribute's row and how many. An attribute's row is a leaf's: least 1 says that it is required.
 --   kinds: 0 a group (5: 1 where it is counted), 1 another, 2 a date, 3 characters (5 least, 6 most), 4 a signed number, 5 a plain one, 6 one of so many digits (5)
 use Prim.Native.Nat.{ℕ, zero, suc, _+_, _*_}
-use mathlib.Core.Bool.{Bool, true, false, cond, not, _&&_}
+use mathlib.Core.Bool.{cond, not, _&&_}
 use mathlib.Core.List.{List, [], _∷_}
 use lib.Dec.{eqb}
 use lib.ListN.{take, drop, getD}

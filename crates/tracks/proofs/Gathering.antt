@@ -6,12 +6,11 @@ use mathlib.Core.List.{List, [], _∷_, map}
 use native.Mathlib.Numerals.{add-one}
 use native.Mathlib.Omega.{arith}
 use lib.ListN.{length, set, length-set}
-use Rattle.laws.specs.Lists.{any, same}
-use Rattle.laws.specs.Text.{bytes}
+use Rattle.laws.specs.Lists.{any}
 use Rattle.markup.specs.Elements.{Inside, Tree}
 use Rattle.markup.specs.Elements.Inside.{end}
 use Rattle.reading.specs.Within.{kids}
-use Rattle.tracks.specs.Record.{Said, isEvent, saidIn}
+use Rattle.tracks.specs.Record.{Said, isEvent}
 use Rattle.tracks.specs.Flags.{zeroWritten, badConferma}
 use Rattle.tracks.specs.Defaults.{saidElse, saidElseIn, told, happenedAt, counted, kept}
 use Rattle.tracks.specs.View.{laid, IsEvents}
@@ -124,27 +123,3 @@ nil-laid (x ∷ xs) = refl
 pub none-told : {i : Inside} (b : List ℕ) → i ≡ end → IsEvents (tallied 0 false false) b b (saidElseIn (kids i))
 unfolding saidElseIn any
 none-told b e = rw e (record { count = refl; numbers = nil-laid b; bad = refl; zero = refl })
-
--- ---- counting
-
-module _ (t : Tree) (ts : List Tree) (n : ℕ) where
-  pub count-one : true ≡ isEvent t → n + length (saidIn (t ∷ ts)) ≡ n + 1 + length (saidIn ts)
-  unfolding saidIn
-  count-one e = rw (← e) (omega arith)
-
-  pub count-none : false ≡ isEvent t → n + length (saidIn (t ∷ ts)) ≡ n + length (saidIn ts)
-  unfolding saidIn
-  count-none e = rw (← e)
-
-pub count-end : (n : ℕ) → n + length (saidIn []) ≡ n
-unfolding saidIn
-count-end n = omega arith
-
-pub count-in : {i : Inside} → i ≡ end → 0 ≡ length (saidIn (kids i))
-unfolding saidIn
-count-in e = rw e
-
-pub is-one : (t : Tree) {a b c d : Bool} → a ≡ same (bytes "Rivalutazione") (t .named) → b ≡ same (bytes "Erogazione") (t .named) → c ≡ same (bytes "Sospensione") (t .named)
-    → d ≡ same (bytes "Conclusione") (t .named) → (a || (b || (c || d))) ≡ isEvent t
-unfolding any
-is-one t e f g h = rw (e, f, g, h, or-false (same (bytes "Conclusione") (t .named)))

@@ -1,8 +1,8 @@
 -- The fields of a record that is of the shape, by paths on its tree (document 01, "The shape of a record", "The register").
-use Prim.Native.Nat.{ℕ, _+_, _*_}
+use Prim.Native.Nat.{ℕ, _+_}
 use Prim.Native.String as string
-use mathlib.Core.Bool.{Bool, true, false, cond}
-use mathlib.Core.List.{List, [], _∷_, _++_, map}
+use mathlib.Core.Bool.{Bool, cond}
+use mathlib.Core.List.{List, [], _∷_, _++_}
 use lib.Dec.{ltb, eqb}
 use lib.ListN.{length, take, getD, replicate}
 use Rattle.laws.specs.Decimal.{decimal}

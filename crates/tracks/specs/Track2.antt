@@ -2,7 +2,7 @@
 use mathlib.Core.List.{[], _∷_}
 use Rattle.laws.specs.Text.{bytes}
 use Rattle.schema.specs.Texts.{date}
-use Rattle.schema.specs.Schema.{Node, group, another, Nodes, none, _▸_, Schema}
+use Rattle.schema.specs.Schema.{Node, group, another, none, _▸_, Schema}
 use Rattle.tracks.specs.Types
 
 abbrev pub presaInCarico : Node

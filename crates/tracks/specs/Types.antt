@@ -2,11 +2,11 @@
 use Prim.Native.Nat.{ℕ}
 use Prim.Native.Char.{Char, code}
 use Prim.Native.String as string
-use mathlib.Core.Bool.{Bool, true, false}
+use mathlib.Core.Bool.{true, false}
 use mathlib.Core.List.{List, [], _∷_, _++_, map}
 use Rattle.laws.specs.Text.{bytes}
 use Rattle.codes.specs.Codes.{regions, abroad}
-use Rattle.schema.specs.Texts.{Range, _to_, Texts, chars, number, date, signed, plain, wide}
+use Rattle.schema.specs.Texts.{Range, _to_, Texts, chars, number, signed, plain, wide}
 use Rattle.schema.specs.Schema.{Attr, Head, Node, leaf, group, another, Nodes, none, _▸_}
 
 -- one character from a to b

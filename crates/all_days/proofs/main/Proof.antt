@@ -1,6 +1,5 @@
 use Prim.Native.Nat.{_-_}
 use borrow.Author.Needs.{needs}
-use native.Mathlib.Omega.{arith}
 use Rattle.all_days.proofs.main.Statement.{statement}
 use Rattle.all_days.proofs.main.Tie as tie
 use Rattle.all_days.proofs.main.Reads as reads

@@ -1,4 +1,3 @@
-use native.Mathlib.Omega.{arith}
 use borrow.Author.Needs.{needs}
 use Rattle.all_days.proofs.with_text.Statement.{statement}
 use Rattle.all_days.proofs.with_text.Tie as tie

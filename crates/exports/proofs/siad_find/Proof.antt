@@ -1,6 +1,5 @@
-use mathlib.Core.Path.{_≡_, ap, _∙_}
+use mathlib.Core.Path.{ap, _∙_}
 use Rattle.register.specs.Calls.{Found}
-use native.Mathlib.Omega.{arith}
 use borrow.Author.Needs.{needs}
 use Rattle.exports.proofs.siad_find.Statement.{statement}
 use Rattle.exports.proofs.siad_find.Tie as tie

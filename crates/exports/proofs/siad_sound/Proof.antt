@@ -1,6 +1,4 @@
-use mathlib.Core.Path.{_≡_, sym, ap, _∙_}
 use Rattle.register.specs.Calls.{soundness}
-use native.Mathlib.Omega.{arith}
 use borrow.Author.Needs.{needs}
 use Rattle.exports.proofs.siad_sound.Statement.{statement}
 use Rattle.exports.proofs.siad_sound.Tie as tie

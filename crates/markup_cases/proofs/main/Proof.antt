@@ -1,6 +1,5 @@
 use Prim.Native.Nat.{_-_}
 use borrow.Author.Needs.{needs}
-use native.Mathlib.Omega.{arith}
 use Rattle.markup_cases.proofs.main.Statement.{statement}
 use Rattle.markup_cases.proofs.main.Tie as tie
 use Rattle.markup_cases.proofs.main.Reads as reads

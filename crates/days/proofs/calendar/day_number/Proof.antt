@@ -1,6 +1,6 @@
 use Rattle.days.proofs.Months.{real}
 use Rattle.days.proofs.Firsts.{day-found}
-use mathlib.Core.Path.{_≡_, _∙_, ap}
+use mathlib.Core.Path.{ap}
 use Prim.Native.Nat.{ℕ, _+_, _-_}
 use native.Mathlib.Omega.{arith}
 use borrow.Author.Needs.{needs}

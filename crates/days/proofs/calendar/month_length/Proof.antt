@@ -1,11 +1,5 @@
 use Rattle.days.proofs.Months.{past-december}
-use mathlib.Core.Path.{refl}
-use Rattle.days.specs.Calendar.{isLeap}
-use borrow.Author.Tests.{eq-eqb}
-use mathlib.Core.Path.{_≡_, sym, ap, _∙_}
 use Rattle.days.proofs.Months.{not-february}
-use lib.ListN.{getD}
-use native.Mathlib.Omega.{arith}
 use borrow.Author.Needs.{needs}
 use Rattle.days.proofs.calendar.month_length.Statement.{statement}
 use Rattle.days.proofs.calendar.month_length.Tie as tie

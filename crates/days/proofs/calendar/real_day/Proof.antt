@@ -1,5 +1,3 @@
-use Rattle.days.specs.Calendar.{monthLength}
-use native.Mathlib.Omega.{arith}
 use borrow.Author.Needs.{needs}
 use Rattle.days.proofs.calendar.real_day.Statement.{statement}
 use Rattle.days.proofs.calendar.real_day.Tie as tie

@@ -1,6 +1,5 @@
 use Rattle.days.specs.Table.{Firsts}
 use Rattle.days.proofs.Firsts.{first-below}
-use mathlib.Core.Path.{_∙_}
 use native.Mathlib.Omega.{arith}
 use borrow.Author.Needs.{needs}
 use Rattle.days.proofs.table.first_of.Statement.{statement}

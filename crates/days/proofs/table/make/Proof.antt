@@ -1,7 +1,5 @@
 use Rattle.days.specs.Table.{Firsts}
 use Rattle.days.proofs.Firsts.{firsts, first-entry}
-use borrow.Author.Needs.{needs}
-use native.Mathlib.Omega.{arith}
 use Rattle.days.proofs.table.make.Statement.{statement}
 use Rattle.days.proofs.table.make.Tie as tie
 use Rattle.days.proofs.table.make.Reads as reads

@@ -1,4 +1,3 @@
-use Prim.Native.Nat.{_+_}
 use lib.ListN.{length-set}
 use Rattle.register.proofs.Header.{count-set}
 use native.Mathlib.Omega.{arith}

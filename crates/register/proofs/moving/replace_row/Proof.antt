@@ -1,6 +1,5 @@
 use Prim.Native.Nat.{_+_, _*_}
 use Rattle.register.proofs.Seams.{row-over}
-use Rattle.register.specs.Moves.{onPart}
 use borrow.Author.Needs.{needs}
 use Rattle.register.proofs.moving.replace_row.Statement.{statement}
 use Rattle.register.proofs.moving.replace_row.Tie as tie

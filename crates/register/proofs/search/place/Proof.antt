@@ -1,5 +1,5 @@
 -- The invariant: what stands before a is below the probe's key, and what stands from e on is not.
-use Prim.Native.Nat.{ℕ, _+_, _-_, _/_, _≤_, _<_}
+use Prim.Native.Nat.{_+_, _-_, _/_, _≤_}
 use mathlib.Core.Path.{sym, _∙_}
 use native.Mathlib.Nat.{mul-le-mul-left}
 use borrow.Author.Tests.{ltb-true, ltb-false}

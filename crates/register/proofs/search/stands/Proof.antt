@@ -1,4 +1,3 @@
-use mathlib.Core.Path.{sym}
 use native.Mathlib.Nat.{mul-le-mul-left}
 use lib.Dec.{eqb}
 use Rattle.rows.specs.declared.reader.Order.the-variants.{Less, Same, More}

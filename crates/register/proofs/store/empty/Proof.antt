@@ -1,4 +1,3 @@
-use mathlib.Core.Path.{_∙_}
 use lib.ListN.{length}
 use borrow.Author.Tests.{lt-ltb, le-ltb}
 use Rattle.register.specs.Calls.{emptied}

@@ -9,7 +9,6 @@ use denote.Ref.{now}
 use Rattle.schema.specs.Schema.{Schema}
 use borrow.Author.Tests.{eq-eqb, ne-eqb}
 use mathlib.Core.Path.{_≡_, ap, _∙_}
-use native.Mathlib.Omega.{arith}
 use borrow.Author.Needs.{needs}
 use Rattle.tracks.proofs.shapes.shape_of.Statement.{statement}
 use Rattle.tracks.proofs.shapes.shape_of.Tie as tie
