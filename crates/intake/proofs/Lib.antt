@@ -4,3 +4,7 @@ pub mod Files
 pub mod Sound
 pub mod History
 pub mod OnBytes
+pub mod RecordRead
+pub mod RecordTaken
+pub mod EventsTaken
+pub mod CaseTaken

@@ -2,3 +2,5 @@ pub mod Submitted
 pub mod Order
 pub mod Demands
 pub mod Histories
+pub mod Taking
+pub mod View

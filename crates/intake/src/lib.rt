@@ -1,1 +1,15 @@
-fn nothing() {}
+// A file taken into a register (document 01, "Answers for a file").
+
+// The file's answer, the record number, and the counts.
+pub struct Report {
+    pub answer: u64,
+    pub number: u64,
+    pub records: u64,
+    pub accepted: u64,
+    pub discarded: u64,
+}
+
+pub mod admission;
+pub mod events;
+pub mod probe;
+pub mod record;

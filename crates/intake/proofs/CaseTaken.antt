@@ -1,0 +1,100 @@
+-- A record of Track 1: what the code holds of its case and of the residence, and its two ways out.
+use Prim.Native.Nat.{ℕ}
+use mathlib.Core.Path.{_≡_, sym, ap, _∙_, subst}
+use mathlib.Core.Bool.{true}
+use mathlib.Core.List.{List}
+use lib.ListN.{length, drop}
+use Rattle.rows.specs.Pack.{each, Fit}
+use Rattle.rows.specs.Row.{keyOf, caseOf, CaseFits}
+use Rattle.model.specs.Checks.{first}
+use Rattle.model.specs.Flow.{State}
+use Rattle.model.proofs.ChecksLaws.{clear}
+use Rattle.markup.specs.Reading.Read.{read}
+use Rattle.markup.specs.Elements.{Tree, element}
+use Rattle.markup.specs.View.{part}
+use Rattle.reading.specs.Many.{belowRoot}
+use Rattle.register.specs.Bytes.{room, stateOf}
+use Rattle.register.specs.Layout.{siad}
+use Rattle.register.specs.Sound.{isSound}
+use Rattle.register.specs.Stored.{Stored}
+use Rattle.schema.specs.Shape.{faultOf}
+use Rattle.tracks.specs.Track1.{track1}
+use Rattle.tracks.specs.Record.{Head, Admission, Record, admission, headOf, admissionOf}
+use Rattle.tracks.specs.View.{IsAdmission}
+use Rattle.tracks.specs.declared.record.HeadRead.{HeadRead}
+use Rattle.tracks.specs.declared.record.AdmissionRead.{AdmissionRead}
+use Rattle.checks.specs.Flow.{next}
+use Rattle.checks.specs.Tests.{Context}
+use Rattle.checks.specs.Checks.{checksOf}
+use Rattle.checks.specs.Readable.{Readable}
+use Rattle.checks.proofs.Accepted.{numbered}
+use Rattle.checks.proofs.RowsAllowed.{case-fits}
+use Rattle.checks.proofs.WellReadable.{readable}
+use Rattle.judge.specs.View.{IsOf, IsAdmitted}
+use Rattle.intake.specs.Taking.{Here, Took}
+use Rattle.intake.proofs.SoundBytes.{sound-stored}
+use Rattle.intake.proofs.RecordRead.{record-1, HeadHeld}
+use Rattle.intake.proofs.RecordTaken.{discarded, accepted}
+
+module _ (s : List ℕ) (at : ℕ) (r : AdmissionRead)
+    (told : (a : Tree) (m : List ℕ) → element belowRoot (drop at s) ≡ read a m → faultOf (track1 .each) a ≡ 0 → IsAdmission s r (admissionOf a))
+    (a : Tree) (x : Here 1 s at a) where
+  is-admission : IsAdmission s r (admissionOf a)
+  is-admission = told a (x .after) (x .reads) (x .good .clean)
+
+  readable-1 : Readable (admission (headOf a) (admissionOf a))
+  readable-1 = readable (admission (headOf a) (admissionOf a)) (rw (record-1 a) at (x .good .well))
+
+  pub five : length (r .prevalente) ≡ 5
+  five = ap length (is-admission .prevalente) ∙ readable-1 .1 .prevalente-length
+
+  pub six : length (r .scales) ≡ 6
+  six = ap length (is-admission .scales) ∙ readable-1 .1 .scales-length
+
+  case-is : admissionOf a .case ≡ caseOf (r .birth) (r .prevalente) (r .scales)
+  case-is = λ i.
+      record { birth = sym (is-admission .birth) i; prevalente = sym (is-admission .prevalente) i; scales = sym (is-admission .scales) i }
+
+  abbrev said : Record
+  said = admission (headOf a) (admissionOf a)
+
+  module _ (h : HeadRead) (asl id probe : List ℕ) (held : HeadHeld h asl id probe (headOf a))
+      (region home comune stato : List ℕ) (er : region ≡ part s (r .region .start) (r .region .end)) (eh : home ≡ part s (r .asl .start) (r .asl .end))
+      (ec : comune ≡ part s (r .comune .start) (r .comune .end)) (es : stato ≡ part s (r .stato .start) (r .stato .end))
+      (reg : List ℕ) (f : Fit (each 8 reg)) (sound : isSound reg ≡ true) (c : Context) (n : ℕ)
+      (judge-told : (g : Head) (b : Admission) → IsOf probe (h .tipo) (h .day) g → IsAdmitted (r .birth) (r .prevalente) region home comune stato b →
+      isSound reg ≡ true → n ≡ first (checksOf c (admission g b)) (stateOf siad reg)) where
+    is-admitted : IsAdmitted (r .birth) (r .prevalente) region home comune stato (admissionOf a)
+    is-admitted =
+        record {
+          birth = is-admission .birth;
+          prevalente = is-admission .prevalente;
+          region = er ∙ is-admission .region;
+          asl = eh ∙ is-admission .asl;
+          comune = ec ∙ is-admission .comune;
+          stato = es ∙ is-admission .stato;
+        }
+
+    judged : n ≡ first (checksOf c said) (stateOf siad reg)
+    judged = judge-told (headOf a) (admissionOf a) (held .is-of) is-admitted sound
+
+    -- 11 bounds the birth year
+    pub case-held : n ≡ 0 → CaseFits (caseOf (r .birth) (r .prevalente) (r .scales))
+    case-held z =
+        subst CaseFits case-is
+        (case-fits (headOf a .key) (admissionOf a .case) (readable-1 .0) (readable-1 .1)
+        (clear 11 (checksOf c said) (stateOf siad reg) (numbered c said) (sym judged ∙ z)))
+
+    pub case-discarded : (n ≡ 0 → ⊥) → Took 1 c reg a n reg
+    case-discarded z = discarded 1 a said (record-1 a) c reg f sound n judged z
+
+    pub case-accepted : n ≡ 0 → c .room ≡ room siad (length reg) → (later : List ℕ) →
+        ((g : Head) (b : Admission) (t : State ℕ ℕ) (d : Context) → g .key ≡ keyOf (h .region) asl (h .day) id → h .tipo ≡ g .tipo →
+        b .case ≡ caseOf (r .birth) (r .prevalente) (r .scales) → d .room ≡ room siad (length reg) → Stored siad reg t →
+        first (checksOf d (admission g b)) t ≡ 0 → Stored siad later (next (admission g b) t)) →
+        length later ≡ length reg → Took 1 c reg a n later
+    case-accepted z q later apply-told l =
+        accepted 1 a said (record-1 a) c reg f sound n judged later z
+        (apply-told (headOf a) (admissionOf a) (stateOf siad reg) c (held .key) (held .is-of .tipo) case-is q
+        (sound-stored reg f sound) (sym judged ∙ z))
+        l

@@ -1,0 +1,111 @@
+-- A record that stands at a place: the same for tracks alike, and its head and key as the code holds them.
+use Prim.Native.Nat.{ℕ, _+_, _≤_, _<_}
+use mathlib.Core.Path.{_≡_, refl, sym, ap, _∙_, subst}
+use mathlib.Core.Bool.{Bool, true, false, cond}
+use mathlib.Core.List.{List}
+use native.Mathlib.Omega.{arith}
+use lib.Dec.{eqb}
+use lib.ListN.{length, drop, length-take, length-drop}
+use Rattle.rows.specs.Row.{keyOf, keyNumber, KeyFits}
+use Rattle.markup.specs.Reading.Read.{read}
+use Rattle.markup.specs.Elements.{Tree, element}
+use Rattle.markup.specs.View.{part}
+use Rattle.reading.specs.Many.{belowRoot}
+use Rattle.register.specs.Search as search
+use Rattle.schema.specs.Shape.{faultOf}
+use Rattle.tracks.specs.Track1.{track1}
+use Rattle.tracks.specs.Track2.{track2}
+use Rattle.tracks.specs.Record.{Head, Record, admission, events, headOf, admissionOf, eventsOf, recordOf}
+use Rattle.tracks.specs.View.{eachOf, IsHead}
+use Rattle.tracks.specs.WellRead.{WellRead}
+use Rattle.tracks.specs.declared.record.HeadRead.{HeadRead}
+use Rattle.checks.specs.Flow.{headIn}
+use Rattle.checks.specs.Tests.{Context}
+use Rattle.checks.specs.Readable.{Readable}
+use Rattle.checks.proofs.WellReadable.{readable}
+use Rattle.judge.specs.View.{IsOf}
+use Rattle.intake.specs.Taking.{Here, Took}
+
+-- ---- a record of either track
+
+-- tracks that are both 1, or both not
+module _ (j k : ℕ) (e : eqb j 1 ≡ eqb k 1) (a : Tree) where
+  pub same-record : recordOf j a ≡ recordOf k a
+  unfolding recordOf
+  same-record = rw e
+
+  pub same-here : {s : List ℕ} {at : ℕ} → Here j s at a → Here k s at a
+  same-here h =
+      record {
+        good =
+            record {
+              clean = subst (λ (b : Bool). faultOf (cond b (track1 .each) (track2 .each)) a ≡ 0) e (h .good .clean);
+              well = subst WellRead same-record (h .good .well);
+              few = λ n. h .good .few (e ∙ n);
+            };
+        after = h .after;
+        reads = h .reads;
+      }
+
+  pub same-took : {c : Context} {before later : List ℕ} {r : ℕ} → Took k c before a r later → Took j c before a r later
+  same-took t = record { answer = rw same-record (t .answer); register = rw same-record (t .register) }
+
+pub record-1 : (a : Tree) → recordOf 1 a ≡ admission (headOf a) (admissionOf a)
+unfolding recordOf
+record-1 a = refl
+
+pub record-2 : (a : Tree) → recordOf 2 a ≡ events (headOf a) (eventsOf a)
+unfolding recordOf
+record-2 a = refl
+
+key-readable : (r : Record) → Readable r → KeyFits (headIn r .key)
+key-readable (admission h a) w = w .0 .fits
+key-readable (events h es) w = w .0 .fits
+
+head-is : (k : ℕ) (a : Tree) → headIn (recordOf k a) ≡ headOf a
+unfolding recordOf
+head-is k a = go (eqb k 1)
+  where
+    go : (b : Bool) → headIn (cond b (admission (headOf a) (admissionOf a)) (events (headOf a) (eventsOf a))) ≡ headOf a
+    go true = refl
+    go false = refl
+
+-- what the code holds of a head: the key's parts, and the type and the taking in with the probe
+pub record HeadHeld (r : HeadRead) (asl id probe : List ℕ) (h : Head) : Type 0 where
+  pub key : h .key ≡ keyOf (r .region) asl (r .day) id
+  pub is-of : IsOf probe (r .tipo) (r .day) h
+
+-- a part that is as long as it was asked for lies within
+within : (s : List ℕ) (at n : ℕ) → 0 < n → length (part s at (at + n)) ≡ n → at + n ≤ length s
+within s at n p e = omega (arith, simp (length-take, length-drop) at e)
+
+module _ (s : List ℕ) (at : ℕ) (r : HeadRead)
+    (told : (track : ℕ) (a : Tree) (m : List ℕ) → element belowRoot (drop at s) ≡ read a m → faultOf (eachOf track) a ≡ 0 → IsHead s r (headOf a))
+    (k : ℕ) (a : Tree) (x : Here k s at a) where
+  is-head : IsHead s r (headOf a)
+  is-head = told k a (x .after) (x .reads) (x .good .clean)
+
+  fits : KeyFits (headOf a .key)
+  fits = rw (head-is k a) at (key-readable (recordOf k a) (readable (recordOf k a) (x .good .well)))
+
+  pub asl-within : r .asl + 3 ≤ length s
+  asl-within = within s (r .asl) 3 (omega arith) (ap length (is-head .asl) ∙ fits .asl-length)
+
+  pub id-within : r .id + 88 ≤ length s
+  id-within = within s (r .id) 88 (omega arith) (ap length (is-head .id) ∙ fits .id-length)
+
+  module _ (asl id : List ℕ) (ea : asl ≡ part s (r .asl) (r .asl + 3)) (ei : id ≡ part s (r .id) (r .id + 88)) where
+    key-is : headOf a .key ≡ keyOf (r .region) asl (r .day) id
+    key-is = λ i.
+        record {
+          region = sym (is-head .region) i;
+          asl = sym (ea ∙ is-head .asl) i;
+          taken = sym (is-head .taken) i;
+          id = sym (ei ∙ is-head .id) i;
+        }
+
+    pub key-fits : KeyFits (keyOf (r .region) asl (r .day) id)
+    key-fits = subst KeyFits key-is fits
+
+    pub head-held : (probe : List ℕ) → search.keyOf 91 662 probe ≡ keyNumber (keyOf (r .region) asl (r .day) id) → HeadHeld r asl id probe (headOf a)
+    head-held probe e = record { key = key-is; is-of = record { key = e ∙ sym (ap keyNumber key-is); tipo = is-head .tipo; taken = is-head .taken } }

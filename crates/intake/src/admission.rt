@@ -1,0 +1,60 @@
+// A record of Track 1: judged, and its case's row stored where it is accepted.
+ghost use mathlib.Core.Path.{_≡_};
+ghost use mathlib.Core.Bool.{true};
+ghost use lib.ListN.{length};
+ghost use Rattle.days.specs.Table.{Firsts};
+ghost use Rattle.markup.specs.Elements.{Tree};
+ghost use Rattle.register.specs.Bytes.{room};
+ghost use Rattle.register.specs.Layout.{siad};
+ghost use Rattle.register.specs.Sound.{isSound};
+ghost use Rattle.judge.specs.View.{contextIn};
+ghost use Rattle.intake.specs.Taking.{Here, Took};
+use crate::probe::probe_of;
+use apply::apply_case;
+use judge::Limits;
+use judge::judge::judge_admission;
+use markup::bytes::part;
+use tracks::record::admission;
+use tracks::record::head;
+
+// The record of Track 1 at a place: its answer.
+pub fn take_admission(t: &[u32; 2400], l: Limits, s: &[u8], at: usize, reg: &mut [u8]) -> u8
+    requires { ⌜ Firsts (now t) × ((a : Tree) × Here 1 (now s) at a) × (isSound (now reg) ≡ true) × (l .room ≡ room siad (length (now reg))) ⌝ }
+    ensures { λ r. ⌜ ((a : Tree) → Here 1 (now (s .entry)) at a → Took 1 (contextIn l) (now (reg .entry)) a r (now (reg .exit))) ⌝ }
+{
+    let h = head(t, s, at);
+    let a = admission(s, at);
+    let asl = part(s, h.asl, h.asl + 3);
+    let id = part(s, h.id, h.id + 88);
+    let probe = probe_of(h.region, asl, h.day, id);
+    let main = a.prevalente;
+    let scales = a.scales;
+    let answer = judge_admission(
+        t,
+        reg,
+        l,
+        h.tipo,
+        h.day,
+        &probe,
+        a.birth,
+        &main,
+        part(s, a.region.start, a.region.end),
+        part(s, a.asl.start, a.asl.end),
+        part(s, a.comune.start, a.comune.end),
+        part(s, a.stato.start, a.stato.end),
+    );
+    if answer == 0 {
+        apply_case(
+            reg,
+            h.tipo,
+            h.region,
+            asl,
+            h.day,
+            id,
+            a.birth,
+            &main,
+            &scales,
+        );
+    }
+    answer
+}

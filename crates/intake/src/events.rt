@@ -1,0 +1,46 @@
+// A record of Track 2: judged, and its events' rows stored where it is accepted.
+ghost use mathlib.Core.Path.{_≡_};
+ghost use mathlib.Core.Bool.{true};
+ghost use lib.ListN.{length};
+ghost use Rattle.days.specs.Table.{Firsts};
+ghost use Rattle.markup.specs.Elements.{Tree};
+ghost use Rattle.register.specs.Bytes.{room};
+ghost use Rattle.register.specs.Layout.{siad};
+ghost use Rattle.register.specs.Sound.{isSound};
+ghost use Rattle.judge.specs.View.{contextIn};
+ghost use Rattle.intake.specs.Taking.{Here, Took};
+use crate::probe::probe_of;
+use apply::apply_events;
+use judge::Limits;
+use judge::judge::judge_events;
+use markup::bytes::part;
+use tracks::events::events;
+use tracks::record::head;
+
+// The record of Track 2 at a place: its answer.
+pub fn take_events(t: &[u32; 2400], l: Limits, s: &[u8], at: usize, reg: &mut [u8]) -> u8
+    requires { ⌜ Firsts (now t) × ((a : Tree) × Here 2 (now s) at a) × (isSound (now reg) ≡ true) × (l .room ≡ room siad (length (now reg))) ⌝ }
+    ensures { λ r. ⌜ ((a : Tree) → Here 2 (now (s .entry)) at a → Took 2 (contextIn l) (now (reg .entry)) a r (now (reg .exit))) ⌝ }
+{
+    let h = head(t, s, at);
+    let mut evs = [0u64; 128];
+    let said = events(t, s, at, &mut evs);
+    let n = said.count;
+    let asl = part(s, h.asl, h.asl + 3);
+    let id = part(s, h.id, h.id + 88);
+    let probe = probe_of(h.region, asl, h.day, id);
+    let answer = judge_events(
+        reg,
+        l,
+        h.tipo,
+        h.day,
+        &probe,
+        &evs[..n],
+        said.bad_conferma,
+        said.zero_prevalente,
+    );
+    if answer == 0 {
+        apply_events(reg, h.tipo, h.region, asl, h.day, id, &evs[..n]);
+    }
+    answer
+}

@@ -1,0 +1,33 @@
+// One record: judged, and stored where it is accepted.
+ghost use mathlib.Core.Path.{_≡_};
+ghost use mathlib.Core.Bool.{true};
+ghost use lib.ListN.{length};
+ghost use Rattle.days.specs.Table.{Firsts};
+ghost use Rattle.markup.specs.Elements.{Tree};
+ghost use Rattle.register.specs.Bytes.{room};
+ghost use Rattle.register.specs.Layout.{siad};
+ghost use Rattle.register.specs.Sound.{isSound};
+ghost use Rattle.judge.specs.View.{contextIn};
+ghost use Rattle.intake.specs.Taking.{Here, Took};
+use crate::admission::take_admission;
+use crate::events::take_events;
+use judge::Limits;
+
+// The record at a place: its answer.
+pub fn take_record(
+    t: &[u32; 2400],
+    l: Limits,
+    track: u64,
+    s: &[u8],
+    at: usize,
+    reg: &mut [u8],
+) -> u8
+    requires { ⌜ Firsts (now t) × ((a : Tree) × Here track (now s) at a) × (isSound (now reg) ≡ true) × (l .room ≡ room siad (length (now reg))) ⌝ }
+    ensures { λ r. ⌜ ((a : Tree) → Here track (now (s .entry)) at a → Took track (contextIn l) (now (reg .entry)) a r (now (reg .exit))) ⌝ }
+{
+    if track == 1 {
+        take_admission(t, l, s, at, reg)
+    } else {
+        take_events(t, l, s, at, reg)
+    }
+}
