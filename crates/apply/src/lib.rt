@@ -9,30 +9,20 @@ ghost use Rattle.laws.specs.Lists.{all};
 ghost use Rattle.rows.specs.Row.{rowBytes, eventBits, keyOf, caseOf, KeyFits, CaseFits};
 ghost use Rattle.model.specs.Checks.{first};
 ghost use Rattle.model.specs.Flow.{State};
-ghost use Rattle.model.specs.Transmission.{isCancel};
 ghost use Rattle.register.specs.Bytes.{room};
 ghost use Rattle.register.specs.Layout.{siad};
 ghost use Rattle.register.specs.Stored.{Stored};
 ghost use Rattle.register.specs.View.{groupOf};
 ghost use Rattle.tracks.specs.Record.{Head, Admission, Said, admission, events};
-ghost use Rattle.checks.specs.Flow.{kindOf, next};
+ghost use Rattle.checks.specs.Flow.{next};
 ghost use Rattle.checks.specs.Tests.{Context, eventsIn};
 ghost use Rattle.checks.specs.Checks.{checksOf};
 ghost use Rattle.apply.specs.Changes.{Changed};
+use checks::kinds::cancels;
 use register::layout::CASE_KEY;
 use register::layout::EVENT_KEY;
 use register::layout::ROW;
 use register::store::Part;
-
-// Whether a record of this type takes its rows out: I and V put them in.
-fn cancels(tipo: u8) -> bool
-    ensures { λ r. ⌜ r ≡ isCancel (kindOf tipo) ⌝ }
-{
-    if tipo == b'I' {
-        return false;
-    }
-    tipo != b'V'
-}
 
 // A row of a group, whose keys have `kbits` bits, put in or taken out.
 fn change(reg: &mut [u8], part: Part, kbits: usize, out: bool, row: &[u8])

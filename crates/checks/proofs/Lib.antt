@@ -1,3 +1,4 @@
+pub mod RecordTypes
 pub mod Accepted
 pub mod RowTests
 pub mod ReadBack

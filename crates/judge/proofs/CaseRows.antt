@@ -1,14 +1,13 @@
 -- A record's case in a sound register: whether it stands, and its events' rows.
 use Prim.Native.Nat.{ℕ, _+_, _-_, _/_, _^_, _≤_, _<_}
-use mathlib.Core.Path.{_≡_, refl, sym, _∙_}
-use mathlib.Core.Bool.{Bool, true, false, cond, not, _&&_}
+use mathlib.Core.Path.{_≡_, sym, _∙_}
+use mathlib.Core.Bool.{Bool, true, _&&_}
 use mathlib.Core.List.{List}
 use native.Mathlib.Omega.{arith}
 use lib.Dec.{eqb, ltb}
 use lib.ListN.{length}
 use Rattle.rows.specs.Pack.{each, Fit}
 use Rattle.model.specs.Map.{Row, has}
-use Rattle.model.specs.Transmission.{insert, vary, cancel, isInsert, isCancel}
 use Rattle.register.specs.Layout.{siad, caseRest, eventRest, caseOf}
 use Rattle.register.specs.Bytes.{split, rowAt, rowIn, casesHeld, eventsHeld, eventsFrom, stateOf}
 use Rattle.register.specs.Fields.{eventIn, eventKeyOf}
@@ -21,7 +20,6 @@ use Rattle.register.proofs.Halving.{at-key}
 use Rattle.register.proofs.SoundLaws.{sound-valid, sound-is-stored}
 use Rattle.register.proofs.States.{laid-siad}
 use Rattle.soundness.proofs.FindPlace.{keys-rise}
-use Rattle.checks.specs.Flow.{kindOf}
 use Rattle.checks.proofs.Valid.{Sound}
 use Rattle.judge.specs.Standing.{Climbs, OfCase}
 
@@ -95,21 +93,3 @@ case-rows reg v n rows lo hi f e g w r =
   where
     held : Ranged (keyAt 91 662 reg) v (casesHeld reg) (casesHeld reg + eventsHeld reg) lo hi
     held = rw (← g, ← e) r
-
--- ---- a record's type
-
-pub insert-is : (t : ℕ) → eqb t 73 ≡ isInsert (kindOf t)
-insert-is t = go (eqb t 73) (eqb t 86)
-  where
-    go : (a b : Bool) → a ≡ isInsert (cond a insert (cond b vary cancel))
-    go true b = refl
-    go false true = refl
-    go false false = refl
-
-pub cancel-is : (t : ℕ) → not (eqb t 73) && not (eqb t 86) ≡ isCancel (kindOf t)
-cancel-is t = go (eqb t 73) (eqb t 86)
-  where
-    go : (a b : Bool) → not a && not b ≡ isCancel (cond a insert (cond b vary cancel))
-    go true b = refl
-    go false true = refl
-    go false false = refl

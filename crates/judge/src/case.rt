@@ -1,16 +1,14 @@
-// A record's case in a sound register, and the type of a record.
+// A record's case in a sound register.
 ghost use mathlib.Core.Path.{_≡_};
 ghost use mathlib.Core.Bool.{true};
 ghost use Prim.Native.Nat.{_+_, _≤_, _<_};
 ghost use lib.ListN.{length};
 ghost use Rattle.rows.specs.Row.{rowBytes, keyBits};
 ghost use Rattle.model.specs.Map.{has};
-ghost use Rattle.model.specs.Transmission.{isInsert, isCancel};
 ghost use Rattle.register.specs.Bytes.{rowAt, casesHeld, eventsHeld, stateOf};
 ghost use Rattle.register.specs.Layout.{siad};
 ghost use Rattle.register.specs.Search.{keyOf};
 ghost use Rattle.register.specs.Sound.{isSound};
-ghost use Rattle.checks.specs.Flow.{kindOf};
 ghost use Rattle.judge.specs.Standing.{OfCase};
 use register::counts::count;
 use register::layout::CASE_KEY;
@@ -19,18 +17,6 @@ use register::search::Span;
 use register::search::case_range;
 use register::search::place;
 use register::search::stands;
-
-pub fn inserts(tipo: u8) -> bool
-    ensures { λ r. ⌜ r ≡ isInsert (kindOf tipo) ⌝ }
-{
-    tipo == b'I'
-}
-
-pub fn cancels(tipo: u8) -> bool
-    ensures { λ r. ⌜ r ≡ isCancel (kindOf tipo) ⌝ }
-{
-    (tipo != b'I') & (tipo != b'V')
-}
 
 // The rows standing.
 pub fn rows_held(reg: &[u8]) -> usize

@@ -26,15 +26,15 @@ use crate::Limits;
 use crate::admission::bad_birth;
 use crate::admission::bad_residence;
 use crate::admission::zero_kept;
-use crate::case::cancels;
 use crate::case::case_events;
 use crate::case::case_stands;
-use crate::case::inserts;
 use crate::case::rows_held;
 use crate::clashes::clashes;
 use crate::events::any_wrong;
 use crate::events::out_of_quarter;
 use crate::standing::some_event;
+use checks::kinds::cancels;
+use checks::kinds::inserts;
 
 // Against a case that stands, whose events are the rows from lo up to hi: 14, 15, 25 to 28, 17.
 fn against_standing(

@@ -1,0 +1,16 @@
+// The type of a record: I, V or C.
+ghost use mathlib.Core.Path.{_≡_};
+ghost use Rattle.model.specs.Transmission.{isInsert, isCancel};
+ghost use Rattle.checks.specs.Flow.{kindOf};
+
+pub fn inserts(tipo: u8) -> bool
+    ensures { λ r. ⌜ r ≡ isInsert (kindOf tipo) ⌝ }
+{
+    tipo == b'I'
+}
+
+pub fn cancels(tipo: u8) -> bool
+    ensures { λ r. ⌜ r ≡ isCancel (kindOf tipo) ⌝ }
+{
+    (tipo != b'I') & (tipo != b'V')
+}
