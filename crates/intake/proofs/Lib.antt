@@ -8,3 +8,7 @@ pub mod RecordRead
 pub mod RecordTaken
 pub mod EventsTaken
 pub mod CaseTaken
+pub mod Along
+pub mod Going
+pub mod Filing
+pub mod Submitting

@@ -49,7 +49,7 @@ each-record : (k : ℕ) (ts : List Tree) → within.Every (λ t. WellRead (recor
 each-record k [] h = tt
 each-record k (t ∷ ts) h = (readable (recordOf k t) (h .0), each-record k ts (h .1))
 
-either : (a b : Bool) → a || b ≡ true → (a ≡ true) ⊎ (b ≡ true)
+pub either : (a b : Bool) → a || b ≡ true → (a ≡ true) ⊎ (b ≡ true)
 either true b h = inl refl
 either false b h = inr h
 

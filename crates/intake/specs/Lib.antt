@@ -4,3 +4,4 @@ pub mod Demands
 pub mod Histories
 pub mod Taking
 pub mod View
+pub mod Kids

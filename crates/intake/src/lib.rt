@@ -1,4 +1,10 @@
 // A file taken into a register (document 01, "Answers for a file").
+pub mod admission;
+pub mod events;
+pub mod probe;
+pub mod record;
+pub mod records;
+pub mod submit;
 
 // The file's answer, the record number, and the counts.
 pub struct Report {
@@ -8,8 +14,3 @@ pub struct Report {
     pub accepted: u64,
     pub discarded: u64,
 }
-
-pub mod admission;
-pub mod events;
-pub mod probe;
-pub mod record;

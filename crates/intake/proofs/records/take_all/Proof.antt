@@ -1,0 +1,121 @@
+-- The invariant: the register and the list, moved on by the records ahead, end as all the records do.
+use Prim.Native.Nat.{_-_}
+use Rattle.intake.proofs.Along.{ends, ends-all}
+use Rattle.intake.proofs.Going.{Going, Kind, going-start, going-end, going-stuck, going-next, going-long, going-on}
+use Rattle.judge.specs.View.{contextIn}
+use Rattle.markup.specs.Elements.{Inside}
+use Rattle.markup.specs.View.{part}
+use Rattle.nodes.specs.Stands.{Holds}
+use Rattle.reading.specs.Many.{belowRoot}
+use Rattle.reading.specs.Within.{kids}
+use Rattle.rows.proofs.Bytes.{fit-of}
+use denote.Ref.{now}
+use lib.ListN.{drop, length}
+use mathlib.Core.Path.{_∙_, _≡_, refl}
+use borrow.Author.Needs.{needs}
+use native.Mathlib.Omega.{arith}
+use Rattle.intake.proofs.records.take_all.Statement.{statement}
+use Rattle.intake.proofs.records.take_all.Tie as tie
+
+abbrev Inv-loop : tie.InvT-loop
+Inv-loop t l track s from name name-end reg₀ answers₀ at₀ tally₀ reg answers at tally =
+    (length reg ≡ length reg₀) × (length answers ≡ length answers₀) × ((i : Inside) → Holds belowRoot (part s name name-end) (drop from s) i → Going track (contextIn l) tally reg answers (ends track (contextIn l) tally₀ reg₀ answers₀ (kids i)) (part s name name-end) (drop at s))
+
+abbrev μ-loop : tie.MeasureT-loop
+μ-loop t l track s from name name-end reg₀ answers₀ at₀ tally₀ reg answers at tally =
+    length s - at
+
+loop-holds : tie.Need-loop-holds Inv-loop μ-loop
+loop-holds c =
+    let k : Kind (contextIn (c .before .before .before .args .l)) (now (c .before .before .before .args .reg)) = record { fit = fit-of 8 (now (c .before .before .before .args .reg)) (λ i. c .before .slice-known .given i .fits); sound = c .before .before .before .pre .2; room-is = c .before .before .before .pre .3 } in
+    (refl, refl, λ i w. going-start (c .before .before .before .args .track) (contextIn (c .before .before .before .args .l)) (now (c .before .before .before .args .reg)) (now (c .before .before .before .args .answers)) k (c .before .before .before .pre .1 .1) w)
+
+next-kid-requires : tie.Need-next-kid-requires Inv-loop μ-loop
+next-kid-requires c κs = search needs
+
+enum-known-q : tie.Need-enum-known-q Inv-loop μ-loop
+enum-known-q c = search needs
+
+enum-told : tie.Need-enum-told Inv-loop μ-loop
+enum-told c = search needs
+
+same-length : tie.Need-same-length Inv-loop μ-loop
+same-length c = search needs
+
+same-length-2 : tie.Need-same-length-2 Inv-loop μ-loop
+same-length-2 c = search needs
+
+returns : tie.Need-returns Inv-loop μ-loop
+returns c =
+    let k = rw (c .enum-told .given .1) at (c .before .before .next-kid .ensures) in
+    λ i w. let g = c .before .before .before .loop .inv .2 i w in
+    ends-all (c .before .before .before .before .before .before .before .args .track) (contextIn (c .before .before .before .before .before .before .before .args .l)) (now (c .before .before .before .before .before .before .before .args .reg)) (now (c .before .before .before .before .before .before .before .args .answers)) (kids i) (going-end (c .before .before .before .before .before .before .before .args .track) (contextIn (c .before .before .before .before .before .before .before .args .l)) g (k .0 _ _ (g .holds)))
+
+element-requires : tie.Need-element-requires Inv-loop μ-loop
+element-requires c κs = search needs
+
+enum-known-done : tie.Need-enum-known-done Inv-loop μ-loop
+enum-known-done c = search needs
+
+enum-told-2 : tie.Need-enum-told-2 Inv-loop μ-loop
+enum-told-2 c = search needs
+
+same-length-3 : tie.Need-same-length-3 Inv-loop μ-loop
+same-length-3 c = search needs
+
+same-length-4 : tie.Need-same-length-4 Inv-loop μ-loop
+same-length-4 c = search needs
+
+returns-2 : tie.Need-returns-2 Inv-loop μ-loop
+returns-2 c =
+    let k = rw (c .before .before .before .before .q .given .1) at (c .before .before .before .before .before .before .next-kid .ensures) in
+    let y = rw (c .enum-told2 .given .1) at (c .before .before .element .ensures) in
+    λ i w. let g = c .before .before .before .before .before .before .before .loop .inv .2 i w in going-stuck (c .before .before .before .before .before .before .before .before .before .before .before .args .track) (contextIn (c .before .before .before .before .before .before .before .before .before .before .before .args .l)) g (k .0 _ _ (g .holds)) (y .0)
+
+take-kid-requires : tie.Need-take-kid-requires Inv-loop μ-loop
+take-kid-requires c κs =
+    let k = rw (c .before .before .before .before .before .before .before .q .given .1) at (c .before .before .before .before .before .before .before .before .before .next-kid .ensures) in
+    let g = c .before .before .before .before .before .before .before .before .before .before .loop .inv .2 (c .before .before .before .before .before .before .before .before .before .before .before .before .before .before .pre .1 .0) (c .before .before .before .before .before .before .before .before .before .before .before .before .before .before .pre .1 .1 .holds) in
+    let a = k .0 _ _ (g .holds) in
+    (c .before .before .before .before .before .before .before .before .before .before .before .before .before .before .pre .0, (a .tree, going-next (c .before .before .before .before .before .before .before .before .before .before .before .before .before .before .args .track) (contextIn (c .before .before .before .before .before .before .before .before .before .before .before .before .before .before .args .l)) g a refl), g .kind .sound, g .kind .room-is)
+
+loop-less : tie.Need-loop-less Inv-loop μ-loop
+loop-less c =
+    let k = rw (c .before .before .before .before .before .before .before .before .before .before .before .before .q .given .1) at (c .before .before .before .before .before .before .before .before .before .before .before .before .before .before .next-kid .ensures) in
+    let y = rw (c .before .before .before .before .before .before .before .before .done .given .1) at (c .before .before .before .before .before .before .before .before .before .before .element .ensures) in
+    omega arith
+
+loop-again : tie.Need-loop-again Inv-loop μ-loop
+loop-again c =
+    let k = rw (c .before .before .before .before .before .before .before .before .before .before .before .before .q .given .1) at (c .before .before .before .before .before .before .before .before .before .before .before .before .before .before .next-kid .ensures) in
+    let y = rw (c .before .before .before .before .before .before .before .before .done .given .1) at (c .before .before .before .before .before .before .before .before .before .before .element .ensures) in
+    let g = c .before .before .before .before .before .before .before .before .before .before .before .before .before .before .before .loop .inv .2 (c .before .before .before .before .before .before .before .before .before .before .before .before .before .before .before .before .before .before .before .pre .1 .0) (c .before .before .before .before .before .before .before .before .before .before .before .before .before .before .before .before .before .before .before .pre .1 .1 .holds) in
+    let a = k .0 _ _ (g .holds) in
+    let z = going-long (c .before .before .before .before .before .before .before .before .before .before .before .before .before .before .before .before .before .before .before .args .track) (contextIn (c .before .before .before .before .before .before .before .before .before .before .before .before .before .before .before .before .before .before .before .args .l)) g a (c .before .before .before .before .take-kid .ensures (a .tree) (going-next (c .before .before .before .before .before .before .before .before .before .before .before .before .before .before .before .before .before .before .before .args .track) (contextIn (c .before .before .before .before .before .before .before .before .before .before .before .before .before .before .before .before .before .before .before .args .l)) g a refl)) in (
+      z .0 ∙ c .before .before .before .before .before .before .before .before .before .before .before .before .before .before .before .loop .inv .0,
+      z .1 ∙ c .before .before .before .before .before .before .before .before .before .before .before .before .before .before .before .loop .inv .1,
+      λ i w. let g = c .before .before .before .before .before .before .before .before .before .before .before .before .before .before .before .loop .inv .2 i w in let a = k .0 _ _ (g .holds) in going-on (c .before .before .before .before .before .before .before .before .before .before .before .before .before .before .before .before .before .before .before .args .track) (contextIn (c .before .before .before .before .before .before .before .before .before .before .before .before .before .before .before .before .before .before .before .args .l)) g a (c .before .before .before .before .take-kid .ensures (a .tree) (going-next (c .before .before .before .before .before .before .before .before .before .before .before .before .before .before .before .before .before .before .before .args .track) (contextIn (c .before .before .before .before .before .before .before .before .before .before .before .before .before .before .before .before .before .before .before .args .l)) g a refl)) (y .0),
+    )
+
+pub take-all-spec : {M : Type 1} → statement M
+take-all-spec =
+    tie.close
+    (tie.spec
+    Inv-loop
+    μ-loop
+    loop-holds
+    next-kid-requires
+    enum-known-q
+    enum-told
+    same-length
+    same-length-2
+    returns
+    element-requires
+    enum-known-done
+    enum-told-2
+    same-length-3
+    same-length-4
+    returns-2
+    take-kid-requires
+    loop-less
+    loop-again)

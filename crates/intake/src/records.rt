@@ -1,0 +1,127 @@
+// The records of a file, each judged against the register that the earlier ones left.
+ghost use mathlib.Core.Path.{_≡_};
+ghost use mathlib.Core.Bool.{true};
+ghost use lib.ListN.{length, drop};
+ghost use Rattle.days.specs.Table.{Firsts};
+ghost use Rattle.markup.specs.Elements.{Inside, Tree};
+ghost use Rattle.markup.specs.View.{part};
+ghost use Rattle.reading.specs.Many.{belowRoot};
+ghost use Rattle.reading.specs.Within.{kids};
+ghost use Rattle.nodes.specs.Stands.{Holds};
+ghost use Rattle.register.specs.Bytes.{room};
+ghost use Rattle.register.specs.Layout.{siad};
+ghost use Rattle.register.specs.Sound.{isSound};
+ghost use Rattle.schema.specs.Shape.{namedIn, recordsOf};
+ghost use Rattle.tracks.specs.Record.{schemaOf};
+ghost use Rattle.judge.specs.View.{contextIn};
+ghost use Rattle.intake.specs.Taking.{TookAll};
+ghost use Rattle.intake.specs.Kids.{assistenza, Next, TookKid, Stretch, Whole};
+use crate::record::take_record;
+use judge::Limits;
+use markup::Cursor;
+use markup::Move;
+use markup::Start;
+use nodes::Kid;
+use nodes::children::is_named;
+use nodes::children::next_kid;
+
+// How many records there were, and how many of them were accepted.
+pub struct Tally {
+    pub records: usize,
+    pub accepted: usize,
+}
+
+// The root's child at a place: a record is judged and stored, and its answer written.
+fn take_kid(
+    t: &[u32; 2400],
+    l: Limits,
+    track: u64,
+    s: &[u8],
+    at: usize,
+    before: Tally,
+    reg: &mut [u8],
+    answers: &mut [u8],
+) -> Tally
+    requires { ⌜ Firsts (now t) × ((a : Tree) × Next track (now s) at before (length (now answers)) a) × (isSound (now reg) ≡ true) × (l .room ≡ room siad (length (now reg))) ⌝ }
+    ensures { λ r. ⌜ ((a : Tree) → Next track (now (s .entry)) at before (length (now (answers .entry))) a → TookKid track (contextIn l) before (now (reg .entry)) (now (answers .entry)) a r (now (reg .exit)) (now (answers .exit))) ⌝ }
+{
+    if !is_named(s, at, b"Assistenza") {
+        return before;
+    }
+    let answer = take_record(t, l, track, s, at, reg);
+    let n = before.records;
+    answers[n] = answer;
+    if answer == 0 {
+        return Tally {
+            records: n + 1,
+            accepted: before.accepted + 1,
+        };
+    }
+    Tally {
+        records: n + 1,
+        accepted: before.accepted,
+    }
+}
+
+// The records among the children from a place inside the root on: how many were accepted.
+fn take_all(
+    t: &[u32; 2400],
+    l: Limits,
+    track: u64,
+    s: &[u8],
+    from: usize,
+    name: usize,
+    name_end: usize,
+    reg: &mut [u8],
+    answers: &mut [u8],
+) -> usize
+    requires { ⌜ Firsts (now t) × ((i : Inside) × Stretch track (part (now s) name «name_end») (drop from (now s)) (length (now answers)) i) × (isSound (now reg) ≡ true) × (l .room ≡ room siad (length (now reg))) ⌝ }
+    ensures { λ r. ⌜ ((i : Inside) → Holds belowRoot (part (now (s .entry)) name «name_end») (drop from (now (s .entry))) i → TookAll track (contextIn l) (now (reg .entry)) (now (answers .entry)) (namedIn assistenza (kids i)) r (now (reg .exit)) (now (answers .exit))) ⌝ }
+{
+    let mut at = from;
+    let mut tally = Tally {
+        records: 0,
+        accepted: 0,
+    };
+    loop {
+        let Kid::At(q) = next_kid(s, at, name, name_end) else {
+            return tally.accepted;
+        };
+        let here = Cursor { at: q };
+        let Move::To(done) = here.element(s, 11) else {
+            return tally.accepted;
+        };
+        tally = take_kid(t, l, track, s, q, tally, reg, answers);
+        at = done.at;
+    }
+}
+
+// The records of the file whose root stands at a place: how many were accepted.
+pub fn take_file(
+    t: &[u32; 2400],
+    l: Limits,
+    track: u64,
+    s: &[u8],
+    root: usize,
+    records: usize,
+    reg: &mut [u8],
+    answers: &mut [u8],
+) -> usize
+    requires { ⌜ Firsts (now t) × ((tree : Tree) × Whole track (now s) root records (length (now answers)) tree) × (isSound (now reg) ≡ true) × (l .room ≡ room siad (length (now reg))) ⌝ }
+    ensures { λ r. ⌜ ((tree : Tree) → Whole track (now (s .entry)) root records (length (now (answers .entry))) tree → TookAll track (contextIn l) (now (reg .entry)) (now (answers .entry)) (recordsOf (schemaOf track) tree) r (now (reg .exit)) (now (answers .exit))) ⌝ }
+{
+    let here = Cursor { at: root };
+    match here.start(s) {
+        Start::Refused => 0,
+        Start::Shut { .. } => 0,
+        Start::Open {
+            name,
+            name_end,
+            next,
+            ..
+        } => {
+            let from = next.at;
+            take_all(t, l, track, s, from, name, name_end, reg, answers)
+        }
+    }
+}

@@ -1,0 +1,130 @@
+// The whole call: a file answered, and taken into the register where nothing is wrong with it.
+ghost use mathlib.Core.Path.{_≡_};
+ghost use mathlib.Core.Bool.{true, _||_};
+ghost use Prim.Native.Nat.{ℕ};
+ghost use lib.Dec.{eqb};
+ghost use lib.ListN.{length};
+ghost use Rattle.days.specs.Table.{Firsts};
+ghost use Rattle.markup.specs.Elements.{Tree};
+ghost use Rattle.markup.specs.Document.{document};
+ghost use Rattle.register.specs.Bytes.{room};
+ghost use Rattle.register.specs.Layout.{siad};
+ghost use Rattle.register.specs.Sound.{isSound};
+ghost use Rattle.judge.specs.View.{contextIn};
+ghost use Rattle.intake.specs.Submitted.{entriesOf, contextOf, taken, byMarkup, submitted};
+ghost use Rattle.intake.specs.Kids.{Whole, uncounted};
+ghost use Rattle.intake.specs.View.{Says};
+use crate::Report;
+use crate::records::take_file;
+use days::quarters::Quarter;
+use days::quarters::quarter_days;
+use judge::Limits;
+use markup::Document;
+use markup::file::document;
+use schema::file::ShapeAnswer;
+use soundness::sound::room_of;
+use soundness::sound::sound;
+use tracks::shapes::shape_of;
+
+// The longest submission.
+const LONGEST: usize = 1048576;
+
+// A refused file, with the record number that its answer tells.
+fn refused(answer: u64, number: u64) -> Report
+    ensures { λ r. ⌜ r ≡ uncounted answer number ⌝ }
+{
+    Report {
+        answer,
+        number,
+        records: 0,
+        accepted: 0,
+        discarded: 0,
+    }
+}
+
+// A file that passed 1 to 8, its root at a place.
+fn taken(
+    t: &[u32; 2400],
+    l: Limits,
+    track: u64,
+    s: &[u8],
+    root: usize,
+    records: usize,
+    reg: &mut [u8],
+    answers: &mut [u8],
+) -> Report
+    requires { ⌜ Firsts (now t) × ((tree : Tree) × Whole track (now s) root records (length (now answers)) tree) × (isSound (now reg) ≡ true) × (l .room ≡ room siad (length (now reg))) ⌝ }
+    ensures { λ r. ⌜ ((tree : Tree) (year quarter : ℕ) → Whole track (now (s .entry)) root records (length (now (answers .entry))) tree → contextIn l ≡ contextOf year quarter (length (now (reg .entry))) → Says (taken (now (s .entry)) track year quarter (now (reg .entry)) (now (answers .entry)) (entriesOf track tree)) r (now (reg .exit)) (now (answers .exit))) ⌝ }
+{
+    let accepted = take_file(t, l, track, s, root, records, reg, answers);
+    Report {
+        answer: 0,
+        number: 0,
+        records: records as u64,
+        accepted: accepted as u64,
+        discarded: (records - accepted) as u64,
+    }
+}
+
+// From 5 on.
+fn by_markup(
+    t: &[u32; 2400],
+    l: Limits,
+    track: u64,
+    sub: &[u8],
+    reg: &mut [u8],
+    answers: &mut [u8],
+) -> Report
+    requires { ⌜ Firsts (now t) × ((eqb track 1 || eqb track 2) ≡ true) × (isSound (now reg) ≡ true) × (l .room ≡ room siad (length (now reg))) ⌝ }
+    ensures { λ r. ⌜ ((year quarter : ℕ) → contextIn l ≡ contextOf year quarter (length (now (reg .entry))) → Says (byMarkup (now (sub .entry)) track year quarter (now (reg .entry)) (now (answers .entry)) (document (now (sub .entry)))) r (now (reg .exit)) (now (answers .exit))) ⌝ }
+{
+    let Document::Root(c) = document(sub) else {
+        return refused(5, 0);
+    };
+    let root = c.at;
+    match shape_of(t, track, sub, root) {
+        ShapeAnswer::Faulty { number, .. } => refused(6, number as u64),
+        ShapeAnswer::Crowded(number) => refused(7, number as u64),
+        ShapeAnswer::Fine(records) => {
+            if answers.len() < records {
+                refused(8, 0)
+            } else {
+                taken(t, l, track, sub, root, records, reg, answers)
+            }
+        }
+    }
+}
+
+// A submission of a track, for a quarter, to a register: the answers in the order of document 01's table.
+pub fn submit(
+    t: &[u32; 2400],
+    sub: &[u8],
+    track: u64,
+    year: u64,
+    quarter: u64,
+    reg: &mut [u8],
+    answers: &mut [u8],
+) -> Report
+    requires { ⌜ Firsts (now t) ⌝ }
+    ensures { λ r. ⌜ Says (submitted (now (sub .entry)) track year quarter (now (reg .entry)) (now (answers .entry))) r (now (reg .exit)) (now (answers .exit)) ⌝ }
+{
+    let Quarter::Days { first, last } = quarter_days(t, year, quarter) else {
+        return refused(1, 0);
+    };
+    if !((track == 1) | (track == 2)) {
+        return refused(2, 0);
+    }
+    if !sound(t, reg) {
+        return refused(3, 0);
+    }
+    if LONGEST < sub.len() {
+        return refused(4, 0);
+    }
+    let room = room_of(reg.len());
+    let l = Limits {
+        first: first as u64,
+        last: last as u64,
+        room,
+    };
+    by_markup(t, l, track, sub, reg, answers)
+}
