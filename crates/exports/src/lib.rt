@@ -1,7 +1,28 @@
 // The calls for a host in C, one body each, over numbers and byte slices: no caller is trusted, and every lent byte is stated (host/siad.h declares them).
 ghost use mathlib.Core.Path.{_≡_};
 ghost use Rattle.register.specs.Calls.{emptied, soundness, found};
+ghost use Rattle.intake.specs.Submitted.{submitted};
+ghost use Rattle.exports.specs.Told.{Told};
 use soundness::find::Lookup;
+
+// Takes a submission: its answer, and in the report the record number, the records, the accepted and the discarded.
+#[no_mangle]
+pub extern "C" fn siad_submit(
+    sub: &[u8],
+    track: u64,
+    year: u64,
+    quarter: u64,
+    reg: &mut [u8],
+    answers: &mut [u8],
+    report: &mut [u64; 4],
+) -> u64
+    ensures { λ r. ⌜ Told (submitted (now (sub .entry)) track year quarter (now (reg .entry)) (now (answers .entry))) r (now (report .exit)) (now (reg .exit)) (now (answers .exit)) ⌝ }
+{
+    let t = days::table::make();
+    let said = intake::submit::submit(&t, sub, track, year, quarter, reg, answers);
+    *report = [said.number, said.records, said.accepted, said.discarded];
+    said.answer
+}
 
 // Empties a register: 0, or 3 under 4 bytes.
 #[no_mangle]
