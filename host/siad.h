@@ -17,4 +17,10 @@ uint64_t siad_sound(const uint8_t *reg, size_t reg_len);
 uint64_t siad_find(const uint8_t *reg, size_t reg_len, const uint8_t *region, size_t region_len, const uint8_t *asl, size_t asl_len, const uint8_t *date,
                    size_t date_len, const uint8_t *id, size_t id_len, uint64_t *place);
 
+/* Takes a submission of a track, a year and a quarter into a register. Answers 0 to 8 as document 01's "Answers for a file"; `report` gets four numbers: the
+   record number, records, accepted, discarded. With 0, byte i - 1 of `answers` is record i's answer, later bytes stay, and the register holds what the accepted
+   records say; with any other answer all counts are 0 and no byte of register or answer list changes. An answer list as long as the submission never gets 8. */
+uint64_t siad_submit(const uint8_t *sub, size_t sub_len, uint64_t track, uint64_t year, uint64_t quarter, uint8_t *reg, size_t reg_len, uint8_t *answers,
+                     size_t answers_len, uint64_t *report);
+
 #endif

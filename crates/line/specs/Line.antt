@@ -1,0 +1,44 @@
+-- The program's first line (document 01, "The program reads standard input": "track, year and quarter, each of 1 to 4 digits, with one space between, a line
+-- feed, then the submission").
+use Prim.Native.Nat.{ℕ, _+_}
+use mathlib.Core.Bool.{Bool, cond, _&&_}
+use mathlib.Core.List.{List}
+use lib.Dec.{eqb, leb}
+use lib.ListN.{take, drop, getD}
+use Rattle.laws.specs.Decimal.{isDigit, decimal}
+use Rattle.markup.specs.Bytes.{run}
+
+abbrev pub space : ℕ
+space = 32
+
+abbrev pub lineFeed : ℕ
+lineFeed = 10
+
+-- what reading a number answers: there is none, or the number with what is left
+pub data Read : Type 0 where
+  none : Read
+  read : ℕ → List ℕ → Read
+
+-- the n digits at the front are "1 to 4", and the mark stands after them
+abbrev pub marked : ℕ → ℕ → List ℕ → Bool
+marked mark n l = leb 1 n && (leb n 4 && eqb (getD l n 0) mark)
+
+abbrev pub cut : ℕ → ℕ → List ℕ → Read
+cut mark n l = cond (marked mark n l) (read (decimal (take n l)) (drop (n + 1) l)) none
+
+-- all digits at the front, and the mark
+unfoldable pub numberTo : ℕ → List ℕ → Read
+numberTo mark l = cut mark (run isDigit l) l
+
+-- "any other first line"; or track, year, quarter and the submission
+pub data Line : Type 0 where
+  other : Line
+  line : (track year quarter : ℕ) (submission : List ℕ) → Line
+
+abbrev pub taken : Read → (ℕ → List ℕ → Line) → Line
+taken none next = other
+taken (read n l) next = next n l
+
+unfoldable pub firstLine : List ℕ → Line
+firstLine l =
+    taken (numberTo space l) (λ track l. taken (numberTo space l) (λ year l. taken (numberTo lineFeed l) (λ quarter l. line track year quarter l)))

@@ -1,0 +1,4 @@
+// The program: standard input to standard output.
+fn main() {
+    console::run(0);
+}
