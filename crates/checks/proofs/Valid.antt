@@ -8,18 +8,21 @@ use lib.ListN.{length}
 use borrow.Author.Tests.{leb-true, le-leb, ne-eqb, not-true}
 use Rattle.laws.specs.Lists.{all, any}
 use Rattle.laws.proofs.Truth.{or-left}
+use Rattle.rows.specs.Pack.{each, Fit}
 use Rattle.rows.specs.Row.{keyBits, eventKeyBits}
 use Rattle.model.specs.Map.{Row, Map, has}
 use Rattle.model.specs.Flow.{State, Good}
 use Rattle.register.specs.Layout.{siad, caseRest, eventRest, caseOf}
-use Rattle.register.specs.Bytes.{room}
+use Rattle.register.specs.Bytes.{room, stateOf}
 use Rattle.register.specs.Stored.{Fits}
 use Rattle.register.specs.Fields.{takenIn, eventIn, dateOf, endOf}
 use Rattle.register.specs.Events.{isSuspension, pair, t23, t25, t26, t27, t28}
 use Rattle.register.specs.Allowed.{caseRowAllowed, eventRowAllowed}
-use Rattle.register.specs.Sound.{ascending, eventsOf, valid, eventsFree, siadRules}
+use Rattle.register.specs.Sound.{ascending, eventsOf, valid, eventsFree, siadRules, isSound}
 use Rattle.register.proofs.Ascending.{asc-told, asc-tell}
 use Rattle.register.proofs.Every.{or-tell, not-tell}
+use Rattle.register.proofs.States.{laid-siad}
+use Rattle.register.proofs.SoundLaws.{sound-valid, sound-is-stored}
 use Rattle.checks.proofs.RowTests.{all-key, key-all, keep-no}
 
 -- what stands is valid in a register of n bytes, and its rows have their sizes
@@ -27,6 +30,13 @@ pub record Sound (n : ℕ) (s : State ℕ ℕ) : Type 0 where
   pub is-valid : valid siad siadRules n s ≡ true
   pub cases-fit : Fits keyBits (caseRest siad) (s .cases)
   pub events-fit : Fits eventKeyBits (eventRest siad) (s .events)
+
+-- the state of a sound register
+pub sound-state : (reg : List ℕ) → Fit (each 8 reg) → isSound reg ≡ true → Sound (length reg) (stateOf siad reg)
+unfolding isSound
+sound-state reg f h =
+    let s = sound-is-stored reg f h in
+    record { is-valid = sound-valid siad laid-siad siadRules reg f h; cases-fit = s .cases-fit; events-fit = s .events-fit }
 
 -- the events of the case k among m are free of 25 to 28 and 23
 abbrev pub freeOf : ℕ → Map ℕ → Bool

@@ -21,12 +21,12 @@ use Rattle.schema.specs.Shape.{namedIn}
 use Rattle.tracks.specs.Record.{Record, recordOf}
 use Rattle.checks.specs.Tests.{Context}
 use Rattle.checks.specs.Checks.{siadMachine}
-use Rattle.checks.proofs.Valid.{Sound}
+use Rattle.checks.proofs.Valid.{Sound, sound-state}
 use Rattle.checks.proofs.WellReadable.{readable}
 use Rattle.intake.specs.Taking.{Good, Here, Took, TookAll}
 use Rattle.intake.specs.Kids.{assistenza, Next, TookNext, TookKid}
 use Rattle.intake.specs.declared.records.Tally.{Tally}
-use Rattle.intake.proofs.SoundBytes.{sound-stored, sound-long, sound-state, encode-fit, state-long, state-back, state-sound}
+use Rattle.intake.proofs.SoundBytes.{sound-stored, sound-long, encode-fit, state-long, state-back, state-sound}
 use Rattle.intake.proofs.Sound.{run-kept}
 
 abbrev pub tallied : ℕ → ℕ → Tally

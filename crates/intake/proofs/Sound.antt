@@ -33,14 +33,14 @@ use Rattle.checks.specs.Tests.{Context}
 use Rattle.checks.specs.Checks.{siadMachine}
 use Rattle.checks.specs.Readable.{Readable}
 use Rattle.checks.proofs.Accepted.{siad-discarded, siad-conserved}
-use Rattle.checks.proofs.Valid.{Sound}
+use Rattle.checks.proofs.Valid.{Sound, sound-state}
 use Rattle.checks.proofs.Kept.{kept}
 use Rattle.checks.proofs.WellReadable.{readable}
 use Rattle.intake.specs.Submitted.{Submitted, entriesOf, contextOf, submitted}
 use Rattle.intake.specs.Order.{recordsIn}
 use Rattle.intake.specs.Demands.{Conserved}
 use Rattle.intake.proofs.Outcome.{Passed, Outcome, stopped, passed, outcome}
-use Rattle.intake.proofs.SoundBytes.{sound-long, sound-stored, sound-state, encode-fit, state-long, state-stored, state-sound}
+use Rattle.intake.proofs.SoundBytes.{sound-long, sound-stored, encode-fit, state-long, state-stored, state-sound}
 use Rattle.intake.proofs.Files.{taken-passed}
 
 -- ---- the records of a file that is of the shape are readable

@@ -1,15 +1,13 @@
 -- Sound bytes are those of a sound state, and a sound state's bytes are sound.
-use Prim.Native.Nat.{ℕ, zero, suc, _+_, _-_, _*_, _≤_}
-use mathlib.Core.Path.{_≡_, refl, sym, ap, ap₂, _∙_}
-use mathlib.Core.Bool.{Bool, true, _&&_}
-use mathlib.Core.List.{List, [], _∷_, _++_, append-assoc}
+use Prim.Native.Nat.{ℕ, zero, suc, _+_, _-_, _≤_}
+use mathlib.Core.Path.{_≡_, refl, sym, ap, _∙_}
+use mathlib.Core.Bool.{true}
+use mathlib.Core.List.{List, [], _∷_, _++_}
 use native.Mathlib.Omega.{arith}
-use lib.Dec.{eqb, leb}
-use lib.ListN.{length, drop, replicate, length-append, length-replicate}
-use lib.Seq.{drop-at}
-use borrow.Author.Tests.{leb-true, le-leb}
+use lib.Dec.{leb}
+use lib.ListN.{length, replicate, length-replicate}
+use borrow.Author.Tests.{le-leb}
 use Rattle.laws.specs.Lists.{all}
-use Rattle.laws.proofs.Truth.{and-left, and-right}
 use Rattle.rows.specs.Pack.{each, digits, Fit}
 use Rattle.rows.proofs.Packing.{fit-append}
 use Rattle.rows.proofs.Bytes.{each-append, digits-fit}
@@ -19,10 +17,9 @@ use Rattle.register.specs.Layout.{siad, caseRest, eventRest}
 use Rattle.register.specs.Bytes.{rowNumber, room, stateOf, rowsBytes, used, encode}
 use Rattle.register.specs.Stored.{Stored, Fits}
 use Rattle.register.specs.Sound.{valid, siadRules, ascending, isSound}
-use Rattle.register.proofs.RowBytes.{bytes-length}
-use Rattle.register.proofs.States.{laid-siad, room-holds, encode-length, state-encode, stored-state, stored-empty}
+use Rattle.register.proofs.States.{laid-siad, room-holds, encode-length, state-encode, stored-empty}
 use Rattle.register.proofs.Every.{and-tell}
-use Rattle.register.proofs.SoundLaws.{sound-of, sound-valid, sound-is-stored}
+use Rattle.register.proofs.SoundLaws.{sound-of, sound-is-stored}
 use Rattle.checks.proofs.Valid.{Sound, Parts, parts-of}
 
 -- ---- from the bytes to the state
@@ -34,15 +31,6 @@ module _ (reg : List ℕ) (f : Fit (each 8 reg)) (h : isSound reg ≡ true) wher
 
   pub sound-long : 4 ≤ length reg
   sound-long = sound-stored .long
-
-  pub sound-state : Sound (length reg) (stateOf siad reg)
-  unfolding isSound
-  sound-state =
-      record {
-        is-valid = sound-valid siad laid-siad siadRules reg f h;
-        cases-fit = sound-stored .cases-fit;
-        events-fit = sound-stored .events-fit;
-      }
 
 -- ---- from the state to the bytes
 

@@ -1,7 +1,7 @@
 -- The whole call (document 01, "Answers for a file, in this order"): one definition that fixes every answer, count and byte.
 use Prim.Native.Nat.{ℕ}
-use mathlib.Core.Bool.{Bool, cond, not, _||_}
-use mathlib.Core.List.{List, [], _∷_, _++_, map}
+use mathlib.Core.Bool.{cond, not, _||_}
+use mathlib.Core.List.{List, _++_, map}
 use lib.Dec.{eqb, ltb}
 use lib.ListN.{length, drop}
 use Rattle.days.specs.Quarters.{isPeriod, firstDay, lastDay}
@@ -10,7 +10,6 @@ use Rattle.markup.specs.Reading.Read.{refused, read}
 use Rattle.markup.specs.Elements.{Tree}
 use Rattle.markup.specs.Document.{document}
 use Rattle.model.specs.Machine.{run, answers, zeros, others}
-use Rattle.model.specs.Flow.{State}
 use Rattle.register.specs.Layout.{siad}
 use Rattle.register.specs.Bytes.{room, stateOf, encode}
 use Rattle.register.specs.Sound.{isSound}

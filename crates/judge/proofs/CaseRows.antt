@@ -12,15 +12,14 @@ use Rattle.register.specs.Layout.{siad, caseRest, eventRest, caseOf}
 use Rattle.register.specs.Bytes.{split, rowAt, rowIn, casesHeld, eventsHeld, eventsFrom, stateOf}
 use Rattle.register.specs.Fields.{eventIn, eventKeyOf}
 use Rattle.register.specs.Search.{keyAt, keyOf, Placed, Ranged}
-use Rattle.register.specs.Sound.{eventsOf, siadRules, isSound}
+use Rattle.register.specs.Sound.{eventsOf, isSound}
 use Rattle.register.specs.Stored.{Stored, cases}
 use Rattle.register.proofs.Found.{stands-has, case-at, cases-rise, range-events}
 use Rattle.register.proofs.From.{from-length}
 use Rattle.register.proofs.Halving.{at-key}
-use Rattle.register.proofs.SoundLaws.{sound-valid, sound-is-stored}
+use Rattle.register.proofs.SoundLaws.{sound-is-stored}
 use Rattle.register.proofs.States.{laid-siad}
 use Rattle.soundness.proofs.FindPlace.{keys-rise}
-use Rattle.checks.proofs.Valid.{Sound}
 use Rattle.judge.specs.Standing.{Climbs, OfCase}
 
 -- ---- the rows that a register claims
@@ -32,15 +31,6 @@ pub events-count : (reg : List ℕ) → length (stateOf siad reg .events) ≡ ev
 events-count reg = from-length (λ j. split (eventRest siad) (rowIn siad reg j)) (casesHeld reg) (eventsHeld reg)
 
 module _ (reg : List ℕ) (f : Fit (each 8 reg)) (h : isSound reg ≡ true) where
-  pub sound-state : Sound (length reg) (stateOf siad reg)
-  unfolding isSound
-  sound-state =
-      record {
-        is-valid = sound-valid siad laid-siad siadRules reg f h;
-        cases-fit = sound-is-stored reg f h .cases-fit;
-        events-fit = sound-is-stored reg f h .events-fit;
-      }
-
   stored : Stored siad reg (stateOf siad reg)
   stored = sound-is-stored reg f h
 

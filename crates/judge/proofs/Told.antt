@@ -18,10 +18,11 @@ use Rattle.checks.specs.Checks.{checksOf}
 use Rattle.checks.specs.Flow.{kindOf}
 use Rattle.checks.specs.Readable.{Readable}
 use Rattle.checks.specs.Tests.{Context, outOfQuarter, t11, t12, zeroKept}
+use Rattle.checks.proofs.Valid.{sound-state}
 use Rattle.judge.specs.Chain.{answerEvents, answerAdmission}
 use Rattle.judge.specs.View.{IsOf, IsSaid, IsAdmitted}
 use Rattle.judge.proofs.Answers.{answer-events, answer-admission}
-use Rattle.judge.proofs.CaseRows.{cases-count, events-count, sound-state}
+use Rattle.judge.proofs.CaseRows.{cases-count, events-count}
 
 module _ (reg : List ℕ) (c : Context) (tipo taken : ℕ) (probe : List ℕ) where
   abbrev stands : Bool
