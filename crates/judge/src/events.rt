@@ -2,7 +2,6 @@
 ghost use mathlib.Core.Path.{_≡_};
 ghost use mathlib.Core.Bool.{not, _&&_};
 ghost use Rattle.laws.specs.Lists.{any};
-ghost use Rattle.register.specs.Fields.{eventKeyOf};
 ghost use Rattle.register.specs.Events.{afterConclusion};
 ghost use Rattle.checks.specs.Tests.{outOfQuarter, dayFor};
 ghost use Rattle.judge.specs.Against.{wrong, clash, keyAmong};
@@ -11,15 +10,9 @@ use crate::Limits;
 use register::layout::NEVER;
 use soundness::fields::date_of;
 use soundness::fields::end_of;
+use soundness::fields::event_key_of;
 use soundness::fields::kind_of;
 use soundness::together::share_day;
-
-// An event's part of its key.
-pub fn key_of(e: u64) -> u64
-    ensures { λ r. ⌜ r ≡ eventKeyOf e ⌝ }
-{
-    e >> 33
-}
 
 // The day that 10 asks for: a suspension's end, or its begin where that is missing.
 fn day_for(e: u64) -> u64
@@ -80,7 +73,7 @@ pub fn clash(number: u64, a: u64, b: u64) -> bool
     ensures { λ r. ⌜ r ≡ clash number a b ⌝ }
 {
     if number == 22 {
-        return key_of(a) == key_of(b);
+        return event_key_of(a) == event_key_of(b);
     }
     if number == 26 {
         return share_day(a, b);
@@ -95,10 +88,10 @@ pub fn clash(number: u64, a: u64, b: u64) -> bool
 fn key_among(evs: &[u64], b: u64) -> bool
     ensures { λ r. ⌜ r ≡ keyAmong (now (evs .entry)) b ⌝ }
 {
-    let key = key_of(b);
+    let key = event_key_of(b);
     let mut i = 0;
     while i < evs.len() {
-        if key_of(evs[i]) == key {
+        if event_key_of(evs[i]) == key {
             return true;
         }
         i += 1;

@@ -11,9 +11,9 @@ ghost use Rattle.register.specs.Layout.{siad};
 ghost use Rattle.register.specs.Search.{Placed};
 ghost use Rattle.judge.specs.Against.{clash, keyAmong};
 ghost use Rattle.judge.specs.Standing.{eventAt, eventKeyAt, standingIn, Climbs, Outside};
-use crate::events::key_of;
 use register::search::Span;
 use soundness::allowed::event_of;
+use soundness::fields::event_key_of;
 use soundness::fields::kind_of;
 use soundness::fields::row_at;
 
@@ -34,7 +34,7 @@ fn event_place(reg: &[u8], lo: usize, hi: usize, key: u64) -> usize
     let mut e = hi;
     while a < e {
         let mid = a + (e - a) / 2;
-        if key_of(event_at(reg, mid)) < key {
+        if event_key_of(event_at(reg, mid)) < key {
             a = mid + 1;
         } else {
             e = mid;
@@ -48,12 +48,12 @@ fn has_event(reg: &[u8], lo: usize, hi: usize, e: u64) -> bool
     requires { ⌜ (lo ≤ hi) × (rowAt siad hi ≤ length (now reg)) ⌝ }
     ensures { λ r. ⌜ (Climbs (now (reg .entry)) lo hi → r ≡ keyAmong (standingIn (now (reg .entry)) lo hi) e) ⌝ }
 {
-    let key = key_of(e);
+    let key = event_key_of(e);
     let i = event_place(reg, lo, hi, key);
     if hi <= i {
         return false;
     }
-    key_of(event_at(reg, i)) == key
+    event_key_of(event_at(reg, i)) == key
 }
 
 // Whether one of the record's events stands there, or, with `standing` false, does not.

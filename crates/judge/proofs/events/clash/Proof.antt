@@ -3,14 +3,14 @@ use borrow.Author.Needs.{needs}
 use Rattle.judge.proofs.events.clash.Statement.{statement}
 use Rattle.judge.proofs.events.clash.Tie as tie
 
-key-of-requires : tie.Need-key-of-requires
-key-of-requires c κs = search needs
+event-key-of-requires : tie.Need-event-key-of-requires
+event-key-of-requires c κs = search needs
 
-key-of-requires-2 : tie.Need-key-of-requires-2
-key-of-requires-2 c κs = search needs
+event-key-of-requires-2 : tie.Need-event-key-of-requires-2
+event-key-of-requires-2 c κs = search needs
 
 returns : tie.Need-returns
-returns c = clash-22 (c .before .before .before .args .number) (c .before .before .before .args .a) (c .before .before .before .args .b) _ _ (c .before .before .if1 .taken) (c .before .key-of .ensures) (c .key-of2 .ensures)
+returns c = clash-22 (c .before .before .before .args .number) (c .before .before .before .args .a) (c .before .before .before .args .b) _ _ (c .before .before .if1 .taken) (c .before .event-key-of .ensures .0) (c .event-key-of2 .ensures .0)
 
 share-day-requires : tie.Need-share-day-requires
 share-day-requires c κs = search needs
@@ -40,8 +40,8 @@ pub clash-spec : {M : Type 1} → statement M
 clash-spec =
     tie.close
     (tie.spec
-    key-of-requires
-    key-of-requires-2
+    event-key-of-requires
+    event-key-of-requires-2
     returns
     share-day-requires
     returns-2

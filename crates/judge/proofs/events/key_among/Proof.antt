@@ -16,23 +16,23 @@ Inv-loop evs b key i₀ i = keyAmong evs b ≡ keyAmong (drop i evs) b
 abbrev μ-loop : tie.MeasureT-loop
 μ-loop evs b key i₀ i = length evs - i
 
-key-of-requires : tie.Need-key-of-requires Inv-loop μ-loop
-key-of-requires c κs = search needs
+event-key-of-requires : tie.Need-event-key-of-requires Inv-loop μ-loop
+event-key-of-requires c κs = search needs
 
 loop-holds : tie.Need-loop-holds Inv-loop μ-loop
 loop-holds c = refl
 
-mul-key-of : tie.Need-mul-key-of Inv-loop μ-loop
-mul-key-of c = search needs
+mul-event-key-of : tie.Need-mul-event-key-of Inv-loop μ-loop
+mul-event-key-of c = search needs
 
-shared-slice-read-key-of : tie.Need-shared-slice-read-key-of Inv-loop μ-loop
-shared-slice-read-key-of c = search needs
+shared-slice-read-event-key-of : tie.Need-shared-slice-read-event-key-of Inv-loop μ-loop
+shared-slice-read-event-key-of c = search needs
 
-key-of-requires-2 : tie.Need-key-of-requires-2 Inv-loop μ-loop
-key-of-requires-2 c κs = search needs
+event-key-of-requires-2 : tie.Need-event-key-of-requires-2 Inv-loop μ-loop
+event-key-of-requires-2 c κs = search needs
 
 returns : tie.Need-returns Inv-loop μ-loop
-returns c = hit _ _ (drop (c .before .before .before .before .loop .i) (c .before .before .before .before .before .before .before .args .evs .now)) (c .before .before .before .before .loop .inv) _ _ (front (c .before .before .before .before .before .before .before .args .evs .now) (c .before .before .before .before .loop .i) (c .before .before .before .loop-test .taken)) _ (ap₂ (λ (x y : ℕ). eqb x y) (c .before .key-of2 .ensures) (c .before .before .before .before .before .key-of .ensures)) (eq-eqb _ _ (c .if1 .taken))
+returns c = hit _ _ (drop (c .before .before .before .before .loop .i) (c .before .before .before .before .before .before .before .args .evs .now)) (c .before .before .before .before .loop .inv) _ _ (front (c .before .before .before .before .before .before .before .args .evs .now) (c .before .before .before .before .loop .i) (c .before .before .before .loop-test .taken)) _ (ap₂ (λ (x y : ℕ). eqb x y) (c .before .event-key-of2 .ensures .0) (c .before .before .before .before .before .event-key-of .ensures .0)) (eq-eqb _ _ (c .if1 .taken))
 
 add-i : tie.Need-add-i Inv-loop μ-loop
 add-i c = search needs
@@ -41,7 +41,7 @@ loop-less : tie.Need-loop-less Inv-loop μ-loop
 loop-less c = search needs
 
 loop-again : tie.Need-loop-again Inv-loop μ-loop
-loop-again c = miss _ _ (drop (c .before .before .before .before .loop .i) (c .before .before .before .before .before .before .before .args .evs .now)) (c .before .before .before .before .loop .inv) _ _ (front (c .before .before .before .before .before .before .before .args .evs .now) (c .before .before .before .before .loop .i) (c .before .before .before .loop-test .taken)) _ (ap₂ (λ (x y : ℕ). eqb x y) (c .before .key-of2 .ensures) (c .before .before .before .before .before .key-of .ensures)) (ne-eqb _ _ (c .if1 .left))
+loop-again c = miss _ _ (drop (c .before .before .before .before .loop .i) (c .before .before .before .before .before .before .before .args .evs .now)) (c .before .before .before .before .loop .inv) _ _ (front (c .before .before .before .before .before .before .before .args .evs .now) (c .before .before .before .before .loop .i) (c .before .before .before .loop-test .taken)) _ (ap₂ (λ (x y : ℕ). eqb x y) (c .before .event-key-of2 .ensures .0) (c .before .before .before .before .before .event-key-of .ensures .0)) (ne-eqb _ _ (c .if1 .left))
 
 returns-2 : tie.Need-returns-2 Inv-loop μ-loop
 returns-2 c = past _ _ (drop (c .before .loop .i) (c .before .before .before .before .args .evs .now)) (c .before .loop .inv) (drop-of-length-le (c .before .before .before .before .args .evs .now) (c .loop-test .left))
@@ -52,11 +52,11 @@ key-among-spec =
     (tie.spec
     Inv-loop
     μ-loop
-    key-of-requires
+    event-key-of-requires
     loop-holds
-    mul-key-of
-    shared-slice-read-key-of
-    key-of-requires-2
+    mul-event-key-of
+    shared-slice-read-event-key-of
+    event-key-of-requires-2
     returns
     add-i
     loop-less

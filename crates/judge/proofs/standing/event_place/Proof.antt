@@ -27,8 +27,8 @@ add-mid c = search needs
 event-at-requires : tie.Need-event-at-requires Inv-loop μ-loop
 event-at-requires c κs = omega (arith, c .before .loop .inv .high)
 
-key-of-requires : tie.Need-key-of-requires Inv-loop μ-loop
-key-of-requires c κs = search needs
+event-key-of-requires : tie.Need-event-key-of-requires Inv-loop μ-loop
+event-key-of-requires c κs = search needs
 
 add-a : tie.Need-add-a Inv-loop μ-loop
 add-a c = omega (arith, c .before .before .before .before .loop .inv .high)
@@ -39,7 +39,7 @@ loop-less c = omega arith
 loop-again : tie.Need-loop-again Inv-loop μ-loop
 loop-again c =
     let l = c .before .before .before .before .loop in
-    let k : c .before .key-of .result ≡ eventKeyAt (c .before .before .before .before .before .before .args .reg .now) (l .a + (l .e - l .a) / 2) = c .before .key-of .ensures ∙ ap eventKeyOf (c .before .before .event-at .ensures .0) in
+    let k : c .before .event-key-of .result ≡ eventKeyAt (c .before .before .before .before .before .before .args .reg .now) (l .a + (l .e - l .a) / 2) = c .before .event-key-of .ensures .0 ∙ ap eventKeyOf (c .before .before .event-at .ensures .0) in
     up (eventKeyAt (c .before .before .before .before .before .before .args .reg .now)) (c .before .before .before .before .before .before .args .key) (c .before .before .before .before .before .before .args .lo) (c .before .before .before .before .before .before .args .hi) (l .a) (l .e) (l .inv) (l .a + (l .e - l .a) / 2) (omega arith) (omega arith) (omega (arith, c .if1 .taken))
 
 loop-less-2 : tie.Need-loop-less-2 Inv-loop μ-loop
@@ -48,7 +48,7 @@ loop-less-2 c = omega arith
 loop-again-2 : tie.Need-loop-again-2 Inv-loop μ-loop
 loop-again-2 c =
     let l = c .before .before .before .before .loop in
-    let k : c .before .key-of .result ≡ eventKeyAt (c .before .before .before .before .before .before .args .reg .now) (l .a + (l .e - l .a) / 2) = c .before .key-of .ensures ∙ ap eventKeyOf (c .before .before .event-at .ensures .0) in
+    let k : c .before .event-key-of .result ≡ eventKeyAt (c .before .before .before .before .before .before .args .reg .now) (l .a + (l .e - l .a) / 2) = c .before .event-key-of .ensures .0 ∙ ap eventKeyOf (c .before .before .event-at .ensures .0) in
     down (eventKeyAt (c .before .before .before .before .before .before .args .reg .now)) (c .before .before .before .before .before .before .args .key) (c .before .before .before .before .before .before .args .lo) (c .before .before .before .before .before .before .args .hi) (l .a) (l .e) (l .inv) (l .a + (l .e - l .a) / 2) (omega arith) (omega arith) (omega (arith, c .if1 .left))
 
 returns : tie.Need-returns Inv-loop μ-loop
@@ -64,7 +64,7 @@ event-place-spec =
     sub-mid
     add-mid
     event-at-requires
-    key-of-requires
+    event-key-of-requires
     add-a
     loop-less
     loop-again
