@@ -1,0 +1,87 @@
+"""soundness field by field: a case alone and a case with one event of each kind; every value of every field (dates: the borders), counts around the room"""
+import json, sys, time
+import compare as K, oracle as O
+
+
+def main():
+    T0 = O.day(b"2018-04-10")
+    k = (10, b"101", T0, K.ID88)
+    case = O.unpack(O.pack_case(k, (1950, b"12345", (1, 2, 3, 0, 1, 2))), O.CASE_WIDTHS)
+    evs = [(0, T0 + 5, O.NO_END, 1, 0, 1), (1, T0 + 5, O.NO_END, 13, 7, 0), (2, T0 + 5, T0 + 7, 9, 0, 0), (2, T0 + 5, O.NO_END, 9, 0, 0), (3, T0 + 5, O.NO_END, 97, 0, 0)]
+    row = lambda f, w: O.pack(list(zip(f, w)))
+    days = [0, 1, T0 - 1, T0, T0 + 1, T0 + 4, T0 + 5, T0 + 6, T0 + 7, 73047, 73048, 73049, 73050, 131069, 131070, 131071, 65535, 65536, 36583, 43464]
+    values = lambda w: days if w == 17 else range(min(1 << w, 16384))
+    sub = K.tiny(2).replace(b"2018-04-01", b"2018-04-10")
+
+    def go(cases, events, length=None, n=0):
+        r = len(cases).to_bytes(2, "big") + len(events).to_bytes(2, "big") + b"".join(cases + events)
+        r = r.ljust(length or len(r) + 91, b"\0")
+        s = K.check_sound(r)
+        if n % 7 == 0 or s == 0:
+            K.check_submit(sub, 2, 2018, 2, r, b"\x11\x12")
+            K.check_find(r, (b"010", b"101", b"2018-04-10", K.ID88))
+    c0 = row(case, O.CASE_WIDTHS)
+    n = 0
+    for i, w in enumerate(O.CASE_WIDTHS):
+        for v in values(w):
+            f = case[:]
+            f[i] = v
+            n += 1
+            go([row(f, O.CASE_WIDTHS)], [], n=n)
+    for taken in (0, O.day(b"1900-12-31"), O.day(b"1901-01-01"), O.day(b"2099-12-31")):     # 11 at the borders of a year
+        for y in (1879, 1880, 1899, 1900, 1901, 1902, 2098, 2099, 2100, 0, 4095):
+            f = case[:]
+            f[4], f[93] = taken, y
+            go([row(f, O.CASE_WIDTHS)], [])
+    for p in (b"000", b"0000", b"00000", b"00", b"", b"0", b"0\0" + b"0", b"000\0" + b"1", b"\0" + b"000", b"001", b"100", b"00\0\0" + b"1", b"12\0" + b"4"):
+        f = case[:]
+        f[94:99] = list(p.ljust(5, b"\0"))
+        go([row(f, O.CASE_WIDTHS)], [])
+    for ev in evs:
+        e0 = O.unpack(O.pack_event(k, ev), O.EVENT_WIDTHS)
+        for i, w in enumerate(O.EVENT_WIDTHS):
+            if 5 < i < 91:
+                continue
+            for v in values(w):
+                f = e0[:]
+                f[i] = v
+                n += 1
+                go([c0], [row(f, O.EVENT_WIDTHS)], n=n)
+        for kind in range(4):                                   # kind with code, accesses, conferma, end together
+            for code in range(128):
+                for acc, conf in ((0, 0), (0, 1), (7, 0), (0, 2), (0, 3), (99, 0), (100, 0)):
+                    f = e0[:]
+                    f[93], f[96], f[97], f[98] = kind, code, acc, conf
+                    n += 1
+                    go([c0], [row(f, O.EVENT_WIDTHS)], n=n)
+    e = [row(O.unpack(O.pack_event(k, x), O.EVENT_WIDTHS), O.EVENT_WIDTHS) for x in evs[:2]]
+    full = bytes([0, 1, 0, 2]) + c0 + e[0] + e[1]
+    for length in range(0, len(full) + 200):                    # cut and padded to every length
+        r = full[:length].ljust(length, b"\0")
+        K.check_sound(r)
+        K.check_submit(sub, 2, 2018, 2, r, b"\x11\x12")
+    for a in list(range(0, 6)) + [255, 256, 4096, 65535]:       # counts
+        for b in list(range(0, 6)) + [255, 256, 4096, 65535, 65534]:
+            for pad in (0, 1, 90, 91, 92, 182):
+                r = a.to_bytes(2, "big") + b.to_bytes(2, "big") + full[4:] + bytes(pad)
+                K.check_sound(r)
+    for rows in (1, 2, 3):                                      # a last row partly or wholly outside the room
+        for cut in (1, 45, 90, 91):
+            K.check_sound(full[:4 + 91 * rows - cut])
+    for i, x in enumerate(evs):                                 # pairs of events: 25 to 28 and 23 over borders
+        for y in evs:
+            for dx in range(-6, 4):
+                for dy in range(-6, 4):
+                    for lx, ly in ((0, 0), (1, 0), (0, 1), (2, 2), (-1, 0), (None, 0), (0, None), (None, None)):
+                        def at(z, d, l):
+                            day = z[1] + d
+                            return (z[0], day, O.NO_END if z[0] != 2 or l is None else day + l, *z[3:])
+                        rows = sorted([O.pack_event(k, at(x, dx, lx)), O.pack_event(k, at(y, dy, ly))])
+                        if (lx, ly) == (0, 0) or 2 in (x[0], y[0]):
+                            go([c0], rows, n=1)
+
+
+if __name__ == "__main__":
+    t0 = time.time()
+    main()
+    print(json.dumps({"generator": "fields", "seed": 0, "seconds": round(time.time() - t0), "counts": dict(sorted(K.C.items()))}))
