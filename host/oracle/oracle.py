@@ -1,5 +1,5 @@
 """Document 01 in plain Python: an oracle written from the paper and the schemas 4.5.2 and 4.6.2 of document 000, without a look at the proved code or its
-   definitions. R and a number mark a point that the paper leaves to its reader (docs/DECISIONS.md).
+   definitions. R and a number mark a point that the paper leaves to its reader; docs/DECISIONS.md settles them, without these numbers.
    Quotes are the paper's words."""
 import re
 from datetime import date
