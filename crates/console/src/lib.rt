@@ -1,11 +1,8 @@
 // The program (document 01, "The program reads standard input"): all that stands between the bytes read and the lines written. No contract can say what is
 // written; what is printed are the values of proved calls. `run` reads any descriptor, so that the program and its cases share it.
 use libc::STDOUT_FILENO;
-use line::FirstLine;
+use line::Asked;
 use register::counts::count;
-
-// "a submission above 49,152 bytes" is too long
-const MOST: usize = 49152;
 
 fn put(text: &[u8]) {
     io::write_all(STDOUT_FILENO, text);
@@ -83,26 +80,21 @@ fn submit(sub: &[u8], track: u64, year: u64, quarter: u64) {
     standing_line(&reg);
 }
 
-// "only `line` for any other first line, else only `long` for a submission above 49,152 bytes"
+// The three ways of `request` (crate line), each as the paper has it printed.
 fn answer(s: &[u8]) {
-    let FirstLine::Says {
-        track,
-        year,
-        quarter,
-        body,
-    } = line::first_line(s)
-    else {
-        put(b"line\n");
-        return;
-    };
-    if MOST < s.len() - body {
-        put(b"long\n");
-        return;
+    match line::asked_by(s) {
+        Asked::Line => put(b"line\n"),
+        Asked::Long => put(b"long\n"),
+        Asked::Takes {
+            track,
+            year,
+            quarter,
+            body,
+        } => submit(&s[body..], track, year, quarter),
     }
-    submit(&s[body..], track, year, quarter);
 }
 
-// A first line has 15 bytes at most (`okLine`), so the buffer holds it, the longest submission and the byte that makes it too long.
+// It lends nothing and gives nothing back, so it has nothing to promise. A first line has 15 bytes at most (`okLine`), so the buffer holds it, the longest submission and the byte that makes it too long.
 pub fn run(fd: i32) {
     let mut input = [0u8; 49168];
     let n = io::read_full(fd, &mut input);

@@ -3,8 +3,8 @@
 use Prim.Native.Nat.{ℕ, _+_}
 use mathlib.Core.Bool.{Bool, cond, _&&_}
 use mathlib.Core.List.{List}
-use lib.Dec.{eqb, leb}
-use lib.ListN.{take, drop, getD}
+use lib.Dec.{eqb, ltb, leb}
+use lib.ListN.{length, take, drop, getD}
 use Rattle.laws.specs.Decimal.{isDigit, decimal}
 use Rattle.markup.specs.Bytes.{run}
 
@@ -42,3 +42,21 @@ taken (read n l) next = next n l
 unfoldable pub firstLine : List ℕ → Line
 firstLine l =
     taken (numberTo space l) (λ track l. taken (numberTo space l) (λ year l. taken (numberTo lineFeed l) (λ quarter l. line track year quarter l)))
+
+-- "a submission above 49,152 bytes"
+abbrev pub most : ℕ
+most = 49152
+
+-- what the program does with its input: it prints `line`, or `long`, or takes the submission
+pub data Request : Type 0 where
+  prints-line : Request
+  prints-long : Request
+  takes : (track year quarter : ℕ) (submission : List ℕ) → Request
+
+-- "only `line` for any other first line, else only `long` for a submission above 49,152 bytes"
+abbrev pub byLine : Line → Request
+byLine other = prints-line
+byLine (line track year quarter submission) = cond (ltb most (length submission)) prints-long (takes track year quarter submission)
+
+unfoldable pub request : List ℕ → Request
+request l = byLine (firstLine l)

@@ -4,8 +4,8 @@ ghost use mathlib.Core.Bool.{true};
 ghost use Prim.Native.Nat.{_-_, _<_, _≤_};
 ghost use lib.ListN.{drop};
 ghost use Rattle.laws.specs.Decimal.{isDigit};
-ghost use Rattle.line.specs.Line.{numberTo, firstLine};
-ghost use Rattle.line.specs.View.{viewNumber, okNumber, viewLine, okLine};
+ghost use Rattle.line.specs.Line.{numberTo, firstLine, request};
+ghost use Rattle.line.specs.View.{viewNumber, okNumber, viewLine, okLine, viewAsked, okAsked};
 
 // A number and the place after its mark.
 pub enum Number {
@@ -23,6 +23,21 @@ pub enum FirstLine {
     },
     Other,
 }
+
+// What the input asks of the program: to print `line`, to print `long`, or to take the submission that begins at a place.
+pub enum Asked {
+    Line,
+    Long,
+    Takes {
+        track: u64,
+        year: u64,
+        quarter: u64,
+        body: usize,
+    },
+}
+
+// "a submission above 49,152 bytes" is too long.
+const MOST: usize = 49152;
 
 fn is_digit(b: u8) -> bool
     ensures { λ r. ⌜ r ≡ isDigit b ⌝ }
@@ -96,6 +111,30 @@ pub fn first_line(s: &[u8]) -> FirstLine
         return FirstLine::Other;
     };
     FirstLine::Says {
+        track,
+        year,
+        quarter,
+        body,
+    }
+}
+
+// What the program's input asks of it.
+pub fn asked_by(s: &[u8]) -> Asked
+    ensures { λ r. ⌜ (viewAsked (now (s .entry)) r ≡ request (now (s .entry))) × okAsked (now (s .entry)) r ⌝ }
+{
+    let FirstLine::Says {
+        track,
+        year,
+        quarter,
+        body,
+    } = first_line(s)
+    else {
+        return Asked::Line;
+    };
+    if MOST < s.len() - body {
+        return Asked::Long;
+    }
+    Asked::Takes {
         track,
         year,
         quarter,
