@@ -24,7 +24,8 @@ use Rattle.checks.specs.Checks.{checksOf}
 use Rattle.checks.specs.Readable.{Readable}
 use Rattle.checks.proofs.Valid.{Sound}
 use Rattle.judge.specs.Against.{wrong}
-use Rattle.judge.specs.Chain.{againstStanding, answerEvents, answerAdmission}
+use Rattle.judge.specs.Chain.{againstStanding, answerAdmission}
+use Rattle.judge.proofs.InOrder.{answerEvents}
 use Rattle.judge.proofs.Keys.{is22, is14, is15}
 use Rattle.judge.proofs.Afterwards.{is25, is26, is27, is28}
 

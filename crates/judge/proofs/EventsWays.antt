@@ -12,7 +12,8 @@ use Rattle.model.specs.Transmission.{Kind, insert, vary, cancel, isInsert, isCa
 use Rattle.register.specs.Events.{pair}
 use Rattle.checks.specs.Tests.{Context}
 use Rattle.judge.specs.Against.{wrong, clash, keyAmong, fresh}
-use Rattle.judge.specs.Chain.{againstStanding, answerEvents}
+use Rattle.judge.specs.Chain.{againstStanding}
+use Rattle.judge.proofs.InOrder.{answerEvents}
 use Rattle.judge.specs.Standing.{standingIn, Climbs}
 use Rattle.judge.proofs.Rows.{no-row}
 
@@ -70,7 +71,7 @@ module _ (c : Context) (inserts cancels : Bool) (taken : ℕ) (es : List ℕ) (b
               unfolding answerEvents
               at-24 e = rw (ne-eqb (length es) 0 some, dated, confirmed, ill, once, ends, e)
 
-              pub at-case : stands ≡ true → (r held : ℕ) (ms : List ℕ) → r ≡ againstStanding c inserts cancels taken es bad zero held ms →
+              pub at-case : stands ≡ true → (r held : ℕ) (ms : List ℕ) → r ≡ againstStanding c inserts cancels taken es held ms →
                   held ≡ rows → standing ≡ ms → r ≡ answer
               unfolding answerEvents
               at-case e r held ms a w m = a ∙ rw (ne-eqb (length es) 0 some, dated, confirmed, ill, once, ends, e, w, m)
@@ -82,10 +83,10 @@ not-both insert e = sym e
 not-both vary e = refl
 not-both cancel e = refl
 
-module _ (c : Context) (k : Kind) (taken : ℕ) (es : List ℕ) (bad zero : Bool) (rows : ℕ) (standing : List ℕ) (new some : Bool) (n : new ≡ isInsert k)
+module _ (c : Context) (k : Kind) (taken : ℕ) (es : List ℕ) (rows : ℕ) (standing : List ℕ) (new some : Bool) (n : new ≡ isInsert k)
     (told : some ≡ any (λ e. cond new (keyAmong standing e) (not (keyAmong standing e))) es) where
   abbrev against : ℕ
-  against = againstStanding c (isInsert k) (isCancel k) taken es bad zero rows standing
+  against = againstStanding c (isInsert k) (isCancel k) taken es rows standing
 
   -- an insertion asks whether some event stands, any other record whether some does not
   asked : (b : Bool) → new ≡ b → some ≡ any (λ e. cond b (keyAmong standing e) (not (keyAmong standing e))) es

@@ -1,3 +1,4 @@
+pub mod InOrder
 pub mod Scan
 pub mod OneEvent
 pub mod Rows

@@ -19,7 +19,8 @@ use Rattle.checks.specs.Flow.{kindOf}
 use Rattle.checks.specs.Readable.{Readable}
 use Rattle.checks.specs.Tests.{Context, outOfQuarter, t11, t12, zeroKept}
 use Rattle.checks.proofs.Valid.{sound-state}
-use Rattle.judge.specs.Chain.{answerEvents, answerAdmission}
+use Rattle.judge.specs.Chain.{answerAdmission}
+use Rattle.judge.proofs.InOrder.{answerEvents}
 use Rattle.judge.specs.View.{IsOf, IsSaid, IsAdmitted}
 use Rattle.judge.proofs.Answers.{answer-events, answer-admission}
 use Rattle.judge.proofs.CaseRows.{cases-count, events-count}

@@ -1,17 +1,15 @@
--- The checks of a record in their order, as the code asks them. That they give the answer of the lists in checks is proved (proofs/Answers).
+-- The last checks of a record in their order, as the code asks them. That they give the answers of the lists in checks is proved (proofs/Answers).
 use Prim.Native.Nat.{ℕ, _+_}
 use mathlib.Core.Bool.{Bool, cond, not, _&&_}
 use mathlib.Core.List.{List}
 use lib.Dec.{eqb, ltb}
 use lib.ListN.{length}
 use Rattle.laws.specs.Lists.{any}
-use Rattle.register.specs.Events.{pair}
 use Rattle.checks.specs.Tests.{Context}
 use Rattle.judge.specs.Against.{wrong, clash, keyAmong, fresh}
 
--- Track 2: what a record brings (its type, its taking in, its events' 52 bits, the two tests of reading) against what stands (its case, the rows, the case's
--- events)
-module _ (c : Context) (inserts cancels : Bool) (taken : ℕ) (es : List ℕ) (bad zero : Bool) where
+-- Track 2: what a record brings (its type, its taking in, its events' 52 bits) against what stands (the rows, its case's events)
+module _ (c : Context) (inserts cancels : Bool) (taken : ℕ) (es : List ℕ) where
   -- 14, 15, 25, 26, 27, 28, 17: where the case stands
   unfoldable pub againstStanding : ℕ → List ℕ → ℕ
   againstStanding rows standing =
@@ -22,17 +20,6 @@ module _ (c : Context) (inserts cancels : Bool) (taken : ℕ) (es : List ℕ) (b
       (cond (not cancels && fresh (clash 27) es standing) 27
       (cond (not cancels && fresh (clash 28) es standing) 28
       (cond (inserts && ltb (c .room) (rows + length es)) 17 0))))))
-
-  -- 20, 10, 21, 13, 22, 23, 24, and those
-  unfoldable pub answerEvents : Bool → ℕ → List ℕ → ℕ
-  answerEvents stands rows standing =
-      cond (eqb (length es) 0) 20
-      (cond (any (wrong 10 c taken) es) 10
-      (cond bad 21
-      (cond zero 13
-      (cond (pair (clash 22) es) 22
-      (cond (any (wrong 23 c taken) es) 23
-      (cond (not stands) 24 (againstStanding rows standing)))))))
 
 -- Track 1: 10, 11, 12, 13 as told, then 14 to 17
 unfoldable pub answerAdmission : Context → (inserts cancels : Bool) → (out early abroad zero : Bool) → (stands : Bool) → (rows events : ℕ) → ℕ

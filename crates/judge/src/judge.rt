@@ -1,6 +1,6 @@
 // A record's answer: the first of its checks that holds, in the paper's order.
 ghost use mathlib.Core.Path.{_≡_};
-ghost use mathlib.Core.Bool.{Bool, true, false};
+ghost use mathlib.Core.Bool.{true, false};
 ghost use mathlib.Core.List.{List, map};
 ghost use Prim.Native.Nat.{_+_, _≤_, _<_};
 ghost use lib.ListN.{length};
@@ -48,8 +48,8 @@ fn against_standing(
     rows: usize,
 ) -> u8
     requires { ⌜ (lo ≤ hi) × (rowAt siad hi ≤ length (now reg)) × (rows < 131072) × (length (now evs) ≤ 128) ⌝ }
-    ensures { λ r. ⌜ ((bad zero : Bool) → Climbs (now (reg .entry)) lo hi
-        → r ≡ againstStanding (contextIn l) (isInsert (kindOf tipo)) (isCancel (kindOf tipo)) taken (now (evs .entry)) bad zero rows (standingIn (now (reg .entry)) lo hi)) ⌝ }
+    ensures { λ r. ⌜ (Climbs (now (reg .entry)) lo hi
+        → r ≡ againstStanding (contextIn l) (isInsert (kindOf tipo)) (isCancel (kindOf tipo)) taken (now (evs .entry)) rows (standingIn (now (reg .entry)) lo hi)) ⌝ }
 {
     // an insertion must find none of its events standing, any other record all of them
     let new = inserts(tipo);
