@@ -24,6 +24,7 @@ use markup::Start;
 use nodes::Kid;
 use nodes::children::is_named;
 use nodes::children::next_kid;
+use nodes::skips::skip;
 
 // How many records there were, and how many of them were accepted.
 pub struct Tally {
@@ -87,8 +88,7 @@ fn take_all(
         let Kid::At(q) = next_kid(s, at, name, name_end) else {
             return tally.accepted;
         };
-        let here = Cursor { at: q };
-        let Move::To(done) = here.element(s, 11) else {
+        let Move::To(done) = skip(s, q) else {
             return tally.accepted;
         };
         tally = take_kid(t, l, track, s, q, tally, reg, answers);

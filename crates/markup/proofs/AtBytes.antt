@@ -2,15 +2,15 @@
 use Prim.Native.Nat.{ℕ, suc, _+_, _-_, _<_, _≤_}
 use mathlib.Core.Path.{_≡_, refl, sym, ap, _∙_}
 use mathlib.Core.List.{List, [], _∷_}
-use mathlib.Core.Bool.{Bool, true, false, cond, not, _&&_, and-self}
+use mathlib.Core.Bool.{Bool, true, false, cond, not, _||_, _&&_, and-self}
 use native.Mathlib.Omega.{arith}
 use native.Mathlib.Nat.{add-sub-cancel-left}
 use lib.ListN.{length, drop, take, getD, length-drop, drop-of-length-le}
 use lib.Seq.{drop-drop, take-all, take-nil}
-use lib.Dec.{eqb}
+use lib.Dec.{eqb, leb}
 use borrow.Author.Tests.{eqb-true, ne-eqb}
 use Rattle.laws.proofs.Places.{front}
-use Rattle.markup.specs.Bytes.{isWs, isText, inValue, run}
+use Rattle.markup.specs.Bytes.{isWs, isName, isText, inValue, run}
 use Rattle.markup.specs.Names.{isQuote, skipWs}
 use Rattle.markup.specs.Classes.{class}
 use Rattle.markup.specs.View.{part}
@@ -52,20 +52,28 @@ pub skip-at : (s : List ℕ) (from at : ℕ) → at ≡ from + run (class 0) (dr
 unfolding skipWs class
 skip-at s from at k = run-after isWs s from at k
 
-class-else : (k : ℕ) → eqb k 0 ≡ false → eqb k 1 ≡ false → class k ≡ cond (eqb k 60) isText (inValue k)
+or-inner : (u s l r : Bool) → s ≡ true → true ≡ ((u || (s || l)) || r)
+or-inner true s l r e = refl
+or-inner false s l r e = rw e
+
+-- a small letter is a name's byte
+pub name-small : (b : ℕ) → (leb 97 b && leb b 122) ≡ true → true ≡ isName b
+name-small b e = or-inner (leb 65 b && leb b 90) (leb 97 b && leb b 122) (eqb b 95) ((leb 48 b && leb b 57) || (eqb b 45 || (eqb b 46 || eqb b 58))) e
+
+class-else : (k : ℕ) → eqb k 0 ≡ false → eqb k 1 ≡ false → eqb k 2 ≡ false → class k ≡ cond (eqb k 60) isText (inValue k)
 unfolding class
-class-else k z o = rw (z, o)
+class-else k z o w = rw (z, o, w)
 
 pub class-quote : (q : ℕ) → isQuote q ≡ true → class q ≡ inValue q
 class-quote q t = go (eqb q 34) refl
   where
     go : (b : Bool) → eqb q 34 ≡ b → class q ≡ inValue q
-    go true e = rw (eqb-true q 34 e) (class-else 34 refl refl)
-    go false e = rw (eqb-true q 39 (rw e at t)) (class-else 39 refl refl)
+    go true e = rw (eqb-true q 34 e) (class-else 34 refl refl refl)
+    go false e = rw (eqb-true q 39 (rw e at t)) (class-else 39 refl refl refl)
 
 -- every byte but k and `<`, where k is `<`: every byte but `<`
-pub class-other : (k b : ℕ) → (k ≡ 0 → ⊥) → (k ≡ 1 → ⊥) → (not (eqb b k) && not (eqb b 60)) ≡ class k b
-class-other k b z o = rw (class-else k (ne-eqb k 0 z) (ne-eqb k 1 o)) (go (eqb k 60) refl)
+pub class-other : (k b : ℕ) → (k ≡ 0 → ⊥) → (k ≡ 1 → ⊥) → (k ≡ 2 → ⊥) → (not (eqb b k) && not (eqb b 60)) ≡ class k b
+class-other k b z o w = rw (class-else k (ne-eqb k 0 z) (ne-eqb k 1 o) (ne-eqb k 2 w)) (go (eqb k 60) refl)
   where
     go : (t : Bool) → eqb k 60 ≡ t → (not (eqb b k) && not (eqb b 60)) ≡ cond t isText (inValue k) b
     go true e = rw (eqb-true k 60 e) (and-self (not (eqb b 60)))

@@ -2,18 +2,20 @@
 use Prim.Native.Nat.{ℕ, zero, suc, _+_, _-_, _<_, _≤_}
 use mathlib.Core.Path.{_≡_, refl, sym, ap, _∙_}
 use mathlib.Core.List.{List}
-use mathlib.Core.Bool.{true, false, cond, not}
+use mathlib.Core.Bool.{Bool, true, false, cond, not}
 use native.Mathlib.Nat.{add-assoc}
 use native.Mathlib.Numerals.{sub-one}
 use native.Mathlib.Omega.{arith}
-use lib.ListN.{length, drop, getD, drop-of-length-le}
+use lib.ListN.{length, drop, getD, drop-of-length-le, length-take}
 use lib.Seq.{drop-drop}
 use lib.Dec.{eqb}
 use borrow.Author.Tests.{eq-eqb, ne-eqb}
 use Rattle.laws.specs.Loop.Step.{next}
-use Rattle.laws.proofs.Places.{front, first}
+use Rattle.laws.specs.Lists.{same}
+use Rattle.laws.proofs.Places.{front as front-at, first, byte-inside, same-length}
 use Rattle.laws.proofs.Reach.{Reach, reach-next, reach-stop, reach-to}
-use Rattle.markup.specs.Bytes.{isText, run}
+use Rattle.markup.specs.Bytes.{isNameStart, isName, isText, run, front, after}
+use Rattle.markup.specs.Names.{skipWs, byte, name}
 use Rattle.markup.specs.Reading.{Read, then}
 use Rattle.markup.specs.Reading.Read.{refused, read}
 use Rattle.markup.specs.Comments.{dashed}
@@ -23,7 +25,7 @@ use Rattle.markup.specs.Elements.Inside.{elem}
 use Rattle.markup.specs.Elements.Piece.{words, aside, closing, child}
 use Rattle.markup.specs.Classes.{class}
 use Rattle.markup.specs.View.{part, left}
-use Rattle.markup.proofs.AtBytes.{run-ahead, run-part, run-after}
+use Rattle.markup.proofs.AtBytes.{run-le, run-ahead, run-part, run-after}
 
 module _ (n s : List ℕ) (at : ℕ) where
   pub piece-end : length s ≤ at → refused ≡ piece n (drop at s)
@@ -32,7 +34,7 @@ module _ (n s : List ℕ) (at : ℕ) where
 
   pub piece-text : (e : ℕ) → at < length s → (getD s at 0 ≡ 60 → ⊥) → e ≡ at + run (class 60) (drop at s) → read (words (part s at e)) (drop e s) ≡ piece n (drop at s)
   unfolding piece class
-  piece-text e h t k = rw (run-part isText s at e k, run-after isText s at e k, front s at h, ne-eqb (getD s at 0) 60 t)
+  piece-text e h t k = rw (run-part isText s at e k, run-after isText s at e k, front-at s at h, ne-eqb (getD s at 0) 60 t)
 
   pub text-ahead : (e : ℕ) → at < length s → (getD s at 0 ≡ 60 → ⊥) → e ≡ at + run (class 60) (drop at s) → (at < e) × (e ≤ length s)
   unfolding class
@@ -42,7 +44,37 @@ module _ (n s : List ℕ) (at : ℕ) where
   pub piece-tag : (c : ℕ) → at < length s → getD s at 0 ≡ 60 → c ≡ getD s (at + 1) 0
       → piece n (drop at s) ≡ cond (eqb c 47) (then (endTag n (drop (at + 2) s)) (λ _ m. read closing m)) (cond (eqb c 33) (then (dashed (drop (at + 2) s)) (λ _ m. read aside m)) (read child (drop at s)))
   unfolding piece
-  piece-tag c h t k = rw (front s at h, eq-eqb (getD s at 0) 60 t, first s (at + 1), ← k, drop-drop 1 (at + 1) s, add-assoc at 1 1)
+  piece-tag c h t k = rw (front-at s at h, eq-eqb (getD s at 0) 60 t, first s (at + 1), ← k, drop-drop 1 (at + 1) s, add-assoc at 1 1)
+
+-- an end tag that is one ends after as many bytes as its name has
+end-known : (n l z : List ℕ) → endTag n l ≡ read tt z → byte 62 (skipWs (drop (length n) l)) ≡ read tt z
+unfolding endTag name
+end-known n l z e = go (isNameStart (getD l 0 0)) e
+  where
+    size : length (front isName l) ≡ run isName l
+    size = simp length-take (omega (arith, run-le isName l))
+
+    on : (t : Bool) → same n (front isName l) ≡ t → cond t (byte 62 (skipWs (after isName l))) refused ≡ read tt z → byte 62 (skipWs (drop (length n) l)) ≡ read tt z
+    on true w e = ap (λ (k : ℕ). byte 62 (skipWs (drop k l))) (same-length n (front isName l) w ∙ size) ∙ e
+    on false w e = absurd (let z : _≡_ {A = ℕ} 0 1 = cc in omega arith)
+
+    go : (t : Bool) → then (cond t (read (front isName l) (after isName l)) refused) (λ m rest. cond (same n m) (byte 62 (skipWs rest)) refused) ≡ read tt z
+        → byte 62 (skipWs (drop (length n) l)) ≡ read tt z
+    go true e = on (same n (front isName l)) refl e
+    go false e = absurd (let z : _≡_ {A = ℕ} 0 1 = cc in omega arith)
+
+pub known-close : (n s : List ℕ) (at b c last : ℕ) → b ≡ getD s at 0 → b ≡ 60 → c ≡ getD s (at + 1) 0 → c ≡ 47 → drop last s ≡ skipWs (drop (at + 2 + length n) s)
+    → (o : Read Unit) → o ≡ byte 62 (drop last s) → (piece n (drop at s) ≡ refused → ⊥) → then o (λ _ m. read closing m) ≡ piece n (drop at s)
+known-close n s at b c last k t w u v o q f = go (endTag n (drop (at + 2) s)) refl p
+  where
+    p : piece n (drop at s) ≡ then (endTag n (drop (at + 2) s)) (λ _ m. read closing m)
+    p = piece-tag n s at c (byte-inside s at b 60 refl k t) (sym k ∙ t) w ∙ rw (u)
+
+    go : (e : Read Unit) → endTag n (drop (at + 2) s) ≡ e → piece n (drop at s) ≡ then e (λ _ m. read closing m) → then o (λ _ m. read closing m) ≡ piece n (drop at s)
+    go refused e p = absurd (f p)
+    go (read x z) e p =
+        let g : o ≡ read tt z = q ∙ ap (byte 62) (v ∙ ap skipWs (sym (drop-drop (length n) (at + 2) s))) ∙ end-known n (drop (at + 2) s) z e in
+        ap (λ (r : Read Unit). then r (λ _ m. read closing m)) g ∙ sym p
 
 left-onto : (f : Inside → Inside) (r : Read Inside) → left (onto f r) ≡ left r
 left-onto f refused = refl

@@ -1,17 +1,16 @@
 -- Start tags and end tags at a place of the input, and what the code's answers say of a tag's attributes.
-use Prim.Native.Nat.{ℕ, _+_, _≤_}
+use Prim.Native.Nat.{ℕ, _+_, _<_, _≤_}
 use mathlib.Core.Path.{_≡_, refl, sym, _∙_}
 use mathlib.Core.List.{List, [], _∷_}
 use mathlib.Core.Bool.{Bool, true, false, cond}
 use native.Mathlib.Decide.{ℕ-discrete}
 use native.Mathlib.Omega.{arith}
-use lib.ListN.{drop, getD}
+use lib.ListN.{length, drop, getD}
 use lib.Seq.{drop-drop}
 use lib.Dec.{eqb}
 use borrow.Author.Tests.{eq-eqb, ne-eqb}
-use Rattle.laws.specs.Lists.{any, same}
 use Rattle.laws.specs.Loop.Step.{stop, next}
-use Rattle.laws.proofs.Places.{first}
+use Rattle.laws.proofs.Places.{first, byte-inside}
 use Rattle.laws.proofs.Truth.{cond-both}
 use Rattle.markup.specs.Bytes.{isWs, run}
 use Rattle.markup.specs.Reading.{Read, then}
@@ -22,7 +21,7 @@ use Rattle.markup.specs.Classes.{class}
 use Rattle.markup.specs.View.{okEnding, endingOf, pairsIn, OfPairs}
 use Rattle.markup.specs.declared.Ending.{Ending}
 use Rattle.markup.specs.declared.Ending.the-variants as end
-use Rattle.markup.proofs.AtBytes.{skip-at}
+use Rattle.markup.proofs.AtBytes.{run-no, skip-at}
 use Rattle.markup.proofs.Shorter.{attributes-turn}
 
 same-count : (from w at : ℕ) → at ≡ from + w → eqb w 0 ≡ eqb at from
@@ -39,6 +38,17 @@ pub attributes-at : (s : List ℕ) (from at b : ℕ) → at ≡ from + run (clas
 unfolding attributesStep class
 attributes-at s from at b h k =
     rw (← skip-at s from at h, first s at, ← k, drop-drop 1 at s, same-count from (run isWs (drop from s)) at h)
+
+-- a tag that ends at once
+pub attributes-none : (s : List ℕ) (at b : ℕ) → b ≡ getD s at 0 → b ≡ 62 → (attributes (drop at s) ≡ read (ending false) (drop (at + 1) s)) × (at < length s)
+unfolding class
+attributes-none s at b k e = (attributes-turn (drop at s) ∙ rw (attributes-at s at at b z k, e), h)
+  where
+    h : at < length s
+    h = byte-inside s at b 62 refl k e
+
+    z : at ≡ at + run (class 0) (drop at s)
+    z = let r : run isWs (drop at s) ≡ 0 = run-no isWs s at h (rw (← k, e)) in omega arith
 
 pub ending-before : (p : Pair) (r : Read Attributes) → endingOf (before p r) ≡ endingOf r
 ending-before p refused = refl
@@ -64,24 +74,12 @@ module _ (f : List Pair → Bool) (l : List ℕ) where
       go refused i e = absurd (let z : _≡_ {A = ℕ} 0 1 = cc in omega arith)
       go (read c n) i e = let j : a ≡ record { pairs = p ∷ c .pairs; shut = c .shut } = cc in rw j (g c n i)
 
--- one more attribute before those of which it is said whether the name is among them
-module _ (n : List ℕ) (p : Pair) (ps : List Pair) where
-  pub among-yes : same n (p .key) ≡ true → true ≡ any (λ q. same n (q .key)) (p ∷ ps)
-  unfolding any
-  among-yes e = rw e
-
-  pub among-no : same n (p .key) ≡ false → any (λ q. same n (q .key)) (p ∷ ps) ≡ any (λ q. same n (q .key)) ps
-  unfolding any
-  among-no e = rw e
-
-module _ (p : Pair) (ps : List Pair) where
-  pub differ-no : any (λ q. same (p .key) (q .key)) ps ≡ true → false ≡ differ (p ∷ ps)
-  unfolding differ
-  differ-no e = rw e
-
-  pub differ-yes : any (λ q. same (p .key) (q .key)) ps ≡ false → differ (p ∷ ps) ≡ differ ps
-  unfolding differ
-  differ-yes e = rw e
+-- a tag that ends at once has none
+pub of-none : (f : List Pair → Bool) (s : List ℕ) (at b : ℕ) → b ≡ getD s at 0 → b ≡ 62 → OfPairs f (drop at s) (f [])
+of-none f s at b k e a m h =
+    let n = attributes-none s at b k e .0 in
+    let j : a ≡ ending false = cc in
+    rw j
 
 -- a tag's end, and whether the names of its attributes differ
 pub tag-end : (n : List ℕ) (r : Read Attributes) (v : Read Bool) (b : Bool) → v ≡ endingOf r → ((a : Attributes) (m : List ℕ) → r ≡ read a m → b ≡ differ (a .pairs))

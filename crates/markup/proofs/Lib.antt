@@ -4,5 +4,6 @@ pub mod AtNames
 pub mod AtComments
 pub mod Shorter
 pub mod AtTags
+pub mod AtRepeats
 pub mod AtElements
 pub mod AtFile

@@ -7,3 +7,4 @@ pub mod Elements
 pub mod Document
 pub mod Classes
 pub mod View
+pub mod Repeats

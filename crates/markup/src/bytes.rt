@@ -4,7 +4,7 @@ ghost use Prim.Native.Nat.{_+_};
 ghost use lib.ListN.{drop, getD};
 ghost use Rattle.laws.specs.Lists.{all, same};
 ghost use Rattle.markup.specs.Bytes.{isWs, isNameStart, isName, inFile, run};
-ghost use Rattle.markup.specs.Classes.{class};
+ghost use Rattle.markup.specs.Classes.{isWord, class};
 ghost use Rattle.markup.specs.View.{part};
 
 pub fn is_ws(b: u8) -> bool
@@ -19,9 +19,13 @@ pub fn is_name_start(b: u8) -> bool
     ((b'A' <= b) & (b <= b'Z')) | (((b'a' <= b) & (b <= b'z')) | (b == b'_'))
 }
 
+// Small letters, of which names have most, are told first.
 pub fn is_name(b: u8) -> bool
     ensures { λ r. ⌜ r ≡ isName b ⌝ }
 {
+    if (b'a' <= b) & (b <= b'z') {
+        return true;
+    }
     is_name_start(b) | (((b'0' <= b) & (b <= b'9')) | ((b == b'-') | ((b == b'.') | (b == b':'))))
 }
 
@@ -44,7 +48,13 @@ pub fn all_in_file(s: &[u8]) -> bool
     ok
 }
 
-// The class 0 is white space, 1 a name's bytes, any other is every byte but itself and `<`.
+pub fn is_word(b: u8) -> bool
+    ensures { λ r. ⌜ r ≡ isWord b ⌝ }
+{
+    (32 < b) & (b != b'=')
+}
+
+// The class 0 is white space, 1 a name's bytes, 2 a word's, any other is every byte but itself and `<`.
 fn of_class(k: u8, b: u8) -> bool
     ensures { λ r. ⌜ r ≡ class k b ⌝ }
 {
@@ -52,6 +62,8 @@ fn of_class(k: u8, b: u8) -> bool
         is_ws(b)
     } else if k == 1 {
         is_name(b)
+    } else if k == 2 {
+        is_word(b)
     } else {
         (b != k) & (b != b'<')
     }

@@ -1,12 +1,14 @@
 // What stands in an element, and the element.
 ghost use mathlib.Core.Path.{_≡_};
 ghost use lib.ListN.{drop};
+ghost use Rattle.markup.specs.Reading.Read.{refused};
 ghost use Rattle.markup.specs.Elements.{piece, element};
 ghost use Rattle.markup.specs.View.{part, viewMove, okMove, viewPiece, okPiece, left};
 use crate::Cursor;
 use crate::Move;
 use crate::Piece;
 use crate::Start;
+use crate::bytes::part;
 use crate::bytes::peek;
 use crate::bytes::run_end;
 
@@ -38,6 +40,27 @@ impl Cursor {
             return Piece::Aside(done);
         }
         Piece::Kid
+    }
+
+    // The same where it is known that a piece stands there: an end tag is passed by the length of its name.
+    pub fn known_piece(self, s: &[u8], name: usize, name_end: usize) -> Piece
+        ensures { λ r. ⌜ ((piece (part (now (s .entry)) name «name_end») (drop (self .at) (now (s .entry))) ≡ refused → ⊥) → viewPiece (now (s .entry)) (self .at) r ≡ piece (part (now (s .entry)) name «name_end») (drop (self .at) (now (s .entry)))) × okPiece (now (s .entry)) (self .at) r ⌝ }
+    {
+        let at = self.at;
+        if peek(s, at) == b'<' {
+            if peek(s, at + 1) == b'/' {
+                let n = part(s, name, name_end);
+                let after = Cursor {
+                    at: at + 2 + n.len(),
+                };
+                let last = after.skip_ws(s);
+                let Move::To(done) = last.expect(s, b'>') else {
+                    return Piece::Refused;
+                };
+                return Piece::Close(done);
+            }
+        }
+        self.next_piece(s, name, name_end)
     }
 
     // An element of at most so many levels.

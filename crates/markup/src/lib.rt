@@ -4,6 +4,7 @@ pub mod comments;
 pub mod elements;
 pub mod file;
 pub mod names;
+pub mod repeats;
 pub mod tags;
 
 // A place in the input.

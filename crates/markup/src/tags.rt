@@ -1,9 +1,8 @@
 // Start tags with their attributes, and end tags.
 ghost use mathlib.Core.Path.{_≡_};
 ghost use lib.ListN.{drop};
-ghost use Rattle.laws.specs.Lists.{any, same};
-ghost use Rattle.markup.specs.Tags.{attribute, attributesStep, attributes, differ, tag, endTag};
-ghost use Rattle.markup.specs.View.{part, viewMove, okMove, viewAttribute, okAttribute, viewTagStep, okTagStep, viewEnding, okEnding, endingOf, viewStart, okStart, OfPairs};
+ghost use Rattle.markup.specs.Tags.{attribute, attributesStep, attributes, tag, endTag};
+ghost use Rattle.markup.specs.View.{part, viewMove, okMove, viewAttribute, okAttribute, viewTagStep, okTagStep, viewEnding, okEnding, endingOf, viewStart, okStart};
 use crate::Attribute;
 use crate::Cursor;
 use crate::Ending;
@@ -15,6 +14,7 @@ use crate::bytes::part;
 use crate::bytes::peek;
 use crate::bytes::run_end;
 use crate::bytes::same;
+use crate::repeats::differ;
 
 impl Cursor {
     // An attribute, after white space.
@@ -91,6 +91,9 @@ impl Cursor {
         ensures { λ r. ⌜ (viewEnding (now (s .entry)) r ≡ endingOf (attributes (drop (self .at) (now (s .entry))))) × okEnding (now (s .entry)) (self .at) r ⌝ }
     {
         let from = self.at;
+        if peek(s, from) == b'>' {
+            return Ending::Open(Cursor { at: from + 1 });
+        }
         let mut at = from;
         loop {
             let here = Cursor { at };
@@ -104,55 +107,7 @@ impl Cursor {
             }
         }
     }
-}
 
-// The name is one of the attributes' from here on.
-fn later(s: &[u8], from: Cursor, name: usize, name_end: usize) -> bool
-    ensures { λ r. ⌜ OfPairs (any (λ q. same (part (now (s .entry)) name «name_end») (q .key))) (drop (from .at) (now (s .entry))) r ⌝ }
-{
-    let mut at = from.at;
-    loop {
-        let here = Cursor { at };
-        let TagStep::More {
-            name: other,
-            name_end: other_end,
-            next,
-            ..
-        } = here.attributes_step(s)
-        else {
-            return false;
-        };
-        if same(part(s, name, name_end), part(s, other, other_end)) {
-            return true;
-        }
-        at = next.at;
-    }
-}
-
-// The attributes' names differ.
-fn differ(s: &[u8], after: usize) -> bool
-    ensures { λ r. ⌜ OfPairs differ (drop after (now (s .entry))) r ⌝ }
-{
-    let mut at = after;
-    loop {
-        let here = Cursor { at };
-        let TagStep::More {
-            name,
-            name_end,
-            next,
-            ..
-        } = here.attributes_step(s)
-        else {
-            return true;
-        };
-        if later(s, next, name, name_end) {
-            return false;
-        }
-        at = next.at;
-    }
-}
-
-impl Cursor {
     // A start tag.
     pub fn start(self, s: &[u8]) -> Start
         ensures { λ r. ⌜ (viewStart (now (s .entry)) r ≡ tag (drop (self .at) (now (s .entry)))) × okStart (now (s .entry)) (self .at) r ⌝ }
@@ -164,6 +119,14 @@ impl Cursor {
             return Start::Refused;
         };
         let after = next.at;
+        if peek(s, after) == b'>' {
+            return Start::Open {
+                name: start,
+                name_end: end,
+                after,
+                next: Cursor { at: after + 1 },
+            };
+        }
         let ending = next.attributes(s);
         if !differ(s, after) {
             return Start::Refused;

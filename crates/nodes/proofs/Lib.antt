@@ -10,3 +10,5 @@ pub mod Entering
 pub mod Walking
 pub mod Naming
 pub mod Valuing
+pub mod Skipping
+pub mod Seeking

@@ -1,2 +1,3 @@
 pub mod Lookup
 pub mod Stands
+pub mod Several

@@ -15,6 +15,7 @@ ghost use Rattle.nodes.specs.Stands.{Stands, Holds, Entered, NextKid, ok
 use crate::Entry;
 use crate::Kid;
 use crate::Node;
+use crate::skips::skip;
 use markup::Cursor;
 use markup::Got;
 use markup::Move;
@@ -112,8 +113,7 @@ fn child_from(s: &[u8], levels: usize, from: usize, name: usize, name_end: usize
         if is_named(s, q, x) {
             return Node { at: q, levels };
         }
-        let here = Cursor { at: q };
-        let Move::To(done) = here.element(s, levels) else {
+        let Move::To(done) = skip(s, q) else {
             return Node { at: 0, levels: 0 };
         };
         at = done.at;

@@ -1,5 +1,7 @@
 // Looking things up in an element that stands in a file: a child by its name, an attribute's value, a leaf's text.
 pub mod children;
+pub mod several;
+pub mod skips;
 pub mod values;
 
 // An element: the place of its `<`, and the levels that it has at most; 0 levels where it is missing.
@@ -35,4 +37,14 @@ pub enum Entry {
 pub enum Kid {
     At(usize),
     Gone,
+}
+
+// Six children of an element, each the first of its name.
+pub struct Six {
+    pub a: Node,
+    pub b: Node,
+    pub c: Node,
+    pub d: Node,
+    pub e: Node,
+    pub f: Node,
 }

@@ -17,6 +17,7 @@ use crate::texts::fits_text;
 use markup::Cursor;
 use markup::TagStep;
 use markup::bytes::part;
+use markup::bytes::peek;
 use markup::bytes::same;
 
 // A name is that of a key, or, if it is free, how the key begins.
@@ -57,6 +58,9 @@ fn all_known(
     requires { ⌜ (first < 65536) × (n < 65536) ⌝ }
     ensures { λ r. ⌜ ((ranges : List ℕ) → OfPairs (all (λ p. any (λ x. takes free x (p .key)) (namesAt (now (table .entry)) (now (pool .entry)) ranges first n))) (drop after (now (s .entry))) r) ⌝ }
 {
+    if peek(s, after) == b'>' {
+        return true;
+    }
     let mut at = after;
     loop {
         let here = Cursor { at };

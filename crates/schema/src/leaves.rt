@@ -41,7 +41,7 @@ fn end_of(s: &[u8], start: usize, name: usize, name_end: usize, from: usize) -> 
     ensures { λ r. ⌜ ((d : ℕ) (i : Inside) (m : List ℕ) → content (element d) (part (now (s .entry)) name «name_end») (drop start (now (s .entry))) ≡ read i m → 0 < from → Tells (now (s .entry)) r (cond (isEnd i) 0 from) 0 m) × okOutcome (now (s .entry)) start r ⌝ }
 {
     let here = Cursor { at: start };
-    match here.next_piece(s, name, name_end) {
+    match here.known_piece(s, name, name_end) {
         Piece::Close(done) => Outcome::Past {
             next: done.at,
             count: 0,
@@ -69,7 +69,7 @@ pub fn leaf_inside(
     ensures { λ r. ⌜ ((pool : List ℕ) (d : ℕ) (i : Inside) (m : List ℕ) → content (element d) (part (now (s .entry)) name «name_end») (drop start (now (s .entry))) ≡ read i m → 0 < from → Tells (now (s .entry)) r (cond (leafFits (textsOf (now (table .entry)) pool (now (ranges .entry)) row) i) 0 from) 0 m) × okOutcome (now (s .entry)) start r ⌝ }
 {
     let here = Cursor { at: start };
-    match here.next_piece(s, name, name_end) {
+    match here.known_piece(s, name, name_end) {
         Piece::Words { start: text, end } => {
             if fits_text(t, table, ranges, row, part(s, text, end)) {
                 return end_of(s, end, name, name_end, from);

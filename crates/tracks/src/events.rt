@@ -21,7 +21,6 @@ use crate::fields::attr_end;
 use crate::fields::attr_number;
 use crate::fields::child_number;
 use crate::fields::child_text;
-use markup::Cursor;
 use markup::Move;
 use markup::bytes::part;
 use markup::bytes::same;
@@ -32,6 +31,7 @@ use nodes::children::child;
 use nodes::children::enter;
 use nodes::children::is_named;
 use nodes::children::next_kid;
+use nodes::skips::skip;
 use rows::pack::event_number;
 
 pub struct EventsRead {
@@ -177,8 +177,7 @@ fn events_from(
         let Kid::At(q) = next_kid(s, at, name, name_end) else {
             return tally;
         };
-        let here = Cursor { at: q };
-        let Move::To(done) = here.element(s, levels) else {
+        let Move::To(done) = skip(s, q) else {
             return tally;
         };
         let h = event_at(t, s, q, levels);

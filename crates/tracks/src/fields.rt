@@ -113,10 +113,17 @@ pub fn child_text(s: &[u8], n: Node, x: &[u8]) -> Span
     text(s, child(s, n, x))
 }
 
+// The number of an element's text.
+pub fn text_number(s: &[u8], n: Node) -> u64
+    ensures { λ r. ⌜ ((tree : Tree) → Stands (n .levels) (drop (n .at) (now (s .entry))) tree → r ≡ numberElse (textOf tree)) × (r < 10000) ⌝ }
+{
+    let v = text(s, n);
+    number(s, v.start, v.end)
+}
+
 // The number of a child.
 pub fn child_number(s: &[u8], n: Node, x: &[u8]) -> u64
     ensures { λ r. ⌜ ((tree : Tree) → Stands (n .levels) (drop (n .at) (now (s .entry))) tree → r ≡ numberElse (textOf (childOf (now (x .entry)) tree))) × (r < 10000) ⌝ }
 {
-    let v = child_text(s, n, x);
-    number(s, v.start, v.end)
+    text_number(s, child(s, n, x))
 }

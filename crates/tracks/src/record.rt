@@ -1,7 +1,7 @@
 // A record's head, and a record of Track 1.
 ghost use mathlib.Core.Path.{_≡_};
 ghost use mathlib.Core.List.{List};
-ghost use Prim.Native.Nat.{ℕ, _<_};
+ghost use Prim.Native.Nat.{ℕ, _%_, _<_};
 ghost use lib.ListN.{drop};
 ghost use Rattle.days.specs.Calendar.{dayCount};
 ghost use Rattle.days.specs.Table.{Firsts};
@@ -11,18 +11,23 @@ ghost use Rattle.nodes.specs.Stands.{Stands};
 ghost use Rattle.reading.specs.Many.{belowRoot};
 ghost use Rattle.schema.specs.Shape.{faultOf};
 ghost use Rattle.tracks.specs.Track1.{track1};
-ghost use Rattle.tracks.specs.Record.{padded, headOf, admissionOf};
-ghost use Rattle.tracks.specs.Defaults.{scaleElse, scalesElse};
+ghost use Rattle.tracks.specs.Record.{_▹_, padded, headOf, admissionOf};
+ghost use Rattle.markup.specs.View.{part};
+ghost use Rattle.nodes.specs.Lookup.{textOf};
+ghost use Rattle.tracks.specs.Defaults.{numberElse, scalesElse};
 ghost use Rattle.tracks.specs.View.{eachOf, IsHead, IsAdmission};
 use crate::fields::attr_byte;
 use crate::fields::attr_day;
 use crate::fields::child_number;
 use crate::fields::child_text;
+use crate::fields::text_number;
 use markup::bytes::part;
 use markup::bytes::peek;
 use nodes::Node;
 use nodes::Span;
 use nodes::children::child;
+use nodes::several::several;
+use nodes::values::text;
 
 // The type, and the case's key: ASL's 3 bytes and Id_Rec's 88 by their places.
 pub struct HeadRead {
@@ -50,15 +55,22 @@ pub fn head(t: &[u32; 2400], s: &[u8], at: usize) -> HeadRead
     ensures { λ r. ⌜ ((track : ℕ) (a : Tree) (m : List ℕ) → element belowRoot (drop at (now (s .entry))) ≡ read a m → faultOf (eachOf track) a ≡ 0 → IsHead (now (s .entry)) r (headOf a)) × (r .region < 10000) × (r .day < dayCount) ⌝ }
 {
     let whole = Node { at, levels: 11 };
-    let sent = child(s, whole, b"Trasmissione");
-    let giver = child(s, whole, b"Erogatore");
-    let all = child(s, whole, b"Eventi");
-    let taken = child(s, all, b"PresaInCarico");
-    let asl = child_text(s, giver, b"CodiceASL");
+    let top = several(
+        s,
+        whole,
+        b"Trasmissione",
+        b"Erogatore",
+        b"Eventi",
+        b"Eventi",
+        b"Eventi",
+        b"Eventi",
+    );
+    let taken = child(s, top.c, b"PresaInCarico");
+    let asl = child_text(s, top.b, b"CodiceASL");
     let id = child_text(s, taken, b"Id_Rec");
     HeadRead {
-        tipo: attr_byte(s, sent, b"tipo"),
-        region: child_number(s, giver, b"CodiceRegione"),
+        tipo: attr_byte(s, top.a, b"tipo"),
+        region: child_number(s, top.b, b"CodiceRegione"),
         asl: asl.start,
         day: attr_day(t, s, taken, b"data"),
         id: id.start,
@@ -73,25 +85,46 @@ fn filled(x: &[u8]) -> [u8; 5]
 }
 
 // A scale from 1 to 3, and 0 where it is missing.
-fn scale(s: &[u8], n: Node, x: &[u8]) -> u8
-    ensures { λ r. ⌜ ((tree : Tree) → Stands (n .levels) (drop (n .at) (now (s .entry))) tree → r ≡ scaleElse (now (x .entry)) tree) ⌝ }
+fn scale(s: &[u8], n: Node) -> u8
+    ensures { λ r. ⌜ ((tree : Tree) → Stands (n .levels) (drop (n .at) (now (s .entry))) tree → r ≡ numberElse (textOf tree) % 4) ⌝ }
 {
-    (child_number(s, n, x) % 4) as u8
+    (text_number(s, n) % 4) as u8
 }
 
-// The six scales of a Valutazione.
-fn scales(s: &[u8], value: Node) -> [u8; 6]
-    ensures { λ r. ⌜ ((tree : Tree) → Stands (value .levels) (drop (value .at) (now (s .entry))) tree → r ≡ scalesElse tree) ⌝ }
+// What is read of a Valutazione: the text of its Patologia's Prevalente, and its six scales.
+pub struct ValueRead {
+    pub main: Span,
+    pub scales: [u8; 6],
+}
+
+fn valued(s: &[u8], value: Node) -> ValueRead
+    ensures { λ r. ⌜ ((tree : Tree) → Stands (value .levels) (drop (value .at) (now (s .entry))) tree → (part (now (s .entry)) (r .main .start) (r .main .end) ≡ textOf (tree ▹ "Patologia" ▹ "Prevalente")) × (r .scales ≡ scalesElse tree)) ⌝ }
 {
-    let troubles = child(s, value, b"Disturbi");
-    [
-        scale(s, value, b"Autonomia"),
-        scale(s, value, b"GradoMobilita"),
-        scale(s, troubles, b"Cognitivi"),
-        scale(s, troubles, b"Comportamentali"),
-        scale(s, value, b"SupportoSociale"),
-        scale(s, value, b"RischioInfettivo"),
-    ]
+    let v = several(
+        s,
+        value,
+        b"Patologia",
+        b"Autonomia",
+        b"GradoMobilita",
+        b"Disturbi",
+        b"SupportoSociale",
+        b"RischioInfettivo",
+    );
+    let main = child_text(s, v.a, b"Prevalente");
+    let troubles = v.d;
+    let cognitive = child(s, troubles, b"Cognitivi");
+    let behaviour = child(s, troubles, b"Comportamentali");
+    ValueRead {
+        main,
+        scales: [
+            scale(s, v.b),
+            scale(s, v.c),
+            scale(s, cognitive),
+            scale(s, behaviour),
+            scale(s, v.e),
+            scale(s, v.f),
+        ],
+    }
 }
 
 // The case and the residence of the record at a place.
@@ -99,21 +132,47 @@ pub fn admission(s: &[u8], at: usize) -> AdmissionRead
     ensures { λ r. ⌜ ((a : Tree) (m : List ℕ) → element belowRoot (drop at (now (s .entry))) ≡ read a m → faultOf (track1 .each) a ≡ 0 → IsAdmission (now (s .entry)) r (admissionOf a)) × (r .birth < 10000) ⌝ }
 {
     let whole = Node { at, levels: 11 };
-    let assisted = child(s, whole, b"Assistito");
-    let person = child(s, assisted, b"DatiAnagrafici");
-    let home = child(s, person, b"Residenza");
-    let all = child(s, whole, b"Eventi");
-    let value = child(s, all, b"Valutazione");
-    let illness = child(s, value, b"Patologia");
-    let main = child_text(s, illness, b"Prevalente");
+    let top = several(
+        s,
+        whole,
+        b"Assistito",
+        b"Eventi",
+        b"Eventi",
+        b"Eventi",
+        b"Eventi",
+        b"Eventi",
+    );
+    let person = child(s, top.a, b"DatiAnagrafici");
+    let p = several(
+        s,
+        person,
+        b"AnnoNascita",
+        b"Residenza",
+        b"Residenza",
+        b"Residenza",
+        b"Residenza",
+        b"Residenza",
+    );
+    let home = several(
+        s,
+        p.b,
+        b"Regione",
+        b"ASL",
+        b"Comune",
+        b"StatoEstero",
+        b"StatoEstero",
+        b"StatoEstero",
+    );
+    let v = valued(s, child(s, top.b, b"Valutazione"));
+    let main = v.main;
     let prevalente = filled(part(s, main.start, main.end));
-    let scales = scales(s, value);
-    let region = child_text(s, home, b"Regione");
-    let asl = child_text(s, home, b"ASL");
-    let comune = child_text(s, home, b"Comune");
-    let stato = child_text(s, home, b"StatoEstero");
+    let scales = v.scales;
+    let region = text(s, home.a);
+    let asl = text(s, home.b);
+    let comune = text(s, home.c);
+    let stato = text(s, home.d);
     AdmissionRead {
-        birth: child_number(s, person, b"AnnoNascita"),
+        birth: text_number(s, p.a),
         prevalente,
         scales,
         region,

@@ -51,8 +51,8 @@ returns c =
     λ i w. let g = c .before .before .before .loop .inv .2 i w in
     ends-all (c .before .before .before .before .before .before .before .args .track) (contextIn (c .before .before .before .before .before .before .before .args .l)) (now (c .before .before .before .before .before .before .before .args .reg)) (now (c .before .before .before .before .before .before .before .args .answers)) (kids i) (going-end (c .before .before .before .before .before .before .before .args .track) (contextIn (c .before .before .before .before .before .before .before .args .l)) g (k .0 _ _ (g .holds)))
 
-element-requires : tie.Need-element-requires Inv-loop μ-loop
-element-requires c κs = search needs
+skip-requires : tie.Need-skip-requires Inv-loop μ-loop
+skip-requires c κs = search needs
 
 enum-known-done : tie.Need-enum-known-done Inv-loop μ-loop
 enum-known-done c = search needs
@@ -69,8 +69,8 @@ same-length-4 c = search needs
 returns-2 : tie.Need-returns-2 Inv-loop μ-loop
 returns-2 c =
     let k = rw (c .before .before .before .before .q .given .1) at (c .before .before .before .before .before .before .next-kid .ensures) in
-    let y = rw (c .enum-told2 .given .1) at (c .before .before .element .ensures) in
-    λ i w. let g = c .before .before .before .before .before .before .before .loop .inv .2 i w in going-stuck (c .before .before .before .before .before .before .before .before .before .before .before .args .track) (contextIn (c .before .before .before .before .before .before .before .before .before .before .before .args .l)) g (k .0 _ _ (g .holds)) (y .0)
+    let y = rw (c .enum-told2 .given .1) at (c .before .before .skip .ensures) in
+    λ i w. let g = c .before .before .before .before .before .before .before .loop .inv .2 i w in going-stuck (c .before .before .before .before .before .before .before .before .before .before .before .args .track) (contextIn (c .before .before .before .before .before .before .before .before .before .before .before .args .l)) g (k .0 _ _ (g .holds)) (let a = k .0 _ _ (g .holds) in y .0 _ (a .tree) (a .after) (a .reads))
 
 take-kid-requires : tie.Need-take-kid-requires Inv-loop μ-loop
 take-kid-requires c κs =
@@ -82,19 +82,19 @@ take-kid-requires c κs =
 loop-less : tie.Need-loop-less Inv-loop μ-loop
 loop-less c =
     let k = rw (c .before .before .before .before .before .before .before .before .before .before .before .before .q .given .1) at (c .before .before .before .before .before .before .before .before .before .before .before .before .before .before .next-kid .ensures) in
-    let y = rw (c .before .before .before .before .before .before .before .before .done .given .1) at (c .before .before .before .before .before .before .before .before .before .before .element .ensures) in
+    let y = rw (c .before .before .before .before .before .before .before .before .done .given .1) at (c .before .before .before .before .before .before .before .before .before .before .skip .ensures) in
     omega arith
 
 loop-again : tie.Need-loop-again Inv-loop μ-loop
 loop-again c =
     let k = rw (c .before .before .before .before .before .before .before .before .before .before .before .before .q .given .1) at (c .before .before .before .before .before .before .before .before .before .before .before .before .before .before .next-kid .ensures) in
-    let y = rw (c .before .before .before .before .before .before .before .before .done .given .1) at (c .before .before .before .before .before .before .before .before .before .before .element .ensures) in
+    let y = rw (c .before .before .before .before .before .before .before .before .done .given .1) at (c .before .before .before .before .before .before .before .before .before .before .skip .ensures) in
     let g = c .before .before .before .before .before .before .before .before .before .before .before .before .before .before .before .loop .inv .2 (c .before .before .before .before .before .before .before .before .before .before .before .before .before .before .before .before .before .before .before .pre .1 .0) (c .before .before .before .before .before .before .before .before .before .before .before .before .before .before .before .before .before .before .before .pre .1 .1 .holds) in
     let a = k .0 _ _ (g .holds) in
     let z = going-long (c .before .before .before .before .before .before .before .before .before .before .before .before .before .before .before .before .before .before .before .args .track) (contextIn (c .before .before .before .before .before .before .before .before .before .before .before .before .before .before .before .before .before .before .before .args .l)) g a (c .before .before .before .before .take-kid .ensures (a .tree) (going-next (c .before .before .before .before .before .before .before .before .before .before .before .before .before .before .before .before .before .before .before .args .track) (contextIn (c .before .before .before .before .before .before .before .before .before .before .before .before .before .before .before .before .before .before .before .args .l)) g a refl)) in (
       z .0 ∙ c .before .before .before .before .before .before .before .before .before .before .before .before .before .before .before .loop .inv .0,
       z .1 ∙ c .before .before .before .before .before .before .before .before .before .before .before .before .before .before .before .loop .inv .1,
-      λ i w. let g = c .before .before .before .before .before .before .before .before .before .before .before .before .before .before .before .loop .inv .2 i w in let a = k .0 _ _ (g .holds) in going-on (c .before .before .before .before .before .before .before .before .before .before .before .before .before .before .before .before .before .before .before .args .track) (contextIn (c .before .before .before .before .before .before .before .before .before .before .before .before .before .before .before .before .before .before .before .args .l)) g a (c .before .before .before .before .take-kid .ensures (a .tree) (going-next (c .before .before .before .before .before .before .before .before .before .before .before .before .before .before .before .before .before .before .before .args .track) (contextIn (c .before .before .before .before .before .before .before .before .before .before .before .before .before .before .before .before .before .before .before .args .l)) g a refl)) (y .0),
+      λ i w. let g = c .before .before .before .before .before .before .before .before .before .before .before .before .before .before .before .loop .inv .2 i w in let a = k .0 _ _ (g .holds) in going-on (c .before .before .before .before .before .before .before .before .before .before .before .before .before .before .before .before .before .before .before .args .track) (contextIn (c .before .before .before .before .before .before .before .before .before .before .before .before .before .before .before .before .before .before .before .args .l)) g a (c .before .before .before .before .take-kid .ensures (a .tree) (going-next (c .before .before .before .before .before .before .before .before .before .before .before .before .before .before .before .before .before .before .before .args .track) (contextIn (c .before .before .before .before .before .before .before .before .before .before .before .before .before .before .before .before .before .before .before .args .l)) g a refl)) (y .0 _ (a .tree) (a .after) (a .reads)),
     )
 
 pub take-all-spec : {M : Type 1} → statement M
@@ -110,7 +110,7 @@ take-all-spec =
     same-length
     same-length-2
     returns
-    element-requires
+    skip-requires
     enum-known-done
     enum-told-2
     same-length-3

@@ -52,8 +52,8 @@ returns-2 c =
     λ i w. let k = c .before .before .before .before .before .before .loop .inv .1 i w in let a = n .0 _ _ (k .holds) in
     rw (look-here k a (first-hit x (a .tree) (kids (a .more)) (sym (c .if1 .taken) ∙ c .before .is-named .ensures _ (a .tree) (a .after) (a .reads)))) (stands (a .after) (a .reads))
 
-element-requires : tie.Need-element-requires Inv-loop μ-loop
-element-requires c κs = search needs
+skip-requires : tie.Need-skip-requires Inv-loop μ-loop
+skip-requires c κs = search needs
 
 enum-known-done : tie.Need-enum-known-done Inv-loop μ-loop
 enum-known-done c = search needs
@@ -64,23 +64,23 @@ enum-told-2 c = search needs
 returns-3 : tie.Need-returns-3 Inv-loop μ-loop
 returns-3 c =
     let n = rw (c .before .before .before .before .before .before .q .given .1) at (c .before .before .before .before .before .before .before .before .next-kid .ensures) in
-    let e = rw (c .enum-told2 .given .1) at (c .before .before .element .ensures) in
-    λ i w. let k = c .before .before .before .before .before .before .before .before .before .loop .inv .1 i w in look-stuck k (n .0 _ _ (k .holds)) (e .0)
+    let e = rw (c .enum-told2 .given .1) at (c .before .before .skip .ensures) in
+    λ i w. let k = c .before .before .before .before .before .before .before .before .before .loop .inv .1 i w in let a = n .0 _ _ (k .holds) in look-stuck k a (e .0 _ (a .tree) (a .after) (a .reads))
 
 loop-less : tie.Need-loop-less Inv-loop μ-loop
 loop-less c =
     let n = rw (c .before .before .before .before .before .before .before .q .given .1) at (c .before .before .before .before .before .before .before .before .before .next-kid .ensures) in
-    let e = rw (c .before .done .given .1) at (c .before .before .before .element .ensures) in
+    let e = rw (c .before .done .given .1) at (c .before .before .before .skip .ensures) in
     omega arith
 
 loop-again : tie.Need-loop-again Inv-loop μ-loop
 loop-again c =
     let n = rw (c .before .before .before .before .before .before .before .q .given .1) at (c .before .before .before .before .before .before .before .before .before .next-kid .ensures) in
-    let e = rw (c .before .done .given .1) at (c .before .before .before .element .ensures) in
+    let e = rw (c .before .done .given .1) at (c .before .before .before .skip .ensures) in
     let x = now (c .before .before .before .before .before .before .before .before .before .before .before .before .before .args .x) in (
       omega arith,
       λ i w. let k = c .before .before .before .before .before .before .before .before .before .before .loop .inv .1 i w in let a = n .0 _ _ (k .holds) in
-          look-past k a (λ ts. first-on x (a .tree) ts (sym (c .before .before .before .before .if1 .left) ∙ c .before .before .before .before .before .is-named .ensures _ (a .tree) (a .after) (a .reads))) (e .0),
+          look-past k a (λ ts. first-on x (a .tree) ts (sym (c .before .before .before .before .if1 .left) ∙ c .before .before .before .before .before .is-named .ensures _ (a .tree) (a .after) (a .reads))) (e .0 _ (a .tree) (a .after) (a .reads)),
     )
 
 pub child-from-spec : {M : Type 1} → statement M
@@ -96,7 +96,7 @@ child-from-spec =
     returns
     is-named-requires
     returns-2
-    element-requires
+    skip-requires
     enum-known-done
     enum-told-2
     returns-3

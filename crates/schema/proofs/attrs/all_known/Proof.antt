@@ -1,6 +1,6 @@
 use Rattle.schema.proofs.Pairs.{pairs-pass, pairs-no, allTaken}
 use Rattle.schema.specs.Table.{namesAt}
-use Rattle.markup.proofs.AtTags.{of-done, of-next}
+use Rattle.markup.proofs.AtTags.{of-done, of-next, of-none}
 use Rattle.markup.specs.View.{OfPairs, viewEnding}
 use Rattle.laws.specs.Lists.{all}
 use borrow.Author.Tests.{not-true, not-false}
@@ -22,6 +22,14 @@ Inv-loop table pool first n free s after at₀ at =
 abbrev μ-loop : tie.MeasureT-loop
 μ-loop table pool first n free s after at₀ at = length s - at
 
+peek-requires : tie.Need-peek-requires Inv-loop μ-loop
+peek-requires c κs = search needs
+
+returns : tie.Need-returns Inv-loop μ-loop
+unfolding all
+returns c =
+    λ r. of-none (all (allTaken (c .before .before .before .before .before .args .free) (namesAt (now (c .before .before .before .before .before .args .table)) (now (c .before .before .before .before .before .args .pool)) r (c .before .before .before .before .before .args .first) (c .before .before .before .before .before .args .n)))) (now (c .before .before .before .before .before .args .s)) (c .before .before .before .before .before .args .after) (c .before .peek .result) (c .before .peek .ensures) (c .if1 .taken)
+
 loop-holds : tie.Need-loop-holds Inv-loop μ-loop
 loop-holds c = λ r b h. h
 
@@ -34,11 +42,11 @@ enum-known-name c = search needs
 enum-told : tie.Need-enum-told Inv-loop μ-loop
 enum-told c = search needs
 
-returns : tie.Need-returns Inv-loop μ-loop
+returns-2 : tie.Need-returns-2 Inv-loop μ-loop
 unfolding all
-returns c =
+returns-2 c =
     let x = rw (c .enum-told .given .1) at (c .before .before .attributes-step .ensures) in
-    λ r. c .before .before .before .loop .inv r true (of-done (all (allTaken (c .before .before .before .before .before .before .before .args .free) (namesAt (now (c .before .before .before .before .before .before .before .args .table)) (now (c .before .before .before .before .before .before .before .args .pool)) r (c .before .before .before .before .before .before .before .args .first) (c .before .before .before .before .before .before .before .args .n)))) _ (viewEnding (now (c .before .before .before .before .before .before .before .args .s)) (c .enum-told .given .0 .0)) (x .0))
+    λ r. c .before .before .before .loop .inv r true (of-done (all (allTaken (c .before .before .before .before .before .before .before .before .before .args .free) (namesAt (now (c .before .before .before .before .before .before .before .before .before .args .table)) (now (c .before .before .before .before .before .before .before .before .before .args .pool)) r (c .before .before .before .before .before .before .before .before .before .args .first) (c .before .before .before .before .before .before .before .before .before .args .n)))) _ (viewEnding (now (c .before .before .before .before .before .before .before .before .before .args .s)) (c .enum-told .given .0 .0)) (x .0))
 
 part-requires : tie.Need-part-requires Inv-loop μ-loop
 part-requires c κs = search needs
@@ -46,13 +54,13 @@ part-requires c κs = search needs
 is-known-requires : tie.Need-is-known-requires Inv-loop μ-loop
 is-known-requires c κs = search needs
 
-returns-2 : tie.Need-returns-2 Inv-loop μ-loop
-returns-2 c =
+returns-3 : tie.Need-returns-3 Inv-loop μ-loop
+returns-3 c =
     let x = rw (c .before .before .before .before .name .given .1) at (c .before .before .before .before .before .before .attributes-step .ensures) in
     λ r.
-    let q = allTaken (c .before .before .before .before .before .before .before .before .before .before .before .args .free) (namesAt (now (c .before .before .before .before .before .before .before .before .before .before .before .args .table)) (now (c .before .before .before .before .before .before .before .before .before .before .before .args .pool)) r (c .before .before .before .before .before .before .before .before .before .before .before .args .first) (c .before .before .before .before .before .before .before .before .before .before .before .args .n)) in
+    let q = allTaken (c .before .before .before .before .before .before .before .before .before .before .before .before .before .args .free) (namesAt (now (c .before .before .before .before .before .before .before .before .before .before .before .before .before .args .table)) (now (c .before .before .before .before .before .before .before .before .before .before .before .before .before .args .pool)) r (c .before .before .before .before .before .before .before .before .before .before .before .before .before .args .first) (c .before .before .before .before .before .before .before .before .before .before .before .before .before .args .n)) in
     let e = rw (c .before .before .part .ensures) at (c .before .is-known .ensures r) in
-    c .before .before .before .before .before .before .before .loop .inv r false (of-next (all q) _ (x .0) (λ a m i. pairs-no q _ (a .pairs) (sym e ∙ not-true _ (c .if1 .taken))))
+    c .before .before .before .before .before .before .before .loop .inv r false (of-next (all q) _ (x .0) (λ a m i. pairs-no q _ (a .pairs) (sym e ∙ not-true _ (c .if2 .taken))))
 
 loop-less : tie.Need-loop-less Inv-loop μ-loop
 loop-less c =
@@ -63,9 +71,9 @@ loop-again : tie.Need-loop-again Inv-loop μ-loop
 loop-again c =
     let x = rw (c .before .before .before .before .name .given .1) at (c .before .before .before .before .before .before .attributes-step .ensures) in
     λ r b h.
-    let q = allTaken (c .before .before .before .before .before .before .before .before .before .before .before .args .free) (namesAt (now (c .before .before .before .before .before .before .before .before .before .before .before .args .table)) (now (c .before .before .before .before .before .before .before .before .before .before .before .args .pool)) r (c .before .before .before .before .before .before .before .before .before .before .before .args .first) (c .before .before .before .before .before .before .before .before .before .before .before .args .n)) in
+    let q = allTaken (c .before .before .before .before .before .before .before .before .before .before .before .before .before .args .free) (namesAt (now (c .before .before .before .before .before .before .before .before .before .before .before .before .before .args .table)) (now (c .before .before .before .before .before .before .before .before .before .before .before .before .before .args .pool)) r (c .before .before .before .before .before .before .before .before .before .before .before .before .before .args .first) (c .before .before .before .before .before .before .before .before .before .before .before .before .before .args .n)) in
     let e = rw (c .before .before .part .ensures) at (c .before .is-known .ensures r) in
-    c .before .before .before .before .before .before .before .loop .inv r b (of-next (all q) _ (x .0) (λ a m i. h a m i ∙ sym (pairs-pass q _ (a .pairs) (sym e ∙ not-false _ (c .if1 .left)))))
+    c .before .before .before .before .before .before .before .loop .inv r b (of-next (all q) _ (x .0) (λ a m i. h a m i ∙ sym (pairs-pass q _ (a .pairs) (sym e ∙ not-false _ (c .if2 .left)))))
 
 pub all-known-spec : {M : Type 1} → statement M
 all-known-spec =
@@ -73,13 +81,15 @@ all-known-spec =
     (tie.spec
     Inv-loop
     μ-loop
+    peek-requires
+    returns
     loop-holds
     attributes-step-requires
     enum-known-name
     enum-told
-    returns
+    returns-2
     part-requires
     is-known-requires
-    returns-2
+    returns-3
     loop-less
     loop-again)

@@ -44,8 +44,8 @@ returns c =
     let k = rw (c .enum-told .given .1) at (c .before .before .next-kid .ensures) in
     λ i w. let v = c .before .before .before .loop .inv .3 i w in gather-all (now (c .before .before .before .before .before .before .args .out)) (kids i) (look-gone v (k .0 _ _ (v .holds)) ∙ gather-end _ _)
 
-element-requires : tie.Need-element-requires Inv-loop μ-loop
-element-requires c κs = search needs
+skip-requires : tie.Need-skip-requires Inv-loop μ-loop
+skip-requires c κs = search needs
 
 enum-known-done : tie.Need-enum-known-done Inv-loop μ-loop
 enum-known-done c = search needs
@@ -59,8 +59,8 @@ same-length-2 c = search needs
 returns-2 : tie.Need-returns-2 Inv-loop μ-loop
 returns-2 c =
     let k = rw (c .before .before .before .before .q .given .1) at (c .before .before .before .before .before .before .next-kid .ensures) in
-    let y = rw (c .enum-told2 .given .1) at (c .before .before .element .ensures) in
-    λ i w. let v = c .before .before .before .before .before .before .before .loop .inv .3 i w in look-stuck v (k .0 _ _ (v .holds)) (y .0)
+    let y = rw (c .enum-told2 .given .1) at (c .before .before .skip .ensures) in
+    λ i w. let v = c .before .before .before .before .before .before .before .loop .inv .3 i w in let a = k .0 _ _ (v .holds) in look-stuck v a (y .0 _ (a .tree) (a .after) (a .reads))
 
 event-at-requires : tie.Need-event-at-requires Inv-loop μ-loop
 event-at-requires c κs = search needs
@@ -68,24 +68,24 @@ event-at-requires c κs = search needs
 keep-requires : tie.Need-keep-requires Inv-loop μ-loop
 keep-requires c κs =
     let k = rw (c .before .before .before .before .before .before .before .q .given .1) at (c .before .before .before .before .before .before .before .before .before .next-kid .ensures) in
-    let y = rw (c .before .before .before .done .given .1) at (c .before .before .before .before .before .element .ensures) in
+    let y = rw (c .before .before .before .done .given .1) at (c .before .before .before .before .before .skip .ensures) in
     omega arith
 
 loop-less : tie.Need-loop-less Inv-loop μ-loop
 loop-less c =
     let k = rw (c .before .before .before .before .before .before .before .before .before .before .q .given .1) at (c .before .before .before .before .before .before .before .before .before .before .before .before .next-kid .ensures) in
-    let y = rw (c .before .before .before .before .before .before .done .given .1) at (c .before .before .before .before .before .before .before .before .element .ensures) in
+    let y = rw (c .before .before .before .before .before .before .done .given .1) at (c .before .before .before .before .before .before .before .before .skip .ensures) in
     omega arith
 
 loop-again : tie.Need-loop-again Inv-loop μ-loop
 loop-again c =
     let k = rw (c .before .before .before .before .before .before .before .before .before .before .q .given .1) at (c .before .before .before .before .before .before .before .before .before .before .before .before .next-kid .ensures) in
-    let y = rw (c .before .before .before .before .before .before .done .given .1) at (c .before .before .before .before .before .before .before .before .element .ensures) in (
+    let y = rw (c .before .before .before .before .before .before .done .given .1) at (c .before .before .before .before .before .before .before .before .skip .ensures) in (
       omega arith,
       omega arith,
       ap length (c .before .before .keep .ensures .1) ∙ kept-length (c .before .before .before .before .event-at .result) (c .before .before .before .before .before .before .before .before .before .before .before .before .before .loop .tally .count) (c .before .before .before .before .before .before .before .before .before .before .before .before .before .loop .out) ∙ c .before .before .before .before .before .before .before .before .before .before .before .before .before .loop .inv .2,
       λ i w. let v = c .before .before .before .before .before .before .before .before .before .before .before .before .before .loop .inv .3 i w in let a = k .0 _ _ (v .holds) in
-          look-past v a (λ ts. gather-on _ _ (a .tree) ts (c .before .before .before .before .event-at .ensures (a .tree) (a .after) (a .reads)) (c .before .before .keep .ensures .0) (c .before .before .keep .ensures .1)) (y .0),
+          look-past v a (λ ts. gather-on _ _ (a .tree) ts (c .before .before .before .before .event-at .ensures (a .tree) (a .after) (a .reads)) (c .before .before .keep .ensures .0) (c .before .before .keep .ensures .1)) (y .0 _ (a .tree) (a .after) (a .reads)),
     )
 
 pub events-from-spec : {M : Type 1} → statement M
@@ -100,7 +100,7 @@ events-from-spec =
     enum-told
     same-length
     returns
-    element-requires
+    skip-requires
     enum-known-done
     enum-told-2
     same-length-2
