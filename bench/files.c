@@ -8,7 +8,7 @@
 #include <time.h>
 
 static _Noreturn void fail(const char *why, const char *what) {
-    fprintf(stderr, "bench: %s %s\n", why, what);
+    fprintf(stderr, "bench: %s %.200s\n", why, what);
     exit(2);
 }
 
@@ -103,9 +103,11 @@ static void put_erogazione(struct file *f, const char *date) {
     put(f, "<Erogazione data=\"%s\"><TipoOperatore>1</TipoOperatore></Erogazione>", date);
 }
 
-static void put_sospensione(struct file *f, int from, int to) {
-    put(f, "<Sospensione dataInizio=\"%s\" dataFine=\"%s\"><Motivazione>1</Motivazione></Sospensione>", day(from).text,
-        day(to).text);
+#define SUSPENDED(from, to) \
+    "<Sospensione dataInizio=\"" from "\" dataFine=\"" to "\"><Motivazione>1</Motivazione></Sospensione>"
+
+static void put_sospensione(struct file *f, int number) {
+    put(f, SUSPENDED("%s", "%s"), day(number).text, day(number).text);
 }
 
 /* The ordinary files. */
@@ -155,26 +157,23 @@ static const char *up_to(struct file *f, const struct kind *k) {
     return rest;
 }
 
-static void repeat(struct file *f, const char *each, size_t behind) {
-    for (size_t n = strlen(each); fits(f, n + behind); f->n += n) memcpy(f->bytes + f->n, each, n);
-}
-
 static void filled(struct file *f, const struct kind *k) {
     const char *rest = up_to(f, k);
-    put(f, "%s", k->open ? k->open : "");
-    repeat(f, k->each, strlen(rest) + (k->close ? strlen(k->close) : 0));
-    put(f, "%s%s", k->close ? k->close : "", rest);
+    size_t n = strlen(k->each), end = strlen(k->close) + strlen(rest);
+    put(f, "%s", k->open);
+    for (; fits(f, n + end); f->n += n) memcpy(f->bytes + f->n, k->each, n);
+    put(f, "%s%s", k->close, rest);
 }
 
 /* Attributes. */
 
 enum { LETTERS = 53, NAMES = LETTERS + LETTERS * LETTERS + LETTERS * LETTERS * LETTERS };
-enum { ABSENT, FIRST, LAST }; /* where a name repeats */
+enum { ABSENT, FIRST, LAST, DOWN }; /* where a name repeats; or nowhere, and each comes before the one before it */
 
 /* Name i: all of one letter, then all of two, then all of three. */
 static const char *name(int i) {
     static char text[4];
-    static const char letter[] = "abcdefghijklmnopqrstuvwxyzABCDEFGHIJKLMNOPQRSTUVWXYZ_";
+    static const char letter[] = "ABCDEFGHIJKLMNOPQRSTUVWXYZ_abcdefghijklmnopqrstuvwxyz";
     char *p = text + 3;
     for (; i >= 0; i = i / LETTERS - 1) *--p = letter[i % LETTERS];
     return p;
@@ -182,7 +181,7 @@ static const char *name(int i) {
 
 /* The numbers under n in an order without a pattern, always the same. */
 static int *scrambled(int n) {
-    int *order = malloc((size_t)n * sizeof *order);
+    int *order = calloc((size_t)n, sizeof *order);
     uint64_t seed = 1;
     if (!order) fail("no memory for", "the names");
     for (int i = 0; i < n; i++) {
@@ -196,28 +195,27 @@ static int *scrambled(int n) {
 
 /* As many attributes as fit; where a name is to repeat, the first two are alike or the last two. */
 static void attributes(struct file *f, const struct kind *k) {
-    const char *rest = up_to(f, k), *behind = k->close ? k->close : "", *of = NULL;
+    const char *rest = up_to(f, k), *of;
     int *order = scrambled(NAMES), i = 0;
-    size_t end = strlen(behind) + strlen(rest);
-    put(f, "%s", k->open ? k->open : "");
-    for (;;) {
-        of = name(order[i++]);
+    size_t end = 2 * (strlen(k->each) + 7) + strlen(k->close) + strlen(rest);
+    put(f, "%s", k->open);
+    do {
+        of = name(k->number == DOWN ? NAMES - 1 - i : order[i]);
         put(f, " %s%s=\"\"", k->each, of);
-        if (i == 1 && k->number == FIRST) put(f, " %s%s=\"\"", k->each, of);
-        if (!fits(f, 2 * (strlen(k->each) + 7) + end)) break;
-    }
+        if (i++ == 0 && k->number == FIRST) put(f, " %s%s=\"\"", k->each, of);
+    } while (fits(f, end));
     if (k->number == LAST) put(f, " %s%s=\"\"", k->each, of);
-    put(f, "%s%s", behind, rest);
+    put(f, "%s%s", k->close, rest);
     free(order);
 }
 
 /* Tags of a number of attributes each. */
 static void tags(struct file *f, const struct kind *k) {
-    const char *rest = up_to(f, k);
     char tag[512] = "<a";
+    struct kind filler = *k;
     for (int i = 0; i < k->number; i++) sprintf(tag + strlen(tag), " %s=\"\"", name(i * 23 % LETTERS));
-    repeat(f, strcat(tag, "/>"), strlen(rest));
-    put(f, "%s", rest);
+    filler.each = strcat(tag, "/>");
+    filled(f, &filler);
 }
 
 /* Records of Track 2 over a register that is prepared for them. */
@@ -269,48 +267,49 @@ static void stand_suspended(struct file *f, int i, int from, int to) {
         struct day first = day(from);
         put(f, "<FlsAssDom_2>");
         put_head(f, 'I', i, day(0).text);
-        for (; from <= to && day(from).quarter == first.quarter; from++) put_sospensione(f, from, from);
+        for (; from <= to && day(from).quarter == first.quarter; from++) put_sospensione(f, from);
         put_end(f);
         put(f, "</FlsAssDom_2>");
         stand(f, 2, (uint64_t)first.year, (uint64_t)first.quarter);
     }
 }
 
-/* 4,000 suspensions of one case stand; each record varies the last `number` of them to what they are. */
+/* 4,000 suspensions of one case stand; each record varies those of the last quarter to what they are. */
 static void suspensions(struct file *f, const struct kind *k) {
+    (void)k;
     stand_old_cases(f, 1);
     stand_suspended(f, 0, LAST_DAY - 3999, LAST_DAY);
     put(f, "<FlsAssDom_2>");
     while (fits(f, RECORD)) {
         put_head(f, 'V', 0, day(0).text);
-        for (int d = LAST_DAY + 1 - k->number; d <= LAST_DAY; d++) put_sospensione(f, d, d);
+        for (int d = LAST_QUARTER; d <= LAST_DAY; d++) put_sospensione(f, d);
         put_end(f);
     }
     put(f, "</FlsAssDom_2>");
 }
 
-/* The last of 4,000 suspensions has two days; each record would insert one on its second day (26). */
-static void suspensions_back(struct file *f, const struct kind *k) {
-    (void)k;
+/* A file of records with one event each, of case 0: one record, or as many as fit. */
+static void put_singles(struct file *f, char type, int many, const char *event) {
+    put(f, "<FlsAssDom_2>");
+    do {
+        put_head(f, type, 0, day(0).text);
+        put(f, "%s", event);
+        put_end(f);
+    } while (many && fits(f, 1024));
+    put(f, "</FlsAssDom_2>");
+}
+
+/* 3,999 suspensions up to two days before the last stand, and one event more; each record has one event. */
+static void singles(struct file *f, const struct kind *k) {
     stand_old_cases(f, 1);
     stand_suspended(f, 0, LAST_DAY - 4000, LAST_DAY - 2);
-    put(f, "<FlsAssDom_2>");
-    put_head(f, 'I', 0, day(0).text);
-    put_sospensione(f, LAST_DAY - 1, LAST_DAY);
-    put_end(f);
-    put(f, "</FlsAssDom_2>");
+    put_singles(f, 'I', 0, k->open);
     stand(f, 2, 2020, 4);
-    put(f, "<FlsAssDom_2>");
-    while (fits(f, 1024)) {
-        put_head(f, 'I', 0, day(0).text);
-        put_sospensione(f, LAST_DAY, LAST_DAY);
-        put_end(f);
-    }
-    put(f, "</FlsAssDom_2>");
+    put_singles(f, (char)k->number, 1, k->each);
 }
 
-/* Two cases, the second with so many events that the register is full with `number` more. The records insert that many for
-   the first case and cancel them, again and again: each event moves all of the second case's. */
+/* Two cases, the second with so many events that the register is full with `number` more. The records insert that many
+   for the first case and cancel them, again and again: each event moves all of the second case's. */
 static void moves(struct file *f, const struct kind *k) {
     stand_old_cases(f, 2);
     stand_suspended(f, 1, 0, 4096 - 2 - k->number - 1);
@@ -326,49 +325,68 @@ static void moves(struct file *f, const struct kind *k) {
 #define ROOT "<FlsAssDom_1"
 #define CHILD "<Assistenza"
 #define FIELD "<Trasmissione tipo=\"I\""
-#define BAD "<Assistenza/><Assistenza"
+#define BAD "<Assistenza/>"
 #define LONG "abcdefghijklmnopqrstuvwxyzabcdefghijk"
-#define NEST "<a><a><a><a><a><a><a><a><a><a><a></a></a></a></a></a></a></a></a></a></a></a>"
+#define LAST1 SUSPENDED("2020-12-31", "2020-12-31")
+#define LAST2 SUSPENDED("2020-12-30", "2020-12-31")
+#define CONCLUSION "<Conclusione dataAD=\"2020-12-31\"><Motivazione>1</Motivazione></Conclusione>"
+#define NESTED(inner) "<a><a><a><a><a><a><a><a><a>" inner "</a></a></a></a></a></a></a></a></a>"
+#define NEST NESTED("<a></a>")
+#define NEST_MANY NESTED("<a" MANY "/>")
+/* One attribute more than a small batch takes, in the deepest element: the deepest stack. */
+#define MANY " a='' b='' c='' d='' e='' f='' g='' h='' i='' j='' k='' l='' m='' n='' o='' p='' q=''"
 
 const struct kind kinds[] = {
-    {"cases", "Track 1: 522 cases, all accepted", 1, cases, .number = 0},
-    {"events", "Track 2: 510 records of 7 Erogazioni, all accepted", 2, events, .number = 510},
-    {"root", "attributes in the root's tag, no name twice", 1, attributes, ROOT, .each = "", .number = ABSENT},
-    {"root_first", "the same, the first two alike", 1, attributes, ROOT, .each = "", .number = FIRST},
-    {"root_last", "the same, the last two alike", 1, attributes, ROOT, .each = "", .number = LAST},
-    {"child", "attributes in a record's tag, no name twice", 1, attributes, CHILD, .each = "", .number = ABSENT},
-    {"child_first", "the same, the first two alike", 1, attributes, CHILD, .each = "", .number = FIRST},
-    {"child_last", "the same, the last two alike", 1, attributes, CHILD, .each = "", .number = LAST},
-    {"field", "attributes in a field of a record, no name twice", 1, attributes, FIELD, .each = "", .number = ABSENT},
-    {"field_first", "the same, the first two alike", 1, attributes, FIELD, .each = "", .number = FIRST},
-    {"field_last", "the same, the last two alike", 1, attributes, FIELD, .each = "", .number = LAST},
-    {"after", "attributes in the tag after a bad record, no name twice", 1, attributes, ROOT ">", BAD, "", "/>", ABSENT},
-    {"after_first", "the same, the first two alike", 1, attributes, ROOT ">", BAD, "", "/>", FIRST},
-    {"after_last", "the same, the last two alike", 1, attributes, ROOT ">", BAD, "", "/>", LAST},
-    {"long", "attributes with names of 40 letters in the root's tag", 1, attributes, ROOT, .each = LONG, .number = ABSENT},
-    {"long_first", "the same, the first two alike", 1, attributes, ROOT, .each = LONG, .number = FIRST},
-    {"long_last", "the same, the last two alike", 1, attributes, ROOT, .each = LONG, .number = LAST},
-    {"xmlns", "attributes xmlns:.. in the root's tag, accepted", 1, attributes, ROOT, .each = "xmlns:", .number = ABSENT},
-    {"tags_16", "tags of 16 attributes each", 1, tags, ROOT ">", .number = 16},
-    {"tags_17", "tags of 17 attributes each", 1, tags, ROOT ">", .number = 17},
-    {"tags_40", "tags of 40 attributes each", 1, tags, ROOT ">", .number = 40},
-    {"space", "white space before a record", 1, filled, ROOT ">", .each = " "},
-    {"comments", "short comments before a record", 1, filled, ROOT ">", .each = "<!---->"},
+    {"cases", "Track 1: 522 cases, all accepted", 1, cases, "", "", "", "", 0},
+    {"events", "Track 2: 510 records of 7 Erogazioni, all accepted", 2, events, "", "", "", "", 510},
+
+    {"root", "attributes in the root's tag, no name twice", 1, attributes, ROOT, "", "", "", ABSENT},
+    {"root_first", "the same, the first two alike", 1, attributes, ROOT, "", "", "", FIRST},
+    {"root_last", "the same, the last two alike", 1, attributes, ROOT, "", "", "", LAST},
+    {"root_down", "the same, in descending order", 1, attributes, ROOT, "", "", "", DOWN},
+    {"child", "attributes in a record's tag, no name twice", 1, attributes, CHILD, "", "", "", ABSENT},
+    {"child_first", "the same, the first two alike", 1, attributes, CHILD, "", "", "", FIRST},
+    {"child_last", "the same, the last two alike", 1, attributes, CHILD, "", "", "", LAST},
+    {"field", "attributes in a field of a record, no name twice", 1, attributes, FIELD, "", "", "", ABSENT},
+    {"field_first", "the same, the first two alike", 1, attributes, FIELD, "", "", "", FIRST},
+    {"field_last", "the same, the last two alike", 1, attributes, FIELD, "", "", "", LAST},
+    {"after", "attributes in the tag after a bad record", 1, attributes, ROOT ">", BAD CHILD, "", "/>", ABSENT},
+    {"after_first", "the same, the first two alike", 1, attributes, ROOT ">", BAD CHILD, "", "/>", FIRST},
+    {"after_last", "the same, the last two alike", 1, attributes, ROOT ">", BAD CHILD, "", "/>", LAST},
+    {"long", "attributes with names of about 40 letters, 37 alike", 1, attributes, ROOT, "", LONG, "", ABSENT},
+    {"long_first", "the same, the first two alike", 1, attributes, ROOT, "", LONG, "", FIRST},
+    {"long_last", "the same, the last two alike", 1, attributes, ROOT, "", LONG, "", LAST},
+    {"xmlns", "attributes xmlns:.. of a root that is accepted", 1, attributes, ROOT, "", "xmlns:", "", ABSENT},
+
+    {"tags_0", "tags after a bad record, without attributes", 1, tags, ROOT ">", BAD CHILD ">", "", "</Assistenza>", 0},
+    {"tags_1", "tags with an attribute", 1, tags, ROOT ">", BAD CHILD ">", "", "</Assistenza>", 1},
+    {"tags_16", "tags with 16 attributes", 1, tags, ROOT ">", BAD CHILD ">", "", "</Assistenza>", 16},
+    {"tags_17", "tags with 17 attributes", 1, tags, ROOT ">", BAD CHILD ">", "", "</Assistenza>", 17},
+    {"tags_40", "tags with 40 attributes", 1, tags, ROOT ">", BAD CHILD ">", "", "</Assistenza>", 40},
+
+    {"space", "white space before a record", 1, filled, ROOT ">", "", " ", "", 0},
+    {"space_tag", "white space in a tag", 2, filled, "<Erogazione data=\"2018-05-02\"", "", " ", "", 0},
+    {"comments", "short comments before a record", 1, filled, ROOT ">", "", "<!---->", "", 0},
     {"comment", "one long comment before a record", 1, filled, ROOT ">", "<!--", "-<", " -->", 0},
-    {"comments_inside", "short comments between the children of Eventi", 1, filled, "</PresaInCarico>", .each = "<!---->"},
-    {"comments_inside2", "the same in Track 2", 2, filled, "</PresaInCarico>", .each = "<!---->"},
-    {"text", "zeros before the digit of a number", 1, filled, "<NucleoFamiliare>", .each = "0"},
+    {"comments_inside", "short comments in Eventi, Track 1", 1, filled, "</PresaInCarico>", "", "<!---->", "", 0},
+    {"comments_inside2", "short comments in Eventi, Track 2", 2, filled, "</PresaInCarico>", "", "<!---->", "", 0},
+    {"text", "zeros before the digit of a number", 1, filled, "<NucleoFamiliare>", "", "0", "", 0},
     {"quotes", "one value of an attribute xmlns:a", 1, filled, ROOT, " xmlns:a=\"", "'", "\"", 0},
-    {"deep", "elements down to depth 12, again and again", 1, filled, ROOT ">", .each = NEST},
-    {"open", "nothing but <", 1, filled, "", .each = "<"},
-    {"empty2", "Track 2: records without events, all 20", 2, empty2, .number = 500},
-    {"wide2", "Track 2: V records of 128 events, all accepted", 2, wide2, .number = 'V'},
-    {"wide2_room", "Track 2: I records of 128 events, all 17", 2, wide2, .number = 'I'},
-    {"suspensions", "Track 2: V records of 92 of 4,000 suspensions", 2, suspensions, .number = 92},
-    {"suspensions_one", "Track 2: V records of one of 4,000 suspensions", 2, suspensions, .number = 1},
-    {"suspensions_back", "Track 2: I records that clash with the last suspension", 2, suspensions_back, .number = 0},
-    {"moves", "Track 2: 60 events put before all others and cancelled", 2, moves, .number = 60},
-    {NULL, NULL, 0, NULL, .number = 0},
+    {"deep", "elements down to depth 12 in the root", 1, filled, ROOT ">", "", "<a>" NEST "</a>", "", 0},
+    {"deep_tag", "the same, the deepest with 17 attributes", 1, filled, ROOT ">", "", "<a>" NEST_MANY "</a>", "", 0},
+    {"deep_after", "the same after a bad record", 1, filled, ROOT ">", BAD CHILD ">", NEST, "</Assistenza>", 0},
+    {"open", "< again and again", 1, filled, "", "", "<", "", 0},
+
+    {"empty2", "Track 2: records without events, all 20", 2, empty2, "", "", "", "", 500},
+    {"wide2", "Track 2: V records of 128 events, all accepted", 2, wide2, "", "", "", "", 'V'},
+    {"wide2_room", "Track 2: I records of 128 events, all 17", 2, wide2, "", "", "", "", 'I'},
+    {"suspensions", "Track 2: V records of 92 of 4,000 suspensions", 2, suspensions, "", "", "", "", 0},
+    {"suspensions_one", "Track 2: V records of one of 4,000", 2, singles, "", LAST1, LAST1, "", 'V'},
+    {"suspensions_back", "Track 2: I records that share a day with the last", 2, singles, "", LAST2, LAST1, "", 'I'},
+    {"conclusion", "Track 2: V records of the conclusion after 3,999", 2, singles, "", CONCLUSION, CONCLUSION, "", 'V'},
+    {"moves", "Track 2: 60 events put before 4,034 and cancelled", 2, moves, "", "", "", "", 60},
+    {"moves_one", "Track 2: one event put before 4,093 and cancelled", 2, moves, "", "", "", "", 1},
+    {NULL, NULL, 0, NULL, "", "", "", "", 0},
 };
 
 void make_file(struct file *f, const char *wanted, submitter *submit) {

@@ -1,5 +1,5 @@
-/* The measured files. Each is made by the name of its kind, in the same way on every machine, together with the register
-   that it is submitted to. */
+/* The measured files. Each is made by the name of its kind, the same on every machine, with the register that it is
+   submitted to. */
 #ifndef FILES_H
 #define FILES_H
 #include <stddef.h>
@@ -32,6 +32,6 @@ struct kind {
 extern const struct kind kinds[];
 
 /* Makes the file of a kind. Ends the program, with the reason on standard error, where it can't. */
-void make_file(struct file *f, const char *name, submitter *submit);
+void make_file(struct file *f, const char *wanted, submitter *submit);
 
 #endif

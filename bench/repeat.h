@@ -1,6 +1,6 @@
-/* What a measuring program gives to repeat.c, which has the main function: PROGRAM KIND REPEATS [WORD] makes the kind's
-   file, measures it REPEATS times and prints one line. Counted at 1 and at 3 repeats, half the difference is the cost of
-   one. With `time` for REPEATS it prints the best time of 20. */
+/* What a measuring program gives to repeat.c, which has the main function. PROGRAM KIND REPEATS [WORD] makes the kind's
+   file, measures it REPEATS times and prints one line: half the difference of what 1 and 3 repeats take is the cost of
+   one. With `time` for REPEATS it also prints the best time of 20. */
 #ifndef REPEAT_H
 #define REPEAT_H
 #include "files.h"

@@ -66,10 +66,8 @@ fn put(n: u64) {
     io::print_decimal(STDOUT_FILENO, n);
 }
 
-fn quarter(t: &[u32; 2400], y: u32, q: u64)
-    requires { ⌜ Firsts (now t) ⌝ }
-{
-    match days::quarters::quarter_days(t, y as u64, q) {
+fn quarter(y: u32, q: u64) {
+    match days::quarters::quarter_days(y as u64, q) {
         Quarter::Days { first, last } => {
             put(first as u64);
             put(last as u64);
@@ -90,7 +88,7 @@ fn line(t: &[u32; 2400], y: u32)
     put(sum.years);
     let mut q: u64 = 0;
     while q < 6 {
-        quarter(t, y, q);
+        quarter(y, q);
         q += 1;
     }
     io::write_all(STDOUT_FILENO, b"\n");

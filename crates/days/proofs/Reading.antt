@@ -11,9 +11,10 @@ use lib.Seq.{take-take, drop-drop, getD-take, getD-drop, ext-getD}
 use borrow.Author.Tests.{eq-eqb, ne-eqb}
 use Rattle.laws.specs.Decimal.{isDigit, decimal}
 use Rattle.laws.specs.Lists.{all}
-use Rattle.laws.proofs.Truth.{and-false}
+use Rattle.laws.proofs.Truth.{and-false, and-right}
 use Rattle.days.specs.Calendar.{realDay, dayNumber}
-use Rattle.days.specs.Dates.{yearText, isDate, dayOf, undated, dated, dateAt}
+use Rattle.days.specs.Dates.{yearText, monthText, dayText, hasDateForm, isDate, dayOf, undated, dated, dateAt}
+use Rattle.days.specs.View.{DateIs}
 
 -- what `digits` answers
 abbrev pub number : List ℕ → ℕ
@@ -29,12 +30,13 @@ module _ (y m d : ℕ) where
   shuffle true true false true true = sym (rw (and-false (leb 1 m && leb m 12)) (and-false (leb 1900 y && leb y 2099)))
   shuffle true true true true true = refl
 
-  told : (a b c : Bool) → realDay (cond a y 0) (cond b m 0) (cond c d 0) ≡ true → dayNumber y m d ≡ dayNumber (cond a y 0) (cond b m 0) (cond c d 0)
+  -- so the numbers of a real day are those of the digits
+  told : (a b c : Bool) → realDay (cond a y 0) (cond b m 0) (cond c d 0) ≡ true → (cond a y 0 ≡ y) × (cond b m 0 ≡ m) × (cond c d 0 ≡ d)
   told false b c e = absurd (false≢true e)
   told true false c e = absurd (false≢true (sym (and-false (leb 1900 y && leb y 2099)) ∙ e))
   told true true false e =
       absurd (false≢true (sym (rw (and-false (leb 1 m && leb m 12)) (and-false (leb 1900 y && leb y 2099))) ∙ e))
-  told true true true e = refl
+  told true true true e = (refl, refl, refl)
 
 nand : (a b : Bool) → not a || not b ≡ true → a && b ≡ false
 nand true true e = absurd (false≢true e)
@@ -46,8 +48,8 @@ both true true e = refl
 both true false e = absurd (true≢false e)
 both false b e = absurd (true≢false e)
 
-pub date-short : (s : List ℕ) (at : ℕ) → length s < at + 10 → undated ≡ dateAt (drop at s)
-unfolding dateAt isDate
+pub date-short : (s : List ℕ) (at : ℕ) → length s < at + 10 → isDate (take 10 (drop at s)) ≡ false
+unfolding isDate
 date-short s at h =
     let l : length (take 10 (drop at s)) < 10 = simp (length-take, length-drop) (omega arith) in
     let e : eqb (length (take 10 (drop at s))) 10 ≡ false = ne-eqb (length (take 10 (drop at s))) 10 (λ e. omega arith) in
@@ -88,24 +90,38 @@ module _ (s : List ℕ) (at : ℕ) (fits : at + 10 ≤ length s) where
         (all isDigit (take 4 (drop at s))) (all isDigit (take 2 (drop (at + 5) s))) (all isDigit (take 2 (drop (at + 8) s)))
         (eqb (getD s (at + 4) 0) (code "-")) (eqb (getD s (at + 7) 0) (code "-")))
 
-    day-is : realDay y m d ≡ true → dayOf text ≡ dayNumber y m d
-    unfolding dayOf
-    day-is e =
-        rw (year, part 5 2 (omega arith), part 8 2 (omega arith), ys, ms, ds)
-        (told (decimal (take 4 (drop at s))) (decimal (take 2 (drop (at + 5) s))) (decimal (take 2 (drop (at + 8) s)))
-        (all isDigit (take 4 (drop at s))) (all isDigit (take 2 (drop (at + 5) s))) (all isDigit (take 2 (drop (at + 8) s))) (rw (ys, ms, ds) at e))
+    pub date-unreal : realDay y m d ≡ false → isDate text ≡ false
+    date-unreal e = rw (is-date, e) (and-false dashes)
 
-    pub date-unreal : realDay y m d ≡ false → undated ≡ dateAt (drop at s)
-    unfolding dateAt
-    date-unreal e = rw (is-date, e, and-false dashes)
-
-    pub date-real : not (eqb (getD s (at + 4) 0) (code "-")) || not (eqb (getD s (at + 7) 0) (code "-")) ≡ false → realDay y m d ≡ true →
-        dated (dayNumber y m d) (drop (at + 10) s) ≡ dateAt (drop at s)
-    unfolding dateAt dashes
+    pub date-real : not (eqb (getD s (at + 4) 0) (code "-")) || not (eqb (getD s (at + 7) 0) (code "-")) ≡ false → realDay y m d ≡ true → DateIs text y m d
+    unfolding dashes
     date-real h e =
-        rw (is-date, both (eqb (getD s (at + 4) 0) (code "-")) (eqb (getD s (at + 7) 0) (code "-")) h, e, day-is e, drop-drop 10 at s)
+        let f =
+        told (decimal (take 4 (drop at s))) (decimal (take 2 (drop (at + 5) s))) (decimal (take 2 (drop (at + 8) s)))
+        (all isDigit (take 4 (drop at s))) (all isDigit (take 2 (drop (at + 5) s))) (all isDigit (take 2 (drop (at + 8) s))) (rw (ys, ms, ds) at e)
+        in
+        record {
+          date = rw (is-date, both (eqb (getD s (at + 4) 0) (code "-")) (eqb (getD s (at + 7) 0) (code "-")) h, e);
+          year = rw year (ys ∙ f .0);
+          month = rw (part 5 2 (omega arith)) (ms ∙ f .1);
+          day = rw (part 8 2 (omega arith)) (ds ∙ f .2);
+        }
 
-  pub date-undashed : not (eqb (getD s (at + 4) 0) (code "-")) || not (eqb (getD s (at + 7) 0) (code "-")) ≡ true → undated ≡ dateAt (drop at s)
-  unfolding dateAt dashes
+  pub date-undashed : not (eqb (getD s (at + 4) 0) (code "-")) || not (eqb (getD s (at + 7) 0) (code "-")) ≡ true → isDate text ≡ false
+  unfolding dashes
   date-undashed h =
       rw (is-date (number (take 4 (drop at s))) (number (take 2 (drop (at + 5) s))) (number (take 2 (drop (at + 8) s))) refl refl refl, nand (eqb (getD s (at + 4) 0) (code "-")) (eqb (getD s (at + 7) 0) (code "-")) h)
+
+-- the day number, from the parts
+pub parts-real : {w : List ℕ} {y m d : ℕ} → DateIs w y m d → realDay y m d ≡ true
+unfolding isDate
+parts-real {w} p =
+    rw (p .year, p .month, p .day) (and-right (hasDateForm w) (realDay (decimal (yearText w)) (decimal (monthText w)) (decimal (dayText w))) (p .date))
+
+pub parts-dated : (s : List ℕ) (at : ℕ) {y m d : ℕ} → DateIs (take 10 (drop at s)) y m d → dated (dayNumber y m d) (drop (at + 10) s) ≡ dateAt (drop at s)
+unfolding dateAt dayOf
+parts-dated s at p = rw (p .date, drop-drop 10 at s, p .year, p .month, p .day)
+
+pub parts-none : (s : List ℕ) (at : ℕ) → isDate (take 10 (drop at s)) ≡ false → undated ≡ dateAt (drop at s)
+unfolding dateAt
+parts-none s at e = rw e

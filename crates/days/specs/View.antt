@@ -1,14 +1,17 @@
 -- What the code's answers say.
 use Prim.Native.Nat.{ℕ, _+_, _<_, _≤_}
 use mathlib.Core.Path.{_≡_}
-use mathlib.Core.Bool.{cond}
+use mathlib.Core.Bool.{true, false, cond}
 use mathlib.Core.List.{List}
-use lib.ListN.{length, drop}
+use lib.ListN.{length, take, drop}
+use Rattle.laws.specs.Decimal.{decimal}
 use Rattle.days.specs.Calendar.{dayCount}
-use Rattle.days.specs.Dates.{Dated, undated, dated}
+use Rattle.days.specs.Dates.{yearText, monthText, dayText, isDate, Dated, undated, dated}
 use Rattle.days.specs.Quarters.{isPeriod, firstDay, lastDay}
 use Rattle.days.specs.declared.dates.Date.{Date}
 use Rattle.days.specs.declared.dates.Date.the-variants as date
+use Rattle.days.specs.declared.dates.Parts.{Parts}
+use Rattle.days.specs.declared.dates.Parts.the-variants as parts
 use Rattle.days.specs.declared.quarters.Quarter.{Quarter}
 use Rattle.days.specs.declared.quarters.Quarter.the-variants as quarter
 
@@ -21,6 +24,18 @@ viewDate s date.Refused = undated
 abbrev pub okDate : List ℕ → ℕ → Date → Type 0
 okDate s at (date.Day n next) = (n < dayCount) × (next ≡ at + 10) × (next ≤ length s)
 okDate s at date.Refused = Unit
+
+-- three numbers are the year, month and day of a date that a text is
+pub record DateIs (text : List ℕ) (y m d : ℕ) : Type 0 where
+  pub date : isDate text ≡ true
+  pub year : y ≡ decimal (yearText text)
+  pub month : m ≡ decimal (monthText text)
+  pub day : d ≡ decimal (dayText text)
+
+-- the parts of the date at a place of a text, or the refusal where there is none
+abbrev pub PartsAt : List ℕ → ℕ → Parts → Type 0
+PartsAt s at (parts.Is y m d) = DateIs (take 10 (drop at s)) y m d × (at + 10 ≤ length s)
+PartsAt s at parts.Refused = isDate (take 10 (drop at s)) ≡ false
 
 -- the first and the last day of an allowed period
 abbrev pub quarterOf : ℕ → ℕ → Quarter

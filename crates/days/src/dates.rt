@@ -7,12 +7,17 @@ ghost use Rattle.laws.specs.Decimal.{isDigit, decimal};
 ghost use Rattle.laws.specs.Lists.{all};
 ghost use Rattle.days.specs.Dates.{dateAt};
 ghost use Rattle.days.specs.Table.{Firsts};
-ghost use Rattle.days.specs.View.{viewDate, okDate};
+ghost use Rattle.days.specs.View.{viewDate, okDate, PartsAt};
 use crate::calendar::day_number;
 use crate::calendar::real_day;
 
 pub enum Date {
     Day { day: u32, next: usize },
+    Refused,
+}
+
+pub enum Parts {
+    Is { year: u32, month: u32, day: u32 },
     Refused,
 }
 
@@ -40,28 +45,42 @@ fn digits(s: &[u8], at: usize, n: usize) -> u32
     number
 }
 
-// A date at a place: ten bytes, whatever stands there.
-pub fn read_date(t: &[u32; 2400], s: &[u8], at: usize) -> Date
-    requires { ⌜ Firsts (now t) ⌝ }
-    ensures { λ r. ⌜ (viewDate (now (s .entry)) r ≡ dateAt (drop at (now (s .entry)))) × okDate (now (s .entry)) at r ⌝ }
+// The year, month and day of a real day at a place: ten bytes, whatever stands there. No table: a day's number is what wants one.
+pub fn date_parts(s: &[u8], at: usize) -> Parts
+    ensures { λ r. ⌜ PartsAt (now (s .entry)) at r ⌝ }
 {
     if s.len() < 10 {
-        return Date::Refused;
+        return Parts::Refused;
     }
     if s.len() - 10 < at {
-        return Date::Refused;
+        return Parts::Refused;
     }
     if (s[at + 4] != b'-') | (s[at + 7] != b'-') {
-        return Date::Refused;
+        return Parts::Refused;
     }
     let y = digits(s, at, 4);
     let m = digits(s, at + 5, 2);
     let d = digits(s, at + 8, 2);
     if !real_day(y, m, d) {
-        return Date::Refused;
+        return Parts::Refused;
     }
+    Parts::Is {
+        year: y,
+        month: m,
+        day: d,
+    }
+}
+
+// A date at a place: ten bytes, whatever stands there.
+pub fn read_date(t: &[u32; 2400], s: &[u8], at: usize) -> Date
+    requires { ⌜ Firsts (now t) ⌝ }
+    ensures { λ r. ⌜ (viewDate (now (s .entry)) r ≡ dateAt (drop at (now (s .entry)))) × okDate (now (s .entry)) at r ⌝ }
+{
+    let Parts::Is { year, month, day } = date_parts(s, at) else {
+        return Date::Refused;
+    };
     Date::Day {
-        day: day_number(t, y, m, d),
+        day: day_number(t, year, month, day),
         next: at + 10,
     }
 }

@@ -1,4 +1,5 @@
-// The first-of-month day numbers of 1900 to 2099: made once, at the top, and lent from there on (a constant array is rebuilt wherever it is named).
+// The first-of-month day numbers of 1900 to 2099: made where a pass begins that wants day numbers, and lent from there on (a constant array is rebuilt
+// wherever it is named).
 ghost use mathlib.Core.Path.{_≡_};
 ghost use Prim.Native.Nat.{_<_};
 ghost use Rattle.days.specs.Calendar.{firstOf, dayCount};

@@ -18,8 +18,7 @@ pub extern "C" fn siad_submit(
 ) -> u64
     ensures { λ r. ⌜ Told (submitted (now (sub .entry)) track year quarter (now (reg .entry)) (now (answers .entry))) r (now (report .exit)) (now (reg .exit)) (now (answers .exit)) ⌝ }
 {
-    let t = days::table::make();
-    let said = intake::submit::submit(&t, sub, track, year, quarter, reg, answers);
+    let said = intake::submit::submit(sub, track, year, quarter, reg, answers);
     *report = [said.number, said.records, said.accepted, said.discarded];
     said.answer
 }
@@ -37,8 +36,7 @@ pub extern "C" fn siad_empty(reg: &mut [u8]) -> u64
 pub extern "C" fn siad_sound(reg: &[u8]) -> u64
     ensures { λ r. ⌜ r ≡ soundness (now (reg .entry)) ⌝ }
 {
-    let t = days::table::make();
-    if soundness::sound::sound(&t, reg) {
+    if soundness::sound::is_sound(reg) {
         return 0;
     }
     3

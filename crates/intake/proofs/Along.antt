@@ -25,6 +25,7 @@ use Rattle.checks.proofs.Valid.{Sound, sound-state}
 use Rattle.checks.proofs.WellReadable.{readable}
 use Rattle.intake.specs.Taking.{Good, Here, Took, TookAll}
 use Rattle.intake.specs.Kids.{assistenza, Next, TookNext, TookKid}
+use Rattle.nodes.specs.declared.Six.{Six}
 use Rattle.intake.specs.declared.records.Tally.{Tally}
 use Rattle.intake.proofs.SoundBytes.{sound-stored, sound-long, encode-fit, state-long, state-back, state-sound}
 use Rattle.intake.proofs.Sound.{run-kept}
@@ -38,10 +39,10 @@ module _ (track : ℕ) (c : Context) (before : Tally) (reg list : List ℕ) (a :
   pub kid-passed : b ≡ false → TookKid track c before reg list a before reg list
   kid-passed f = record { taken = λ y. absurd (false≢true (sym f ∙ e ∙ y)); passed = λ _. (refl, refl, refl) }
 
-  pub next-here : {s : List ℕ} {at long : ℕ} → Next track s at before long a → b ≡ true → Here track s at a
-  next-here k f = record { good = k .good (sym e ∙ f); after = k .after; reads = k .reads }
+  pub next-here : {s : List ℕ} {at long : ℕ} {top : Six} → Next track s at top before long a → b ≡ true → Here track s top a
+  next-here {at = at} k f = record { good = k .good (sym e ∙ f); at = at; tops = k .tops }
 
-  pub next-fits : {s : List ℕ} {at long : ℕ} → Next track s at before long a → b ≡ true → before .records < long
+  pub next-fits : {s : List ℕ} {at long : ℕ} {top : Six} → Next track s at top before long a → b ≡ true → before .records < long
   next-fits k f = k .fits (sym e ∙ f)
 
   module _ (f : b ≡ true) {later : List ℕ} (n : ℕ) (k : Took track c reg a n later) where

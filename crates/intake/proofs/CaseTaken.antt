@@ -21,6 +21,7 @@ use Rattle.schema.specs.Shape.{faultOf}
 use Rattle.tracks.specs.Track1.{track1}
 use Rattle.tracks.specs.Record.{Head, Admission, Record, admission, headOf, admissionOf}
 use Rattle.tracks.specs.View.{IsAdmission}
+use Rattle.tracks.specs.Top.{TopOf}
 use Rattle.tracks.specs.declared.record.HeadRead.{HeadRead}
 use Rattle.tracks.specs.declared.record.AdmissionRead.{AdmissionRead}
 use Rattle.checks.specs.Flow.{next}
@@ -31,16 +32,17 @@ use Rattle.checks.proofs.Accepted.{numbered}
 use Rattle.checks.proofs.RowsAllowed.{case-fits}
 use Rattle.checks.proofs.WellReadable.{readable}
 use Rattle.judge.specs.View.{IsOf, IsAdmitted}
+use Rattle.nodes.specs.declared.Six.{Six}
 use Rattle.intake.specs.Taking.{Here, Took}
 use Rattle.intake.proofs.SoundBytes.{sound-stored}
 use Rattle.intake.proofs.RecordRead.{record-1, HeadHeld}
 use Rattle.intake.proofs.RecordTaken.{discarded, accepted}
 
-module _ (s : List ℕ) (at : ℕ) (r : AdmissionRead)
-    (told : (a : Tree) (m : List ℕ) → element belowRoot (drop at s) ≡ read a m → faultOf (track1 .each) a ≡ 0 → IsAdmission s r (admissionOf a))
-    (a : Tree) (x : Here 1 s at a) where
+module _ (s : List ℕ) (top : Six) (r : AdmissionRead)
+    (told : (at : ℕ) (a : Tree) → TopOf s at a top → faultOf (track1 .each) a ≡ 0 → IsAdmission s r (admissionOf a))
+    (a : Tree) (x : Here 1 s top a) where
   is-admission : IsAdmission s r (admissionOf a)
-  is-admission = told a (x .after) (x .reads) (x .good .clean)
+  is-admission = told (x .at) a (x .tops) (x .good .clean)
 
   readable-1 : Readable (admission (headOf a) (admissionOf a))
   readable-1 = readable (admission (headOf a) (admissionOf a)) (rw (record-1 a) at (x .good .well))

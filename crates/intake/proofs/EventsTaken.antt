@@ -25,6 +25,7 @@ use Rattle.schema.specs.Shape.{faultOf}
 use Rattle.tracks.specs.Track2.{track2}
 use Rattle.tracks.specs.Record.{Head, Said, events, headOf, eventsOf}
 use Rattle.tracks.specs.View.{laid, IsEvents}
+use Rattle.tracks.specs.Top.{TopOf}
 use Rattle.tracks.specs.declared.events.EventsRead.{EventsRead}
 use Rattle.tracks.specs.declared.record.HeadRead.{HeadRead}
 use Rattle.checks.specs.Flow.{next}
@@ -33,6 +34,7 @@ use Rattle.checks.specs.Checks.{checksOf}
 use Rattle.checks.specs.Readable.{eventReadable, Readable}
 use Rattle.checks.proofs.WellReadable.{readable}
 use Rattle.judge.specs.View.{IsOf, IsSaid}
+use Rattle.nodes.specs.declared.Six.{Six}
 use Rattle.intake.specs.Taking.{Here, Took}
 use Rattle.intake.proofs.SoundBytes.{sound-stored}
 use Rattle.intake.proofs.RecordRead.{record-2, HeadHeld}
@@ -56,11 +58,11 @@ each-small (e ∷ es) h =
     (and-left (ltb (e .event) (2 ^ eventBits)) _ (and-left (eventReadable e) (all eventReadable es) h))
     (each-small es (and-right (eventReadable e) (all eventReadable es) h))
 
-module _ (s : List ℕ) (at : ℕ) (r : EventsRead) (buffer evs : List ℕ) (wide : length buffer ≡ 128)
-    (told : (a : Tree) (m : List ℕ) → element belowRoot (drop at s) ≡ read a m → faultOf (track2 .each) a ≡ 0 → IsEvents r buffer evs (eventsOf a))
-    (a : Tree) (x : Here 2 s at a) where
+module _ (s : List ℕ) (top : Six) (r : EventsRead) (buffer evs : List ℕ) (wide : length buffer ≡ 128)
+    (told : (at : ℕ) (a : Tree) → TopOf s at a top → faultOf (track2 .each) a ≡ 0 → IsEvents r buffer evs (eventsOf a))
+    (a : Tree) (x : Here 2 s top a) where
   is-events : IsEvents r buffer evs (eventsOf a)
-  is-events = told a (x .after) (x .reads) (x .good .clean)
+  is-events = told (x .at) a (x .tops) (x .good .clean)
 
   readable-2 : Readable (events (headOf a) (eventsOf a))
   readable-2 = readable (events (headOf a) (eventsOf a)) (rw (record-2 a) at (x .good .well))

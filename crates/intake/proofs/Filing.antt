@@ -10,13 +10,16 @@ use lib.ListN.{length, drop, length-map}
 use borrow.Author.Tests.{eqb-true, ltb-false}
 use Rattle.rows.specs.Pack.{each, Fit}
 use Rattle.markup.specs.Reading.Read.{refused, read}
-use Rattle.markup.specs.Tags.{Tag, tag}
+use Rattle.markup.specs.Reading.{then}
+use Rattle.markup.specs.Names.{byte, name}
+use Rattle.markup.specs.Tags.{attributes}
+use Rattle.markup.specs.View.{endingOf}
 use Rattle.markup.specs.Elements.{Tree}
 use Rattle.markup.specs.Elements.Inside.{end}
-use Rattle.markup.specs.Document.{document}
+use Rattle.markup.specs.Document.{depth, document}
 use Rattle.reading.specs.Within.{kids, Every}
-use Rattle.nodes.specs.Stands.{stands}
-use Rattle.nodes.proofs.Entering.{stands-open, stands-shut, stands-bad}
+use Rattle.nodes.specs.Stands.{Stands, stands}
+use Rattle.nodes.proofs.Entering.{headed, not-headed, head-open, head-shut, head-bad}
 use Rattle.nodes.proofs.Legible.{Legible, document-legible}
 use Rattle.nodes.proofs.Records.{shaped}
 use Rattle.nodes.proofs.Taken.{Meets}
@@ -88,11 +91,18 @@ pub named-are : (track : ℕ) (t : Tree) → recordsOf (schemaOf track) t ≡ as
 named-are track t = named-by (eqb track 1) t
 
 module _ (track : ℕ) {s : List ℕ} {root records long : ℕ} {t : Tree} (w : Whole track s root records long t) where
+  root-stands : Stands depth (drop root s) t
+  root-stands = stands (w .after) (w .reads)
+
+  -- the root's name, and the place after it
+  abbrev Begins : List ℕ → List ℕ → Type 0
+  Begins n y = read n y ≡ then (byte 60 (drop root s)) (λ _ m. name m)
+
   -- from the root's start tag on
-  pub file-open : {g : Tag} {y : List ℕ} → read g y ≡ tag (drop root s) → g .shut ≡ false → Stretch track (g .named) y long (t .inside)
-  file-open e q =
+  pub file-open : {n y k : List ℕ} → Begins n y → read false k ≡ endingOf (attributes y) → Stretch track n k long (t .inside)
+  file-open x e =
       record {
-        holds = stands-open (λ z. omega arith) (stands (w .after) (w .reads)) e q;
+        holds = head-open (drop root s) x (λ z. omega arith) root-stands e;
         good = rw (named-are track t) at (w .good);
         fits = (let h = w .fits in let n = w .count ∙ ap length (named-are track t) in omega arith);
       }
@@ -103,11 +113,15 @@ module _ (track : ℕ) {s : List ℕ} {root records long : ℕ} {t : Tree} (w : 
     none-taken e =
         rw (named-are track t, e) (ends-all track c reg list [] (ends-end track c (tallied 0 0) reg list f h))
 
-    pub file-shut : {g : Tag} {y : List ℕ} → read g y ≡ tag (drop root s) → g .shut ≡ true → TookAll track c reg list (recordsOf (schemaOf track) t) 0 reg list
-    file-shut e q = none-taken (stands-shut (λ z. omega arith) (stands (w .after) (w .reads)) e q)
+    pub file-shut : {n y k : List ℕ} → Begins n y → read true k ≡ endingOf (attributes y) → TookAll track c reg list (recordsOf (schemaOf track) t) 0 reg list
+    file-shut x e = none-taken (head-shut (drop root s) x (λ z. omega arith) root-stands e)
 
-    pub file-bad : refused ≡ tag (drop root s) → TookAll track c reg list (recordsOf (schemaOf track) t) 0 reg list
-    file-bad e = none-taken (stands-bad (λ z. omega arith) (stands (w .after) (w .reads)) e)
+    -- a root that was read is read again
+    pub file-bad : {n y : List ℕ} → Begins n y → refused ≡ endingOf (attributes y) → TookAll track c reg list (recordsOf (schemaOf track) t) 0 reg list
+    file-bad x e = none-taken (head-bad (drop root s) x (λ z. omega arith) root-stands e)
+
+    pub file-nameless : refused ≡ then (byte 60 (drop root s)) (λ _ m. name m) → TookAll track c reg list (recordsOf (schemaOf track) t) 0 reg list
+    file-nameless e = not-headed (headed depth (drop root s) t (w .after) (w .reads)) e
 
   -- ---- all of them taken
 

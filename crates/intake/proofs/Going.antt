@@ -20,6 +20,8 @@ use Rattle.register.specs.Bytes.{room}
 use Rattle.register.specs.Sound.{isSound}
 use Rattle.schema.specs.Shape.{namedIn}
 use Rattle.checks.specs.Tests.{Context}
+use Rattle.nodes.specs.declared.Six.{Six}
+use Rattle.tracks.specs.Top.{TopOf}
 use Rattle.intake.specs.Taking.{Good}
 use Rattle.intake.specs.Kids.{assistenza, Next, TookKid, Stretch}
 use Rattle.intake.specs.declared.records.Tally.{Tally}
@@ -77,11 +79,10 @@ module _ (track : ℕ) (c : Context) where
       unfolding namedIn
       other-rest e = rw e at rest
 
-      pub going-next : {s : List ℕ} {at : ℕ} → m ≡ drop at s → Next track s at r (length list) (a .tree)
+      pub going-next : {s : List ℕ} {at : ℕ} {top : Six} → TopOf s at (a .tree) top → Next track s at top r (length list) (a .tree)
       going-next e =
           record {
-            after = a .after;
-            reads = subst (λ (x : List ℕ). element belowRoot x ≡ read (a .tree) (a .after)) e (a .reads);
+            tops = e;
             good = λ y. named-rest y .0 .0;
             fits = λ y. let h = named-rest y .1 in omega arith;
             counts = g .counts;

@@ -17,6 +17,7 @@ use Rattle.tracks.specs.Track1.{track1}
 use Rattle.tracks.specs.Track2.{track2}
 use Rattle.tracks.specs.Record.{Head, Record, admission, events, headOf, admissionOf, eventsOf, recordOf}
 use Rattle.tracks.specs.View.{eachOf, IsHead}
+use Rattle.tracks.specs.Top.{TopOf}
 use Rattle.tracks.specs.WellRead.{WellRead}
 use Rattle.tracks.specs.declared.record.HeadRead.{HeadRead}
 use Rattle.checks.specs.Flow.{headIn}
@@ -24,6 +25,7 @@ use Rattle.checks.specs.Tests.{Context}
 use Rattle.checks.specs.Readable.{Readable}
 use Rattle.checks.proofs.WellReadable.{readable}
 use Rattle.judge.specs.View.{IsOf}
+use Rattle.nodes.specs.declared.Six.{Six}
 use Rattle.intake.specs.Taking.{Here, Took}
 
 -- ---- a record of either track
@@ -34,7 +36,7 @@ module _ (j k : ℕ) (e : eqb j 1 ≡ eqb k 1) (a : Tree) where
   unfolding recordOf
   same-record = rw e
 
-  pub same-here : {s : List ℕ} {at : ℕ} → Here j s at a → Here k s at a
+  pub same-here : {s : List ℕ} {top : Six} → Here j s top a → Here k s top a
   same-here h =
       record {
         good =
@@ -43,8 +45,8 @@ module _ (j k : ℕ) (e : eqb j 1 ≡ eqb k 1) (a : Tree) where
               well = subst WellRead same-record (h .good .well);
               few = λ n. h .good .few (e ∙ n);
             };
-        after = h .after;
-        reads = h .reads;
+        at = h .at;
+        tops = h .tops;
       }
 
   pub same-took : {c : Context} {before later : List ℕ} {r : ℕ} → Took k c before a r later → Took j c before a r later
@@ -79,11 +81,11 @@ pub record HeadHeld (r : HeadRead) (asl id probe : List ℕ) (h : Head) : Type 0
 within : (s : List ℕ) (at n : ℕ) → 0 < n → length (part s at (at + n)) ≡ n → at + n ≤ length s
 within s at n p e = omega (arith, simp (length-take, length-drop) at e)
 
-module _ (s : List ℕ) (at : ℕ) (r : HeadRead)
-    (told : (track : ℕ) (a : Tree) (m : List ℕ) → element belowRoot (drop at s) ≡ read a m → faultOf (eachOf track) a ≡ 0 → IsHead s r (headOf a))
-    (k : ℕ) (a : Tree) (x : Here k s at a) where
+module _ (s : List ℕ) (top : Six) (r : HeadRead)
+    (told : (track at : ℕ) (a : Tree) → TopOf s at a top → faultOf (eachOf track) a ≡ 0 → IsHead s r (headOf a))
+    (k : ℕ) (a : Tree) (x : Here k s top a) where
   is-head : IsHead s r (headOf a)
-  is-head = told k a (x .after) (x .reads) (x .good .clean)
+  is-head = told k (x .at) a (x .tops) (x .good .clean)
 
   fits : KeyFits (headOf a .key)
   fits = rw (head-is k a) at (key-readable (recordOf k a) (readable (recordOf k a) (x .good .well)))

@@ -13,8 +13,10 @@ use Rattle.markup.specs.Document.{depth}
 use Rattle.reading.specs.Many.{belowRoot}
 use Rattle.reading.specs.Within.{kids, Every}
 use Rattle.nodes.specs.Stands.{Holds}
+use Rattle.nodes.specs.declared.Six.{Six}
 use Rattle.schema.specs.Shape.{namedIn, recordsOf}
 use Rattle.tracks.specs.Record.{schemaOf}
+use Rattle.tracks.specs.Top.{TopOf}
 use Rattle.checks.specs.Tests.{Context}
 use Rattle.intake.specs.Taking.{Good, Took}
 use Rattle.intake.specs.declared.Report.{Report}
@@ -23,10 +25,9 @@ use Rattle.intake.specs.declared.records.Tally.{Tally}
 abbrev pub assistenza : List ℕ
 assistenza = bytes "Assistenza"
 
--- the child a of a root stands at a place; a record is good, and the list of so many bytes has a byte left for its answer
-pub record Next (track : ℕ) (s : List ℕ) (at : ℕ) (before : Tally) (long : ℕ) (a : Tree) : Type 0 where
-  pub after : List ℕ
-  pub reads : element belowRoot (drop at s) ≡ read a after
+-- the child a of a root stands at a place, with its children at hand; a record is good, and the list of so many bytes has a byte left for its answer
+pub record Next (track : ℕ) (s : List ℕ) (at : ℕ) (top : Six) (before : Tally) (long : ℕ) (a : Tree) : Type 0 where
+  pub tops : TopOf s at a top
   pub good : same assistenza (a .named) ≡ true → Good track a
   pub fits : same assistenza (a .named) ≡ true → before .records < long
   pub counts : before .accepted ≤ before .records

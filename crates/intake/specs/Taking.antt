@@ -6,15 +6,15 @@ use mathlib.Core.Bool.{false}
 use mathlib.Core.List.{List, _++_, map}
 use lib.Dec.{eqb}
 use lib.ListN.{length, drop}
-use Rattle.markup.specs.Reading.Read.{read}
-use Rattle.markup.specs.Elements.{Tree, element}
-use Rattle.reading.specs.Many.{belowRoot}
+use Rattle.nodes.specs.declared.Six.{Six}
+use Rattle.markup.specs.Elements.{Tree}
 use Rattle.model.specs.Machine.{step, run, answers, zeros}
 use Rattle.register.specs.Layout.{siad}
 use Rattle.register.specs.Bytes.{stateOf, encode}
 use Rattle.schema.specs.Shape.{faultOf}
 use Rattle.tracks.specs.Record.{eventsOf, recordOf}
 use Rattle.tracks.specs.View.{eachOf}
+use Rattle.tracks.specs.Top.{TopOf}
 use Rattle.tracks.specs.WellRead.{WellRead}
 use Rattle.checks.specs.Tests.{Context}
 use Rattle.checks.specs.Checks.{siadMachine}
@@ -25,11 +25,11 @@ pub record Good (track : ℕ) (a : Tree) : Type 0 where
   pub well : WellRead (recordOf track a)
   pub few : eqb track 1 ≡ false → length (eventsOf a) ≤ 128
 
--- and stands at a place
-pub record Here (track : ℕ) (s : List ℕ) (at : ℕ) (a : Tree) : Type 0 where
+-- and stands at a place, with its children at hand
+pub record Here (track : ℕ) (s : List ℕ) (top : Six) (a : Tree) : Type 0 where
   pub good : Good track a
-  pub after : List ℕ
-  pub reads : element belowRoot (drop at s) ≡ read a after
+  pub at : ℕ
+  pub tops : TopOf s at a top
 
 -- one record: its answer, and the register's bytes after it; "a discarded record leaves the register as it was"
 pub record Took (track : ℕ) (c : Context) (before : List ℕ) (a : Tree) (r : ℕ) (later : List ℕ) : Type 0 where

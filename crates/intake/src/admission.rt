@@ -14,16 +14,17 @@ use apply::apply_case;
 use judge::Limits;
 use judge::judge::judge_admission;
 use markup::bytes::part;
+use nodes::Six;
 use tracks::record::admission;
 use tracks::record::head;
 
-// The record of Track 1 at a place: its answer.
-pub fn take_admission(t: &[u32; 2400], l: Limits, s: &[u8], at: usize, reg: &mut [u8]) -> u8
-    requires { ⌜ Firsts (now t) × ((a : Tree) × Here 1 (now s) at a) × (isSound (now reg) ≡ true) × (l .room ≡ room siad (length (now reg))) ⌝ }
-    ensures { λ r. ⌜ ((a : Tree) → Here 1 (now (s .entry)) at a → Took 1 (contextIn l) (now (reg .entry)) a r (now (reg .exit))) ⌝ }
+// The record of Track 1 whose children are at hand: its answer.
+pub fn take_admission(t: &[u32; 2400], l: Limits, s: &[u8], top: Six, reg: &mut [u8]) -> u8
+    requires { ⌜ Firsts (now t) × ((a : Tree) × Here 1 (now s) top a) × (isSound (now reg) ≡ true) × (l .room ≡ room siad (length (now reg))) ⌝ }
+    ensures { λ r. ⌜ ((a : Tree) → Here 1 (now (s .entry)) top a → Took 1 (contextIn l) (now (reg .entry)) a r (now (reg .exit))) ⌝ }
 {
-    let h = head(t, s, at);
-    let a = admission(s, at);
+    let h = head(t, s, top);
+    let a = admission(s, top);
     let asl = part(s, h.asl, h.asl + 3);
     let id = part(s, h.id, h.id + 88);
     let probe = probe_of(h.region, asl, h.day, id);

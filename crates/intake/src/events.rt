@@ -14,17 +14,18 @@ use apply::apply_events;
 use judge::Limits;
 use judge::judge::judge_events;
 use markup::bytes::part;
+use nodes::Six;
 use tracks::events::events;
 use tracks::record::head;
 
-// The record of Track 2 at a place: its answer.
-pub fn take_events(t: &[u32; 2400], l: Limits, s: &[u8], at: usize, reg: &mut [u8]) -> u8
-    requires { ⌜ Firsts (now t) × ((a : Tree) × Here 2 (now s) at a) × (isSound (now reg) ≡ true) × (l .room ≡ room siad (length (now reg))) ⌝ }
-    ensures { λ r. ⌜ ((a : Tree) → Here 2 (now (s .entry)) at a → Took 2 (contextIn l) (now (reg .entry)) a r (now (reg .exit))) ⌝ }
+// The record of Track 2 whose children are at hand: its answer.
+pub fn take_events(t: &[u32; 2400], l: Limits, s: &[u8], top: Six, reg: &mut [u8]) -> u8
+    requires { ⌜ Firsts (now t) × ((a : Tree) × Here 2 (now s) top a) × (isSound (now reg) ≡ true) × (l .room ≡ room siad (length (now reg))) ⌝ }
+    ensures { λ r. ⌜ ((a : Tree) → Here 2 (now (s .entry)) top a → Took 2 (contextIn l) (now (reg .entry)) a r (now (reg .exit))) ⌝ }
 {
-    let h = head(t, s, at);
+    let h = head(t, s, top);
     let mut evs = [0u64; 128];
-    let said = events(t, s, at, &mut evs);
+    let said = events(t, s, top, &mut evs);
     let n = said.count;
     let asl = part(s, h.asl, h.asl + 3);
     let id = part(s, h.id, h.id + 88);

@@ -12,22 +12,16 @@ ghost use Rattle.intake.specs.Taking.{Here, Took};
 use crate::admission::take_admission;
 use crate::events::take_events;
 use judge::Limits;
+use nodes::Six;
 
-// The record at a place: its answer.
-pub fn take_record(
-    t: &[u32; 2400],
-    l: Limits,
-    track: u64,
-    s: &[u8],
-    at: usize,
-    reg: &mut [u8],
-) -> u8
-    requires { ⌜ Firsts (now t) × ((a : Tree) × Here track (now s) at a) × (isSound (now reg) ≡ true) × (l .room ≡ room siad (length (now reg))) ⌝ }
-    ensures { λ r. ⌜ ((a : Tree) → Here track (now (s .entry)) at a → Took track (contextIn l) (now (reg .entry)) a r (now (reg .exit))) ⌝ }
+// The record whose children are at hand: its answer.
+pub fn take_record(t: &[u32; 2400], l: Limits, track: u64, s: &[u8], top: Six, reg: &mut [u8]) -> u8
+    requires { ⌜ Firsts (now t) × ((a : Tree) × Here track (now s) top a) × (isSound (now reg) ≡ true) × (l .room ≡ room siad (length (now reg))) ⌝ }
+    ensures { λ r. ⌜ ((a : Tree) → Here track (now (s .entry)) top a → Took track (contextIn l) (now (reg .entry)) a r (now (reg .exit))) ⌝ }
 {
     if track == 1 {
-        take_admission(t, l, s, at, reg)
+        take_admission(t, l, s, top, reg)
     } else {
-        take_events(t, l, s, at, reg)
+        take_events(t, l, s, top, reg)
     }
 }

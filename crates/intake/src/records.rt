@@ -17,14 +17,18 @@ ghost use Rattle.judge.specs.View.{contextIn};
 ghost use Rattle.intake.specs.Taking.{TookAll};
 ghost use Rattle.intake.specs.Kids.{assistenza, Next, TookKid, Stretch, Whole};
 use crate::record::take_record;
+use days::table::make;
 use judge::Limits;
-use markup::Cursor;
+use markup::Ending;
+use markup::Got;
 use markup::Move;
-use markup::Start;
 use nodes::Kid;
+use nodes::Six;
 use nodes::children::is_named;
 use nodes::children::next_kid;
-use nodes::skips::skip;
+use reading::skips::head;
+use tracks::record::record_end;
+use tracks::record::top_of;
 
 // How many records there were, and how many of them were accepted.
 pub struct Tally {
@@ -32,24 +36,25 @@ pub struct Tally {
     pub accepted: usize,
 }
 
-// The root's child at a place: a record is judged and stored, and its answer written.
+// The root's child at a place, with its children at hand: a record is judged and stored, and its answer written.
 fn take_kid(
     t: &[u32; 2400],
     l: Limits,
     track: u64,
     s: &[u8],
     at: usize,
+    top: Six,
     before: Tally,
     reg: &mut [u8],
     answers: &mut [u8],
 ) -> Tally
-    requires { ⌜ Firsts (now t) × ((a : Tree) × Next track (now s) at before (length (now answers)) a) × (isSound (now reg) ≡ true) × (l .room ≡ room siad (length (now reg))) ⌝ }
-    ensures { λ r. ⌜ ((a : Tree) → Next track (now (s .entry)) at before (length (now (answers .entry))) a → TookKid track (contextIn l) before (now (reg .entry)) (now (answers .entry)) a r (now (reg .exit)) (now (answers .exit))) ⌝ }
+    requires { ⌜ Firsts (now t) × ((a : Tree) × Next track (now s) at top before (length (now answers)) a) × (isSound (now reg) ≡ true) × (l .room ≡ room siad (length (now reg))) ⌝ }
+    ensures { λ r. ⌜ ((a : Tree) → Next track (now (s .entry)) at top before (length (now (answers .entry))) a → TookKid track (contextIn l) before (now (reg .entry)) (now (answers .entry)) a r (now (reg .exit)) (now (answers .exit))) ⌝ }
 {
     if !is_named(s, at, b"Assistenza") {
         return before;
     }
-    let answer = take_record(t, l, track, s, at, reg);
+    let answer = take_record(t, l, track, s, top, reg);
     let n = before.records;
     answers[n] = answer;
     if answer == 0 {
@@ -64,9 +69,9 @@ fn take_kid(
     }
 }
 
-// The records among the children from a place inside the root on: how many were accepted.
+// The records among the children from a place inside the root on: how many were accepted. The table of days is made here and not above: the passes over the
+// file before this one need none, and have the stack to themselves.
 fn take_all(
-    t: &[u32; 2400],
     l: Limits,
     track: u64,
     s: &[u8],
@@ -76,9 +81,10 @@ fn take_all(
     reg: &mut [u8],
     answers: &mut [u8],
 ) -> usize
-    requires { ⌜ Firsts (now t) × ((i : Inside) × Stretch track (part (now s) name «name_end») (drop from (now s)) (length (now answers)) i) × (isSound (now reg) ≡ true) × (l .room ≡ room siad (length (now reg))) ⌝ }
+    requires { ⌜ ((i : Inside) × Stretch track (part (now s) name «name_end») (drop from (now s)) (length (now answers)) i) × (isSound (now reg) ≡ true) × (l .room ≡ room siad (length (now reg))) ⌝ }
     ensures { λ r. ⌜ ((i : Inside) → Holds belowRoot (part (now (s .entry)) name «name_end») (drop from (now (s .entry))) i → TookAll track (contextIn l) (now (reg .entry)) (now (answers .entry)) (namedIn assistenza (kids i)) r (now (reg .exit)) (now (answers .exit))) ⌝ }
 {
+    let t = make();
     let mut at = from;
     let mut tally = Tally {
         records: 0,
@@ -88,17 +94,17 @@ fn take_all(
         let Kid::At(q) = next_kid(s, at, name, name_end) else {
             return tally.accepted;
         };
-        let Move::To(done) = skip(s, q) else {
+        let top = top_of(s, q);
+        let Move::To(done) = record_end(s, q, top.rest) else {
             return tally.accepted;
         };
-        tally = take_kid(t, l, track, s, q, tally, reg, answers);
+        tally = take_kid(&t, l, track, s, q, top.found, tally, reg, answers);
         at = done.at;
     }
 }
 
 // The records of the file whose root stands at a place: how many were accepted.
 pub fn take_file(
-    t: &[u32; 2400],
     l: Limits,
     track: u64,
     s: &[u8],
@@ -107,21 +113,15 @@ pub fn take_file(
     reg: &mut [u8],
     answers: &mut [u8],
 ) -> usize
-    requires { ⌜ Firsts (now t) × ((tree : Tree) × Whole track (now s) root records (length (now answers)) tree) × (isSound (now reg) ≡ true) × (l .room ≡ room siad (length (now reg))) ⌝ }
+    requires { ⌜ ((tree : Tree) × Whole track (now s) root records (length (now answers)) tree) × (isSound (now reg) ≡ true) × (l .room ≡ room siad (length (now reg))) ⌝ }
     ensures { λ r. ⌜ ((tree : Tree) → Whole track (now (s .entry)) root records (length (now (answers .entry))) tree → TookAll track (contextIn l) (now (reg .entry)) (now (answers .entry)) (recordsOf (schemaOf track) tree) r (now (reg .exit)) (now (answers .exit))) ⌝ }
 {
-    let here = Cursor { at: root };
-    match here.start(s) {
-        Start::Refused => 0,
-        Start::Shut { .. } => 0,
-        Start::Open {
-            name,
-            name_end,
-            next,
-            ..
-        } => {
-            let from = next.at;
-            take_all(t, l, track, s, from, name, name_end, reg, answers)
-        }
+    let Got::Text { start, end, next } = head(s, root) else {
+        return 0;
+    };
+    match next.attributes(s) {
+        Ending::Refused => 0,
+        Ending::Shut(_) => 0,
+        Ending::Open(done) => take_all(l, track, s, done.at, start, end, reg, answers),
     }
 }

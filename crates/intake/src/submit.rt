@@ -4,7 +4,6 @@ ghost use mathlib.Core.Bool.{true, _||_};
 ghost use Prim.Native.Nat.{ℕ};
 ghost use lib.Dec.{eqb};
 ghost use lib.ListN.{length};
-ghost use Rattle.days.specs.Table.{Firsts};
 ghost use Rattle.markup.specs.Elements.{Tree};
 ghost use Rattle.markup.specs.Document.{document};
 ghost use Rattle.register.specs.Bytes.{room};
@@ -22,8 +21,8 @@ use judge::Limits;
 use markup::Document;
 use markup::file::document;
 use schema::file::ShapeAnswer;
+use soundness::sound::is_sound;
 use soundness::sound::room_of;
-use soundness::sound::sound;
 use tracks::shapes::shape_of;
 
 // The longest submission.
@@ -44,7 +43,6 @@ fn refused(answer: u64, number: u64) -> Report
 
 // A file that passed 1 to 8, its root at a place.
 fn taken(
-    t: &[u32; 2400],
     l: Limits,
     track: u64,
     s: &[u8],
@@ -53,10 +51,10 @@ fn taken(
     reg: &mut [u8],
     answers: &mut [u8],
 ) -> Report
-    requires { ⌜ Firsts (now t) × ((tree : Tree) × Whole track (now s) root records (length (now answers)) tree) × (isSound (now reg) ≡ true) × (l .room ≡ room siad (length (now reg))) ⌝ }
+    requires { ⌜ ((tree : Tree) × Whole track (now s) root records (length (now answers)) tree) × (isSound (now reg) ≡ true) × (l .room ≡ room siad (length (now reg))) ⌝ }
     ensures { λ r. ⌜ ((tree : Tree) (year quarter : ℕ) → Whole track (now (s .entry)) root records (length (now (answers .entry))) tree → contextIn l ≡ contextOf year quarter (length (now (reg .entry))) → Says (taken (now (s .entry)) track year quarter (now (reg .entry)) (now (answers .entry)) (entriesOf track tree)) r (now (reg .exit)) (now (answers .exit))) ⌝ }
 {
-    let accepted = take_file(t, l, track, s, root, records, reg, answers);
+    let accepted = take_file(l, track, s, root, records, reg, answers);
     Report {
         answer: 0,
         number: 0,
@@ -67,29 +65,22 @@ fn taken(
 }
 
 // From 5 on.
-fn by_markup(
-    t: &[u32; 2400],
-    l: Limits,
-    track: u64,
-    sub: &[u8],
-    reg: &mut [u8],
-    answers: &mut [u8],
-) -> Report
-    requires { ⌜ Firsts (now t) × ((eqb track 1 || eqb track 2) ≡ true) × (isSound (now reg) ≡ true) × (l .room ≡ room siad (length (now reg))) ⌝ }
+fn by_markup(l: Limits, track: u64, sub: &[u8], reg: &mut [u8], answers: &mut [u8]) -> Report
+    requires { ⌜ ((eqb track 1 || eqb track 2) ≡ true) × (isSound (now reg) ≡ true) × (l .room ≡ room siad (length (now reg))) ⌝ }
     ensures { λ r. ⌜ ((year quarter : ℕ) → contextIn l ≡ contextOf year quarter (length (now (reg .entry))) → Says (byMarkup (now (sub .entry)) track year quarter (now (reg .entry)) (now (answers .entry)) (document (now (sub .entry)))) r (now (reg .exit)) (now (answers .exit))) ⌝ }
 {
     let Document::Root(c) = document(sub) else {
         return refused(5, 0);
     };
     let root = c.at;
-    match shape_of(t, track, sub, root) {
+    match shape_of(track, sub, root) {
         ShapeAnswer::Faulty { number, .. } => refused(6, number as u64),
         ShapeAnswer::Crowded(number) => refused(7, number as u64),
         ShapeAnswer::Fine(records) => {
             if answers.len() < records {
                 refused(8, 0)
             } else {
-                taken(t, l, track, sub, root, records, reg, answers)
+                taken(l, track, sub, root, records, reg, answers)
             }
         }
     }
@@ -97,7 +88,6 @@ fn by_markup(
 
 // A submission of a track, for a quarter, to a register: the answers in the order of document 01's table.
 pub fn submit(
-    t: &[u32; 2400],
     sub: &[u8],
     track: u64,
     year: u64,
@@ -105,16 +95,15 @@ pub fn submit(
     reg: &mut [u8],
     answers: &mut [u8],
 ) -> Report
-    requires { ⌜ Firsts (now t) ⌝ }
     ensures { λ r. ⌜ Says (submitted (now (sub .entry)) track year quarter (now (reg .entry)) (now (answers .entry))) r (now (reg .exit)) (now (answers .exit)) ⌝ }
 {
-    let Quarter::Days { first, last } = quarter_days(t, year, quarter) else {
+    let Quarter::Days { first, last } = quarter_days(year, quarter) else {
         return refused(1, 0);
     };
     if !((track == 1) | (track == 2)) {
         return refused(2, 0);
     }
-    if !sound(t, reg) {
+    if !is_sound(reg) {
         return refused(3, 0);
     }
     if LONGEST < sub.len() {
@@ -126,5 +115,5 @@ pub fn submit(
         last: last as u64,
         room,
     };
-    by_markup(t, l, track, sub, reg, answers)
+    by_markup(l, track, sub, reg, answers)
 }

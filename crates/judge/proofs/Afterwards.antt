@@ -38,18 +38,25 @@ use Rattle.judge.proofs.Keys.{Own, own-standing, own-rows, rows-back, h
 
 -- ---- what stands
 
-record Clear (t : ℕ) (es : List ℕ) : Type 0 where
+pub record Clear (t : ℕ) (es : List ℕ) : Type 0 where
+  pub no23 : t23 es ≡ false
   no25 : t25 t es ≡ false
-  no26 : t26 es ≡ false
+  pub no26 : t26 es ≡ false
   no27 : t27 es ≡ false
   no28 : t28 es ≡ false
 
-clear-of : (t : ℕ) (es : List ℕ) → eventsFree t es ≡ true → Clear t es
+pub clear-of : (t : ℕ) (es : List ℕ) → eventsFree t es ≡ true → Clear t es
 clear-of t es h =
     let a = or-right (t23 es) (t25 t es || (t26 es || (t27 es || t28 es))) (not-true _ h) in
     let b = or-right (t25 t es) (t26 es || (t27 es || t28 es)) a in
     let c = or-right (t26 es) (t27 es || t28 es) b in
-    record { no25 = or-left (t25 t es) _ a; no26 = or-left (t26 es) _ b; no27 = or-left (t27 es) _ c; no28 = or-right (t27 es) _ c }
+    record {
+      no23 = or-left (t23 es) _ (not-true _ h);
+      no25 = or-left (t25 t es) _ a;
+      no26 = or-left (t26 es) _ b;
+      no27 = or-left (t27 es) _ c;
+      no28 = or-right (t27 es) _ c;
+    }
 
 -- ---- 28 as a test of two: no event is after itself, as only a suspension has an end
 

@@ -1,18 +1,20 @@
 -- A record's case in a sound register: whether it stands, and its events' rows.
 use Prim.Native.Nat.{ℕ, _+_, _-_, _/_, _^_, _≤_, _<_}
-use mathlib.Core.Path.{_≡_, sym, _∙_}
+use mathlib.Core.Path.{_≡_, sym, ap, _∙_}
 use mathlib.Core.Bool.{Bool, true, _&&_}
-use mathlib.Core.List.{List}
+use mathlib.Core.List.{List, map}
 use native.Mathlib.Omega.{arith}
 use lib.Dec.{eqb, ltb}
 use lib.ListN.{length}
+use borrow.Author.Tests.{ltb-false}
 use Rattle.rows.specs.Pack.{each, Fit}
-use Rattle.model.specs.Map.{Row, has}
+use Rattle.model.specs.Map.{Row, Map, has}
 use Rattle.register.specs.Layout.{siad, caseRest, eventRest, caseOf}
 use Rattle.register.specs.Bytes.{split, rowAt, rowIn, casesHeld, eventsHeld, eventsFrom, stateOf}
-use Rattle.register.specs.Fields.{eventIn, eventKeyOf}
+use Rattle.register.specs.Fields.{takenIn, eventIn, eventKeyOf, dateOf, endOf}
+use Rattle.register.specs.Events.{isSuspension, shareDay}
 use Rattle.register.specs.Search.{keyAt, keyOf, Placed, Ranged}
-use Rattle.register.specs.Sound.{eventsOf, isSound}
+use Rattle.register.specs.Sound.{eventsOf, eventsFree, isSound}
 use Rattle.register.specs.Stored.{Stored, cases}
 use Rattle.register.proofs.Found.{stands-has, case-at, cases-rise, range-events}
 use Rattle.register.proofs.From.{from-length}
@@ -20,7 +22,10 @@ use Rattle.register.proofs.Halving.{at-key}
 use Rattle.register.proofs.SoundLaws.{sound-is-stored}
 use Rattle.register.proofs.States.{laid-siad}
 use Rattle.soundness.proofs.FindPlace.{keys-rise}
-use Rattle.judge.specs.Standing.{Climbs, OfCase}
+use Rattle.checks.proofs.Valid.{sound-state, parts-of, free-any}
+use Rattle.judge.specs.Standing.{eventAt, standingIn, Climbs, Settled, OfCase}
+use Rattle.judge.proofs.Rows.{any-not, pair-not}
+use Rattle.judge.proofs.Afterwards.{Clear, clear-of}
 
 -- ---- the rows that a register claims
 
@@ -65,10 +70,27 @@ module _ (reg : List ℕ) (f : Fit (each 8 reg)) (h : isSound reg ≡ true) wher
         eventKeyOf (eventIn (split 47 m)) < eventKeyOf (eventIn (split 47 n))
     own-part m n a b h = omega arith
 
-    pub events-climb : Climbs reg lo hi
+    events-climb : Climbs reg lo hi
     events-climb p q a b c =
         own-part (rowIn siad reg p) (rowIn siad reg q) (of-case p a (omega arith)) (of-case q (omega arith) c)
         (keys-rise row 0 (casesHeld reg) (eventsHeld reg) (stored .good .1) p q (omega (arith, r .low)) b (omega (arith, r .high)))
+
+    -- free of 23 and 26, also where the case does not stand: then it has no events
+    clear : Clear (takenIn v) (standingIn reg lo hi)
+    clear =
+        clear-of (takenIn v) (standingIn reg lo hi)
+        (ap (λ (m : Map ℕ). eventsFree (takenIn v) (map eventIn m)) (sym events-are)
+        ∙ free-any (length reg) (stateOf siad reg) (parts-of (length reg) (stateOf siad reg) (sound-state reg f h .is-valid)) v)
+
+    pub events-settled : Settled reg lo hi
+    events-settled =
+        record {
+          climbs = events-climb;
+          forward = λ k a b s.
+              ltb-false (endOf (eventAt reg k)) (dateOf (eventAt reg k))
+              (rw s at (any-not reg (λ e. isSuspension e && ltb (endOf e) (dateOf e)) lo k hi a b (clear .no23)));
+          apart = λ p q a b c. pair-not reg shareDay (p - lo) lo p q hi (omega arith) b c (clear .no26);
+        }
 
 -- what the search for the case's rows tells
 pub case-rows : (reg : List ℕ) (v n rows lo hi : ℕ) → Fit (each 8 reg) → n ≡ casesHeld reg → rows ≡ casesHeld reg + eventsHeld reg →
@@ -77,7 +99,7 @@ case-rows reg v n rows lo hi f e g w r =
     record {
       mid = r .mid;
       end = omega (arith, r .high);
-      climbs = λ h. events-climb reg f h v lo hi held;
+      settled = λ h. events-settled reg f h v lo hi held;
       are = λ h. events-are reg f h v lo hi held;
     }
   where

@@ -8,7 +8,7 @@ use Rattle.laws.specs.Lists.{any}
 use Rattle.laws.proofs.Places.{front}
 use Rattle.register.specs.Events.{pair}
 use Rattle.judge.specs.Against.{clash, keyAmong}
-use Rattle.judge.specs.Standing.{standingIn, Climbs, Outside}
+use Rattle.judge.specs.Standing.{standingIn, Settled, Outside}
 use Rattle.judge.proofs.Rows.{part-enough}
 
 -- a standing event clashes with a, and is not replaced
@@ -45,11 +45,11 @@ module _ (p : ℕ → ℕ → Bool) (es ms : List ℕ) (i : ℕ) (target : Bool)
     fresh-next e f = step ∙ rw (sym e, sym f)
 
 -- with the rows in which a rival can stand for all of the case's rows
-module _ (number : ℕ) (es reg : List ℕ) (lo hi i : ℕ) (up : Climbs reg lo hi) (h : i < length es) (target : Bool)
+module _ (number : ℕ) (es reg : List ℕ) (lo hi i : ℕ) (settled : Settled reg lo hi) (h : i < length es) (target : Bool)
     (inv : target ≡ freshFrom (clash number) es (standingIn reg lo hi) i) (first end : ℕ) (o : Outside (clash number (getD es i 0)) reg lo hi first end) where
   rivals : any (unreplaced (clash number) es (getD es i 0)) (standingIn reg lo hi) ≡ any (unreplaced (clash number) es (getD es i 0)) (standingIn reg first end)
   rivals =
-      part-enough (clash number (getD es i 0)) (unreplaced (clash number) es (getD es i 0)) reg lo hi first end (λ b f. ap (λ (t : Bool). t && not (keyAmong es b)) f) o up
+      part-enough (clash number (getD es i 0)) (unreplaced (clash number) es (getD es i 0)) reg lo hi first end (λ b f. ap (λ (t : Bool). t && not (keyAmong es b)) f) o settled
 
   pub rival-stands : true ≡ any (unreplaced (clash number) es (getD es i 0)) (standingIn reg first end) → true ≡ target
   rival-stands e = fresh-stands (clash number) es (standingIn reg lo hi) i target inv h (e ∙ sym rivals)

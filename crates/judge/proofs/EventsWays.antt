@@ -14,7 +14,7 @@ use Rattle.checks.specs.Tests.{Context}
 use Rattle.judge.specs.Against.{wrong, clash, keyAmong, fresh}
 use Rattle.judge.specs.Chain.{againstStanding}
 use Rattle.judge.proofs.InOrder.{answerEvents}
-use Rattle.judge.specs.Standing.{standingIn, Climbs}
+use Rattle.judge.specs.Standing.{standingIn, Settled}
 use Rattle.judge.proofs.Rows.{no-row}
 
 -- ---- 22: with nothing that stands, only the record's events
@@ -27,9 +27,13 @@ none-stands p es (x ∷ fs) = none-stands p es fs
 fresh-none : (p : ℕ → ℕ → Bool) (es : List ℕ) → fresh p es [] ≡ pair p es
 fresh-none p es = ap (λ (b : Bool). pair p es || b) (none-stands p es es) ∙ or-false (pair p es)
 
-pub only-own : (p : ℕ → ℕ → Bool) (es reg : List ℕ) (r : Bool) → (Climbs reg 0 0 → r ≡ fresh p es (standingIn reg 0 0)) → r ≡ pair p es
+no-rows : (reg : List ℕ) → Settled reg 0 0
+no-rows reg =
+    record { climbs = λ x y a b c. absurd (omega arith); forward = λ k a b. absurd (omega arith); apart = λ x y a b c. absurd (omega arith) }
+
+pub only-own : (p : ℕ → ℕ → Bool) (es reg : List ℕ) (r : Bool) → (Settled reg 0 0 → r ≡ fresh p es (standingIn reg 0 0)) → r ≡ pair p es
 only-own p es reg r h =
-    h (λ x y a b c. absurd (omega arith)) ∙ ap (fresh p es) (no-row reg 0 0 (omega arith)) ∙ fresh-none p es
+    h (no-rows reg) ∙ ap (fresh p es) (no-row reg 0 0 (omega arith)) ∙ fresh-none p es
 
 -- ---- before the case
 

@@ -2,6 +2,7 @@ pub mod InOrder
 pub mod Scan
 pub mod OneEvent
 pub mod Rows
+pub mod Sharing
 pub mod Rivals
 pub mod Clashing
 pub mod Pairs

@@ -8,7 +8,7 @@ use lib.Dec.{eqb}
 use borrow.Author.Tests.{eqb-true, ne-eqb, not-true}
 use Rattle.laws.proofs.Truth.{or-left, or-right}
 use Rattle.register.specs.Fields.{kindOf}
-use Rattle.register.specs.Events.{isConclusion}
+use Rattle.register.specs.Events.{isConclusion, shareDay}
 use Rattle.judge.specs.Against.{clash}
 use Rattle.judge.specs.Standing.{Outside}
 
@@ -19,18 +19,18 @@ outside-map p q reg lo hi a e f o =
       low = o .low;
       mid = o .mid;
       high = o .high;
-      before = λ up k h g. f _ (o .before up k h g);
-      after = λ up k h g. f _ (o .after up k h g);
+      before = λ settled k h g. f _ (o .before settled k h g);
+      after = λ settled k h g. f _ (o .after settled k h g);
     }
 
 module _ (reg : List ℕ) (lo hi : ℕ) (h : lo ≤ hi) where
   pub all-rows : (q : ℕ → Bool) → Outside q reg lo hi lo hi
   all-rows q =
-      record { low = omega arith; mid = h; high = omega arith; before = λ up k x y. absurd (omega arith); after = λ up k x y. absurd (omega arith) }
+      record { low = omega arith; mid = h; high = omega arith; before = λ settled k x y. absurd (omega arith); after = λ settled k x y. absurd (omega arith) }
 
   no-rows : (q : ℕ → Bool) → ((b : ℕ) → q b ≡ false) → Outside q reg lo hi lo lo
   no-rows q f =
-      record { low = omega arith; mid = omega arith; high = h; before = λ up k x y. absurd (omega arith); after = λ up k x y. f _ }
+      record { low = omega arith; mid = omega arith; high = h; before = λ settled k x y. absurd (omega arith); after = λ settled k x y. f _ }
 
   module _ (number a kind : ℕ) (k : kind ≡ kindOf a) where
     abbrev alone : Bool
@@ -45,10 +45,9 @@ module _ (reg : List ℕ) (lo hi : ℕ) (h : lo ≤ hi) where
         go false x true y b = rw (eqb-true number 27 y, ← k, not-true (eqb kind 3) (rw (eqb-true number 27 y) at e))
         go false x false y b = absurd (false≢true (rw (x, y) at e))
 
-    -- 26: only a suspension can share a day with a
-    pub suspensions-clash : (from to : ℕ) → number ≡ 26 → Outside (λ b. eqb (kindOf b) 2) reg lo hi from to → Outside (clash number a) reg lo hi from to
-    suspensions-clash from to n o =
-        outside-map (clash number a) (λ b. eqb (kindOf b) 2) reg lo hi from to (λ b f. rw (n, f, and-false (eqb (kindOf a) 2))) o
+    -- 26: only what can share a day with a
+    pub sharing-clash : (from to : ℕ) → number ≡ 26 → Outside (shareDay a) reg lo hi from to → Outside (clash number a) reg lo hi from to
+    sharing-clash from to n o = outside-map (clash number a) (shareDay a) reg lo hi from to (λ b f. rw n f) o
 
     -- 27, and 28 where a is no conclusion: only a conclusion
     pub conclusions-clash : (from to : ℕ) → (number ≡ 26 → ⊥) → eqb number 22 || (not (eqb number 27) && eqb kind 3) ≡ false →

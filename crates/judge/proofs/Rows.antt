@@ -1,7 +1,7 @@
 -- A case's rows, which ascend: what is looked for in a part of them, and an event found by its key.
 use Prim.Native.Nat.{ℕ, zero, suc, _+_, _-_, _*_, _≤_, _<_}
 use mathlib.Core.Path.{_≡_, refl, sym, ap, ap₂, _∙_}
-use mathlib.Core.Bool.{Bool, true, false, _||_, or-false, or-true, or-assoc}
+use mathlib.Core.Bool.{Bool, true, false, _||_, or-false, or-true, or-assoc, true≢false}
 use mathlib.Core.List.{List, [], _∷_, _++_, map}
 use native.Mathlib.Omega.{arith}
 use lib.Dec.{eqb}
@@ -9,16 +9,18 @@ use lib.ListN.{length}
 use borrow.Author.Tests.{ne-eqb, eq-eqb}
 use Rattle.laws.specs.Lists.{any}
 use Rattle.laws.proofs.Order.{Tri, below, equal, above, tri}
+use Rattle.laws.proofs.Truth.{or-left, or-right}
 use Rattle.model.specs.Map.{Row, Map}
 use Rattle.register.specs.Layout.{siad, eventRest}
 use Rattle.register.specs.Bytes.{from, split, rowIn, eventsFrom}
+use Rattle.register.specs.Events.{pair}
 use Rattle.register.specs.Fields.{kindOf, eventIn, eventKeyOf}
 use Rattle.register.specs.Search.{Rises, Placed}
 use Rattle.register.proofs.Every.{any-tell}
 use Rattle.register.proofs.From.{from-length, from-cut}
 use Rattle.register.proofs.Walks.{from-next, from-none, from-every}
 use Rattle.judge.specs.Against.{keyAmong}
-use Rattle.judge.specs.Standing.{eventAt, eventKeyAt, standingIn, Climbs, Outside}
+use Rattle.judge.specs.Standing.{eventAt, eventKeyAt, standingIn, Climbs, Settled, Outside}
 
 -- ---- the events in some rows
 
@@ -57,13 +59,32 @@ module _ (reg : List ℕ) where
     any-one lo i hi h g e =
         any-cut lo i hi h (omega arith) ∙ ap (λ (l : List ℕ). any q (standingIn reg lo i) || any q l) (next-row i hi g) ∙ rw e (or-true (any q (standingIn reg lo i)))
 
+    -- where no row passes, this one does not
+    pub any-not : (lo i hi : ℕ) → lo ≤ i → i < hi → any q (standingIn reg lo hi) ≡ false → q (eventAt reg i) ≡ false
+    any-not lo i hi h g e = go (q (eventAt reg i)) refl
+      where
+        go : (b : Bool) → q (eventAt reg i) ≡ b → q (eventAt reg i) ≡ false
+        go true t = absurd (true≢false (sym (any-one lo i hi h g t) ∙ e))
+        go false t = t
+
+  -- where no two rows pass, these two do not
+  pub pair-not : (t : ℕ → ℕ → Bool) (n lo p q hi : ℕ) → p ≡ lo + n → p < q → q < hi → pair t (standingIn reg lo hi) ≡ false → t (eventAt reg p) (eventAt reg q) ≡ false
+  unfolding pair
+  pair-not t zero lo p q hi e h g none =
+      let a : p ≡ lo = omega arith in
+      let here = or-left (any (t (eventAt reg lo)) (standingIn reg (lo + 1) hi)) _ (ap (pair t) (sym (next-row lo hi (omega arith))) ∙ none) in
+      rw a (any-not (t (eventAt reg lo)) (lo + 1) q hi (omega arith) g here)
+  pair-not t (suc n) lo p q hi e h g none =
+      let rest = or-right (any (t (eventAt reg lo)) (standingIn reg (lo + 1) hi)) _ (ap (pair t) (sym (next-row lo hi (omega arith))) ∙ none) in
+      pair-not t n (lo + 1) p q hi (omega arith) h g rest
+
 -- where only a part of the rows can pass, the part is enough
-pub part-enough : (q p : ℕ → Bool) (reg : List ℕ) (lo hi a e : ℕ) → ((b : ℕ) → q b ≡ false → p b ≡ false) → Outside q reg lo hi a e → Climbs reg lo hi →
+pub part-enough : (q p : ℕ → Bool) (reg : List ℕ) (lo hi a e : ℕ) → ((b : ℕ) → q b ≡ false → p b ≡ false) → Outside q reg lo hi a e → Settled reg lo hi →
     any p (standingIn reg lo hi) ≡ any p (standingIn reg a e)
-part-enough q p reg lo hi a e f o up =
+part-enough q p reg lo hi a e f o settled =
     any-cut reg p lo a hi (o .low) (omega (arith, o .mid, o .high))
-    ∙ ap₂ (λ (s t : Bool). s || t) (any-none reg p lo a (o .low) (λ k h g. f (eventAt reg k) (o .before up k h g))) (any-cut reg p a e hi (o .mid) (o .high))
-    ∙ ap (λ (s : Bool). any p (standingIn reg a e) || s) (any-none reg p e hi (o .high) (λ k h g. f (eventAt reg k) (o .after up k h g)))
+    ∙ ap₂ (λ (s t : Bool). s || t) (any-none reg p lo a (o .low) (λ k h g. f (eventAt reg k) (o .before settled k h g))) (any-cut reg p a e hi (o .mid) (o .high))
+    ∙ ap (λ (s : Bool). any p (standingIn reg a e) || s) (any-none reg p e hi (o .high) (λ k h g. f (eventAt reg k) (o .after settled k h g)))
     ∙ or-false (any p (standingIn reg a e))
 
 -- ---- an event by its key
@@ -101,10 +122,10 @@ kind-rows reg lo hi kind a e p q =
       low = p .low;
       mid = q .low;
       high = q .high;
-      before = λ up k h g.
-          ne-eqb (kindOf (eventAt reg k)) kind (λ w. omega (arith, p .under (climb-rises reg lo hi up lo (omega arith)) k h g));
-      after = λ up k h g.
-          ne-eqb (kindOf (eventAt reg k)) kind (λ w. omega (arith, q .over (climb-rises reg lo hi up a (p .low)) k h g));
+      before = λ settled k h g.
+          ne-eqb (kindOf (eventAt reg k)) kind (λ w. omega (arith, p .under (climb-rises reg lo hi (settled .climbs) lo (omega arith)) k h g));
+      after = λ settled k h g.
+          ne-eqb (kindOf (eventAt reg k)) kind (λ w. omega (arith, q .over (climb-rises reg lo hi (settled .climbs) a (p .low)) k h g));
     }
 
 -- as many events as rows

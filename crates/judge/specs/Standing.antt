@@ -6,7 +6,8 @@ use mathlib.Core.List.{List, map}
 use lib.ListN.{length}
 use Rattle.register.specs.Layout.{siad, eventRest}
 use Rattle.register.specs.Bytes.{split, rowAt, rowIn, eventsFrom, stateOf}
-use Rattle.register.specs.Fields.{eventIn, eventKeyOf}
+use Rattle.register.specs.Fields.{eventIn, eventKeyOf, dateOf, endOf}
+use Rattle.register.specs.Events.{isSuspension, shareDay}
 use Rattle.register.specs.Sound.{eventsOf, isSound}
 
 -- the 52 bits of the event in row i, and its part of the key
@@ -24,17 +25,26 @@ standingIn reg lo hi = map eventIn (eventsFrom siad reg lo (hi - lo))
 abbrev pub Climbs : List ℕ → ℕ → ℕ → Type 0
 Climbs reg lo hi = (p q : ℕ) → lo ≤ p → p < q → q < hi → eventKeyAt reg p < eventKeyAt reg q
 
+-- they are as a case's events stand in a sound register
+pub record Settled (reg : List ℕ) (lo hi : ℕ) : Type 0 where
+  -- in the order of their keys
+  pub climbs : Climbs reg lo hi
+  -- no suspension ends before it begins
+  pub forward : (k : ℕ) → lo ≤ k → k < hi → isSuspension (eventAt reg k) ≡ true → dateOf (eventAt reg k) ≤ endOf (eventAt reg k)
+  -- no two suspensions share a day
+  pub apart : (p q : ℕ) → lo ≤ p → p < q → q < hi → shareDay (eventAt reg p) (eventAt reg q) ≡ false
+
 -- of the rows from lo up to hi, only those from a up to e can pass the test
 pub record Outside (q : ℕ → Bool) (reg : List ℕ) (lo hi a e : ℕ) : Type 0 where
   pub low : lo ≤ a
   pub mid : a ≤ e
   pub high : e ≤ hi
-  pub before : Climbs reg lo hi → (k : ℕ) → lo ≤ k → k < a → q (eventAt reg k) ≡ false
-  pub after : Climbs reg lo hi → (k : ℕ) → e ≤ k → k < hi → q (eventAt reg k) ≡ false
+  pub before : Settled reg lo hi → (k : ℕ) → lo ≤ k → k < a → q (eventAt reg k) ≡ false
+  pub after : Settled reg lo hi → (k : ℕ) → e ≤ k → k < hi → q (eventAt reg k) ≡ false
 
 -- the rows from lo up to hi are, in a sound register, those of the events of the case c
 pub record OfCase (c : ℕ) (reg : List ℕ) (lo hi : ℕ) : Type 0 where
   pub mid : lo ≤ hi
   pub end : rowAt siad hi ≤ length reg
-  pub climbs : isSound reg ≡ true → Climbs reg lo hi
+  pub settled : isSound reg ≡ true → Settled reg lo hi
   pub are : isSound reg ≡ true → eventsOf siad c (stateOf siad reg .events) ≡ eventsFrom siad reg lo (hi - lo)

@@ -5,7 +5,7 @@ ghost use lib.ListN.{length};
 ghost use Rattle.register.specs.Bytes.{rowAt};
 ghost use Rattle.register.specs.Layout.{siad};
 ghost use Rattle.judge.specs.Against.{clash, fresh};
-ghost use Rattle.judge.specs.Standing.{standingIn, Climbs};
+ghost use Rattle.judge.specs.Standing.{standingIn, Settled};
 use crate::events::clash;
 use crate::events::clash_standing;
 use crate::standing::event_at;
@@ -14,7 +14,7 @@ use crate::standing::rivals;
 // Whether two of the record's events clash, or one of them and one that stands and is not replaced; left as soon as two do.
 pub fn clashes(number: u64, evs: &[u64], reg: &[u8], lo: usize, hi: usize) -> bool
     requires { ⌜ (lo ≤ hi) × (rowAt siad hi ≤ length (now reg)) ⌝ }
-    ensures { λ r. ⌜ (Climbs (now (reg .entry)) lo hi → r ≡ fresh (clash number) (now (evs .entry)) (standingIn (now (reg .entry)) lo hi)) ⌝ }
+    ensures { λ r. ⌜ (Settled (now (reg .entry)) lo hi → r ≡ fresh (clash number) (now (evs .entry)) (standingIn (now (reg .entry)) lo hi)) ⌝ }
 {
     let mut found = false;
     let mut i = 0;

@@ -20,7 +20,7 @@ ghost use Rattle.checks.specs.Checks.{checksOf};
 ghost use Rattle.checks.specs.Flow.{kindOf};
 ghost use Rattle.checks.specs.Readable.{Readable};
 ghost use Rattle.judge.specs.Chain.{againstStanding, answerAdmission};
-ghost use Rattle.judge.specs.Standing.{standingIn, Climbs};
+ghost use Rattle.judge.specs.Standing.{standingIn, Settled};
 ghost use Rattle.judge.specs.View.{contextIn, IsOf, IsSaid, IsAdmitted};
 use crate::Limits;
 use crate::admission::bad_birth;
@@ -48,7 +48,7 @@ fn against_standing(
     rows: usize,
 ) -> u8
     requires { ⌜ (lo ≤ hi) × (rowAt siad hi ≤ length (now reg)) × (rows < 131072) × (length (now evs) ≤ 128) ⌝ }
-    ensures { λ r. ⌜ (Climbs (now (reg .entry)) lo hi
+    ensures { λ r. ⌜ (Settled (now (reg .entry)) lo hi
         → r ≡ againstStanding (contextIn l) (isInsert (kindOf tipo)) (isCancel (kindOf tipo)) taken (now (evs .entry)) rows (standingIn (now (reg .entry)) lo hi)) ⌝ }
 {
     // an insertion must find none of its events standing, any other record all of them

@@ -6,6 +6,7 @@ ghost use lib.Dec.{eqb};
 ghost use lib.ListN.{length};
 ghost use Rattle.laws.specs.Lists.{any};
 ghost use Rattle.register.specs.Bytes.{rowAt};
+ghost use Rattle.register.specs.Events.{shareDay};
 ghost use Rattle.register.specs.Fields.{kindOf};
 ghost use Rattle.register.specs.Layout.{siad};
 ghost use Rattle.register.specs.Search.{Placed};
@@ -13,6 +14,8 @@ ghost use Rattle.judge.specs.Against.{clash, keyAmong};
 ghost use Rattle.judge.specs.Standing.{eventAt, eventKeyAt, standingIn, Climbs, Outside};
 use register::search::Span;
 use soundness::allowed::event_of;
+use soundness::fields::date_of;
+use soundness::fields::end_of;
 use soundness::fields::event_key_of;
 use soundness::fields::kind_of;
 use soundness::fields::row_at;
@@ -82,7 +85,24 @@ fn of_kind(reg: &[u8], lo: usize, hi: usize, kind: u64) -> Span
     Span { lo: a, hi: e }
 }
 
-// The rows from lo up to hi that can clash with a at all: suspensions, conclusions, all or none. (22 is asked of a record's own events, with no rows.)
+// The rows from lo up to hi that can share a day with a: those that begin in its days, and the one before them. Suspensions that stand
+// share no day, so that of those which begin earlier only the last can reach into a's days.
+fn sharing(reg: &[u8], lo: usize, hi: usize, a: u64) -> Span
+    requires { ⌜ (lo ≤ hi) × (rowAt siad hi ≤ length (now reg)) ⌝ }
+    ensures { λ r. ⌜ Outside (shareDay a) (now (reg .entry)) lo hi (r .lo) (r .hi) ⌝ }
+{
+    let from = event_place(reg, lo, hi, 2 * 131072 + date_of(a));
+    let to = event_place(reg, from, hi, 2 * 131072 + end_of(a) + 1);
+    if lo < from {
+        return Span {
+            lo: from - 1,
+            hi: to,
+        };
+    }
+    Span { lo, hi: to }
+}
+
+// The rows from lo up to hi that can clash with a at all: suspensions about its days, conclusions, all or none. (22 is asked of a record's own events, with no rows.)
 pub fn rivals(number: u64, reg: &[u8], lo: usize, hi: usize, a: u64) -> Span
     requires { ⌜ (lo ≤ hi) × (rowAt siad hi ≤ length (now reg)) ⌝ }
     ensures { λ r. ⌜ Outside (clash number a) (now (reg .entry)) lo hi (r .lo) (r .hi) ⌝ }
@@ -92,7 +112,7 @@ pub fn rivals(number: u64, reg: &[u8], lo: usize, hi: usize, a: u64) -> Span
         return Span { lo, hi: lo };
     }
     if number == 26 {
-        return of_kind(reg, lo, hi, 2);
+        return sharing(reg, lo, hi, a);
     }
     if (number == 22) | ((number != 27) & (kind == 3)) {
         return Span { lo, hi };

@@ -5,11 +5,12 @@ use mathlib.Core.List.{List, [], _∷_}
 use mathlib.Core.Bool.{Bool, true, false, cond, not, _||_, _&&_, and-self}
 use native.Mathlib.Omega.{arith}
 use native.Mathlib.Nat.{add-sub-cancel-left}
-use lib.ListN.{length, drop, take, getD, length-drop, drop-of-length-le}
-use lib.Seq.{drop-drop, take-all, take-nil}
+use lib.ListN.{length, drop, take, getD, length-drop, length-take, drop-of-length-le}
+use lib.Seq.{drop-drop, take-all, take-nil, getD-take, getD-drop, length-take-le}
 use lib.Dec.{eqb, leb}
 use borrow.Author.Tests.{eqb-true, ne-eqb}
-use Rattle.laws.proofs.Places.{front}
+use Rattle.laws.specs.Lists.{same}
+use Rattle.laws.proofs.Places.{front, same-no, same-yes, same-end, different}
 use Rattle.markup.specs.Bytes.{isWs, isName, isText, inValue, run}
 use Rattle.markup.specs.Names.{isQuote, skipWs}
 use Rattle.markup.specs.Classes.{class}
@@ -89,3 +90,37 @@ pub part-rest : (s : List ℕ) (a e : ℕ) → length s ≤ e → take (length s
 part-rest s a e h =
     let d : length (drop a s) ≡ length s - a = length-drop a s in
     take-all (length s - a) (drop a s) (omega arith) ∙ sym (take-all (e - a) (drop a s) (omega arith))
+
+-- the bytes from a place on, as many as x has
+module _ (s x : List ℕ) (at : ℕ) where
+  pub begin-past : length s < at → eqb (length x) 0 ≡ same x (take (length x) (drop at s))
+  unfolding same
+  begin-past h = rw (drop-of-length-le s (le h), take-nil) (go x)
+    where
+      le : length s < at → length s ≤ at
+      le h = omega arith
+
+      go : (x : List ℕ) → eqb (length x) 0 ≡ same x []
+      go [] = refl
+      go (b ∷ x) = ne-eqb (suc (length x)) 0 (λ e. omega arith)
+
+  pub begin-short : length s - at < length x → false ≡ same x (take (length x) (drop at s))
+  begin-short h = different x (take (length x) (drop at s)) (λ e. omega (arith, simp (length-take, length-drop) at e))
+
+  -- byte by byte, where they are there
+  module _ (h : at + length x ≤ length s) (i : ℕ) where
+    begin-length : length x ≡ length (take (length x) (drop at s))
+    begin-length = sym (length-take-le (length x) (drop at s) (simp length-drop (omega arith)))
+
+    begin-at : i < length x → getD (take (length x) (drop at s)) i 0 ≡ getD s (at + i) 0
+    begin-at k = rw (getD-take (length x) (drop at s) i 0 k, getD-drop)
+
+    pub begin-no : i < length x → (getD s (at + i) 0 ≡ getD x i 0 → ⊥) → false ≡ same (drop i x) (drop i (take (length x) (drop at s)))
+    begin-no k f = same-no x (take (length x) (drop at s)) i k (omega (arith, begin-length)) (λ e. f (sym (e ∙ begin-at k)))
+
+    pub begin-yes : i < length x → getD s (at + i) 0 ≡ getD x i 0
+        → same (drop i x) (drop i (take (length x) (drop at s))) ≡ same (drop (i + 1) x) (drop (i + 1) (take (length x) (drop at s)))
+    begin-yes k e = same-yes x (take (length x) (drop at s)) i k (omega (arith, begin-length)) (sym (begin-at k ∙ e))
+
+    pub begin-end : length x ≤ i → true ≡ same (drop i x) (drop i (take (length x) (drop at s)))
+    begin-end k = same-end x (take (length x) (drop at s)) i k (omega (arith, begin-length))

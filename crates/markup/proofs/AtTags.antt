@@ -87,6 +87,11 @@ pub tag-end : (n : List ℕ) (r : Read Attributes) (v : Read Bool) (b : Bool) �
 tag-end n refused v b e d = rw e (cond-both b refused)
 tag-end n (read a m) v b e d = rw (e, d a m refl)
 
+-- attributes that are refused
+pub tag-bad : (n : List ℕ) (r : Read Attributes) → refused ≡ endingOf r → refused ≡ then r (tagOf n)
+tag-bad n refused e = refl
+tag-bad n (read a m) e = absurd (let z : _≡_ {A = ℕ} 0 1 = cc in omega arith)
+
 pub okEnding-back : (s : List ℕ) (a b : ℕ) (r : Ending) → a ≤ b → okEnding s b r → okEnding s a r
 okEnding-back s a b (end.Open c) h k = omega arith
 okEnding-back s a b (end.Shut c) h k = omega arith

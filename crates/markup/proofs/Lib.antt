@@ -6,4 +6,5 @@ pub mod Shorter
 pub mod AtTags
 pub mod AtRepeats
 pub mod AtElements
+pub mod AtOwn
 pub mod AtFile

@@ -8,6 +8,7 @@ use Rattle.laws.specs.Loop.{Step}
 use Rattle.laws.specs.Loop.Step.{stop, next}
 use Rattle.markup.specs.Reading.{Read, then}
 use Rattle.markup.specs.Reading.Read.{refused, read}
+use Rattle.markup.specs.Names.{name}
 use Rattle.markup.specs.Tags.{Pair, Attributes, Tag, attributes, ending, before}
 use Rattle.markup.specs.Elements.{Tree, Piece, element}
 use Rattle.markup.specs.Elements.Piece.{words, aside, closing, child}
@@ -42,6 +43,10 @@ held s a e = (a ≤ e) × (e ≤ length s)
 -- the place e lies past `at`, within s
 abbrev pub ahead : List ℕ → ℕ → ℕ → Type 0
 ahead s at e = (at < e) × (e ≤ length s)
+
+-- n is a name: read alone, it is read whole
+abbrev pub WholeName : List ℕ → Type 0
+WholeName n = name n ≡ read n []
 
 -- what is left where nothing is kept of what was read
 abbrev pub left : {A : Type 0} → Read A → Read Unit

@@ -1,7 +1,7 @@
 // Bytes, runs of them, and parts of the input.
 ghost use mathlib.Core.Path.{_≡_};
 ghost use Prim.Native.Nat.{_+_};
-ghost use lib.ListN.{drop, getD};
+ghost use lib.ListN.{length, take, drop, getD};
 ghost use Rattle.laws.specs.Lists.{all, same};
 ghost use Rattle.markup.specs.Bytes.{isWs, isNameStart, isName, inFile, run};
 ghost use Rattle.markup.specs.Classes.{isWord, class};
@@ -115,6 +115,26 @@ pub fn same(x: &[u8], y: &[u8]) -> bool
     let mut i = 0;
     while i < x.len() {
         if x[i] != y[i] {
+            return false;
+        }
+        i += 1;
+    }
+    true
+}
+
+// The bytes from a place on begin with those of x.
+pub fn begins(s: &[u8], at: usize, x: &[u8]) -> bool
+    ensures { λ r. ⌜ r ≡ same (now (x .entry)) (take (length (now (x .entry))) (drop at (now (s .entry)))) ⌝ }
+{
+    if s.len() < at {
+        return x.len() == 0;
+    }
+    if s.len() - at < x.len() {
+        return false;
+    }
+    let mut i = 0;
+    while i < x.len() {
+        if s[at + i] != x[i] {
             return false;
         }
         i += 1;

@@ -3,11 +3,12 @@ ghost use mathlib.Core.Path.{_≡_};
 ghost use lib.ListN.{drop};
 ghost use Rattle.markup.specs.Reading.Read.{refused};
 ghost use Rattle.markup.specs.Elements.{piece, element};
-ghost use Rattle.markup.specs.View.{part, viewMove, okMove, viewPiece, okPiece, left};
+ghost use Rattle.markup.specs.View.{part, WholeName, viewMove, okMove, viewPiece, okPiece, left};
 use crate::Cursor;
 use crate::Move;
 use crate::Piece;
 use crate::Start;
+use crate::bytes::begins;
 use crate::bytes::part;
 use crate::bytes::peek;
 use crate::bytes::run_end;
@@ -63,6 +64,32 @@ impl Cursor {
         self.next_piece(s, name, name_end)
     }
 
+    // The same for an element whose name is one: an end tag is held against its bytes. A longer name is refused
+    // without being read, since it goes on with a byte that is neither white space nor `>`.
+    pub fn own_piece(self, s: &[u8], name: usize, name_end: usize) -> Piece
+        ensures { λ r. ⌜ (WholeName (part (now (s .entry)) name «name_end») → viewPiece (now (s .entry)) (self .at) r ≡ piece (part (now (s .entry)) name «name_end») (drop (self .at) (now (s .entry)))) × okPiece (now (s .entry)) (self .at) r ⌝ }
+    {
+        let at = self.at;
+        if peek(s, at) == b'<' {
+            if peek(s, at + 1) == b'/' {
+                let n = part(s, name, name_end);
+                let inner = at + 2;
+                if !begins(s, inner, n) {
+                    return Piece::Refused;
+                }
+                let after = Cursor {
+                    at: inner + n.len(),
+                };
+                let last = after.skip_ws(s);
+                let Move::To(done) = last.expect(s, b'>') else {
+                    return Piece::Refused;
+                };
+                return Piece::Close(done);
+            }
+        }
+        self.next_piece(s, name, name_end)
+    }
+
     // An element of at most so many levels.
     pub fn element(self, s: &[u8], levels: usize) -> Move
         ensures { λ r. ⌜ (viewMove (now (s .entry)) r ≡ left (element levels (drop (self .at) (now (s .entry))))) × okMove (now (s .entry)) (self .at) r ⌝ }
@@ -82,7 +109,7 @@ impl Cursor {
                 let mut at = next.at;
                 loop {
                     let here = Cursor { at };
-                    match here.next_piece(s, name, name_end) {
+                    match here.own_piece(s, name, name_end) {
                         Piece::Refused => {
                             return Move::Refused;
                         }

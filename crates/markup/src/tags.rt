@@ -128,6 +128,10 @@ impl Cursor {
             };
         }
         let ending = next.attributes(s);
+        // What is refused anyway costs no look at the names.
+        if let Ending::Refused = ending {
+            return Start::Refused;
+        }
         if !differ(s, after) {
             return Start::Refused;
         }

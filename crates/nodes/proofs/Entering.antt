@@ -1,7 +1,7 @@
--- An element from its start tag: what stands in it; and from its `<` and its name alone: its name and its attributes.
-use Prim.Native.Nat.{ℕ, zero, suc, _-_, _≤_}
+-- An element from its start tag, or from its name and the end of that tag: what stands in it; and from its `<` and its name alone: its name and its attributes.
+use Prim.Native.Nat.{ℕ, zero, suc, _-_}
 use mathlib.Core.Path.{_≡_, refl, sym, ap, _∙_}
-use mathlib.Core.Bool.{true, false}
+use mathlib.Core.Bool.{Bool, true, false, cond}
 use mathlib.Core.List.{List}
 use native.Mathlib.Numerals.{sub-one}
 use native.Mathlib.Omega.{arith}
@@ -9,13 +9,12 @@ use Rattle.markup.specs.Reading.{then}
 use Rattle.markup.specs.Reading.Read.{refused, read}
 use Rattle.markup.specs.Names.{byte, name}
 use Rattle.markup.specs.Tags.{Attributes, attributes, differ, Tag, tagOf, tag}
-use Rattle.markup.specs.Elements.{Inside, Tree, element}
+use Rattle.markup.specs.Elements.{Inside, Tree, content, element}
 use Rattle.markup.specs.Elements.Inside.{end}
-use Rattle.markup.specs.View.{okGot}
-use Rattle.markup.specs.declared.Got.{Got}
-use Rattle.markup.specs.declared.Got.the-variants as got
+use Rattle.markup.specs.View.{endingOf}
 use Rattle.reading.proofs.Cut.{never, then-is, cond-is, read-in}
 use Rattle.reading.proofs.Steps.{contentOf, built}
+use Rattle.reading.proofs.Skipping.{tag-named}
 use Rattle.nodes.specs.Lookup.{missing}
 use Rattle.nodes.specs.Stands.{Stands, lacks, stands, Holds}
 
@@ -23,40 +22,6 @@ pub stands-zero : {d : ℕ} {l : List ℕ} {t : Tree} → d ≡ 0 → Stands d l
 unfolding element
 stands-zero z (lacks a b) = b
 stands-zero {d} {l} z (stands m e) = let f = rw z at e in never cc
-
-open-holds : (d : ℕ) (g : Tag) (y : List ℕ) {i : Inside} {m : List ℕ} → contentOf d g y ≡ read i m → g .shut ≡ false → Holds d (g .named) y i
-open-holds d g y {m = m} e s = record { after = m; is = rw s at e }
-
-shut-holds : (d : ℕ) (g : Tag) (y : List ℕ) {i : Inside} {m : List ℕ} → contentOf d g y ≡ read i m → g .shut ≡ true → i ≡ end
-shut-holds d g y e s = let w = rw s at e in cc
-
--- where there are levels, the tag g stands there
-module _ {d : ℕ} {l : List ℕ} {t : Tree} (h : d ≡ 0 → ⊥) (k : Stands d l t) where
-  inside-is : (g : Tag) (y : List ℕ) → read g y ≡ tag l → (m : List ℕ) × (contentOf (d - 1) g y ≡ read (t .inside) m)
-  inside-is g y e = go d h k
-    where
-      go : (d : ℕ) → (d ≡ 0 → ⊥) → Stands d l t → (m : List ℕ) × (contentOf (d - 1) g y ≡ read (t .inside) m)
-      go zero h k = absurd (h refl)
-      go (suc d) h (lacks a b) = absurd (h a)
-      go (suc d) h (stands m f) =
-          let b = built d l t m f in
-          let p = read-in (sym (b .tags) ∙ sym e) in
-          let i : t .inside ≡ b .inside = ap (λ (t : Tree). t .inside) (b .is) in
-          (m, rw (sub-one (suc d), i) (rw (p .0, p .1) at (b .holds)))
-
-  pub stands-open : {g : Tag} {y : List ℕ} → read g y ≡ tag l → g .shut ≡ false → Holds (d - 1) (g .named) y (t .inside)
-  stands-open {g} {y} e s = open-holds (d - 1) g y (inside-is g y e .1) s
-
-  pub stands-shut : {g : Tag} {y : List ℕ} → read g y ≡ tag l → g .shut ≡ true → t .inside ≡ end
-  stands-shut {g} {y} e s = shut-holds (d - 1) g y (inside-is g y e .1) s
-
-  pub stands-bad : refused ≡ tag l → t .inside ≡ end
-  stands-bad e = go d h k
-    where
-      go : (d : ℕ) → (d ≡ 0 → ⊥) → Stands d l t → t .inside ≡ end
-      go zero h k = absurd (h refl)
-      go (suc d) h (lacks a b) = absurd (h a)
-      go (suc d) h (stands m f) = let b = built d l t m f .tags in never cc
 
 -- `<` and the name, and the attributes after it
 pub record Headed (l : List ℕ) (t : Tree) : Type 0 where
@@ -110,7 +75,44 @@ module _ {l : List ℕ} {t : Tree} (h : Headed l t) where
   pub head-after : {n y : List ℕ} → read n y ≡ then (byte 60 l) (λ _ m. name m) → attributes y ≡ read (h .attrs) (h .rest)
   head-after e = rw (read-in (e ∙ h .is) .1) (h .reads)
 
--- what lies past b lies past what stands before b
-pub okGot-back : (s : List ℕ) (a b : ℕ) (r : Got) → a ≤ b → okGot s b r → okGot s a r
-okGot-back s a b (got.Text x e c) h k = omega arith
-okGot-back s a b got.Refused h k = tt
+-- ---- what stands in an element, from its name and the end of its start tag
+
+content-by : (d : ℕ) (g : Tag) (z : List ℕ) {n k : List ℕ} {b : Bool} {i j : Inside} {m : List ℕ} → contentOf d g z ≡ read j m → b ≡ g .shut → k ≡ z → n ≡ g .named → i ≡ j
+    → cond b (read end k) (content (element d) n k) ≡ read i m
+content-by d g z e o p q r = rw (o, p, q, r) e
+
+module _ (l : List ℕ) {n y : List ℕ} (w : read n y ≡ then (byte 60 l) (λ _ m. name m)) where
+  module _ (d : ℕ) (t : Tree) (m : List ℕ) (e : element d l ≡ read t m) where
+    tag-is : {b : Bool} {k : List ℕ} → read b k ≡ endingOf (attributes y) → cond b (read end k) (content (element (d - 1)) n k) ≡ read (t .inside) m
+    unfolding element
+    tag-is {b} {k} v = go d e
+      where
+        go : (d : ℕ) → element d l ≡ read t m → cond b (read end k) (content (element (d - 1)) n k) ≡ read (t .inside) m
+        go zero e = never cc
+        go (suc d) e =
+            let x = built d l t m e in
+            let p = read-in (v ∙ tag-named l (x .start) (x .rest) (x .tags) w) in
+            let q : n ≡ x .start .named = head-name (headed (suc d) l t m e) w ∙ ap (λ (t : Tree). t .named) (x .is) in
+            rw (sub-one (suc d)) (content-by d (x .start) (x .rest) (x .holds) (p .0) (p .1) q (ap (λ (t : Tree). t .inside) (x .is)))
+
+    pub element-open : {k : List ℕ} → read false k ≡ endingOf (attributes y) → content (element (d - 1)) n k ≡ read (t .inside) m
+    element-open v = tag-is v
+
+    element-shut : {k : List ℕ} → read true k ≡ endingOf (attributes y) → t .inside ≡ end
+    element-shut v = sym (read-in (tag-is v) .0)
+
+    element-bad : {A : Type 0} → refused ≡ endingOf (attributes y) → A
+    element-bad v = let x = headed d l t m e in let f : read n y ≡ read (t .named) (x .after) = w ∙ x .is in let g = rw (read-in f .1, x .reads) at v in never cc
+
+  module _ {d : ℕ} {t : Tree} (h : d ≡ 0 → ⊥) where
+    pub head-open : {k : List ℕ} → Stands d l t → read false k ≡ endingOf (attributes y) → Holds (d - 1) n k (t .inside)
+    head-open (lacks a b) v = absurd (h a)
+    head-open (stands m e) v = record { after = m; is = element-open d t m e v }
+
+    pub head-shut : {k : List ℕ} → Stands d l t → read true k ≡ endingOf (attributes y) → t .inside ≡ end
+    head-shut (lacks a b) v = absurd (h a)
+    head-shut (stands m e) v = element-shut d t m e v
+
+    pub head-bad : Stands d l t → refused ≡ endingOf (attributes y) → t .inside ≡ end
+    head-bad (lacks a b) v = absurd (h a)
+    head-bad (stands m e) v = element-bad d t m e v

@@ -8,7 +8,7 @@ pub mod Records
 pub mod Placed
 pub mod Entering
 pub mod Walking
+pub mod Ends
 pub mod Naming
 pub mod Valuing
-pub mod Skipping
 pub mod Seeking

@@ -10,16 +10,17 @@ use borrow.Author.Tests.{eq-eqb, ne-eqb}
 use Rattle.laws.specs.Lists.{same}
 use Rattle.laws.proofs.Truth.{and-left, and-right}
 use Rattle.markup.specs.Reading.Read.{refused, read}
-use Rattle.markup.specs.Elements.{Inside, Tree, element}
+use Rattle.markup.specs.Elements.{Inside, Tree, content, element}
 use Rattle.markup.specs.View.{left}
-use Rattle.reading.specs.Within.{kids}
+use Rattle.reading.specs.Within.{kids, kidOn}
 use Rattle.reading.proofs.Cut.{never}
 use Rattle.nodes.specs.Lookup.{missing, firstNamed}
 use Rattle.nodes.specs.Stands.{Stands, lacks, stands, Holds, Ahead}
-use Rattle.nodes.specs.Several.{meets, meetsEach, Sixes}
+use Rattle.nodes.specs.Several.{meets, meetsEach, Sixes, Unfinished}
 use Rattle.nodes.specs.declared.Node.{Node}
 use Rattle.nodes.specs.declared.Six.{Six}
 use Rattle.nodes.proofs.Naming.{first-hit, first-on, first-none}
+use Rattle.nodes.proofs.Ends.{rest-after, rest-from}
 
 pub data Seeks (x s : List ℕ) (t : Tree) (n : Node) (ts : List Tree) : Type 0 where
   met : (n .levels ≡ 0 → ⊥) → Stands (n .levels) (drop (n .at) s) t → Seeks x s t n ts
@@ -58,20 +59,20 @@ module _ (s xa xb xc xd xe xf : List ℕ) where
     pub e : Seeks xe s (firstNamed xe us) (r .e) ts
     pub f : Seeks xf s (firstNamed xf us) (r .f) ts
 
-  -- the invariant of the walk
-  pub record Walk (us : List Tree) (r : Six) (d : ℕ) (n l : List ℕ) : Type 0 where
+  -- the invariant of the walk, over an element that has m behind it
+  pub record Walk (us : List Tree) (r : Six) (d : ℕ) (n : List ℕ) (at : ℕ) (m : List ℕ) : Type 0 where
     pub inside : Inside
-    pub holds : Holds d n l inside
+    pub is : content (element d) n (drop at s) ≡ read inside m
     pub seeks : Seeking us r (kids inside)
 
   abbrev pub NoneThere : Six → Type 0
   NoneThere r = (r .a .levels ≡ 0) × (r .b .levels ≡ 0) × (r .c .levels ≡ 0) × (r .d .levels ≡ 0) × (r .e .levels ≡ 0) × (r .f .levels ≡ 0)
 
-  pub walk-start : {d : ℕ} {n l : List ℕ} {i : Inside} {r : Six} → NoneThere r → Holds d n l i → Walk (kids i) r d n l
-  walk-start {i = i} z h =
+  pub walk-start : (d : ℕ) (n : List ℕ) (at : ℕ) {i : Inside} {m : List ℕ} {r : Six} → NoneThere r → content (element d) n (drop at s) ≡ read i m → Walk (kids i) r d n at m
+  walk-start d n at {i} z h =
       record {
         inside = i;
-        holds = h;
+        is = h;
         seeks = record { a = lost (z .0) refl; b = lost (z .1) refl; c = lost (z .2) refl; d = lost (z .3) refl; e = lost (z .4) refl; f = lost (z .5) refl };
       }
 
@@ -86,7 +87,17 @@ module _ (s xa xb xc xd xe xf : List ℕ) where
         f = seek-end xf s {t = firstNamed xf ts} {n = r .f} e (lost (z .5) refl);
       }
 
-  module _ {us : List Tree} {r : Six} {d : ℕ} {n l : List ℕ} (w : Walk us r d n l) where
+  module _ {us : List Tree} {r : Six} {d : ℕ} {n : List ℕ} {at : ℕ} {m : List ℕ} (w : Walk us r d n at m) where
+    pub walk-holds : Holds d n (drop at s) (w .inside)
+    walk-holds = record { after = m; is = w .is }
+
+    -- what is left of the element, from the walk's place on, and from a child's
+    pub walk-rest : Unfinished s at m
+    walk-rest = λ _. (d, n, w .inside, w .is)
+
+    pub walk-kid-rest : (q : ℕ) → Ahead d n (drop q s) (kids (w .inside)) → Unfinished s q m
+    walk-kid-rest q h = λ _. (d, n, kidOn (h .tree) (h .more), rest-from s at q (w .is) h)
+
     pub walk-end : kids (w .inside) ≡ [] → Sixes s us xa xb xc xd xe xf r
     walk-end e =
         record {
@@ -112,11 +123,11 @@ module _ (s xa xb xc xd xe xf : List ℕ) where
         })
 
     -- past it
-    pub walk-on : (q : ℕ) (h : Ahead d n (drop q s) (kids (w .inside))) {o : Six} {k : List ℕ} → Seeking us o (kids (h .more)) → read tt k ≡ left (element d (drop q s)) → Walk us o d n k
-    walk-on q h {k = k} g y =
+    pub walk-on : (q p : ℕ) (h : Ahead d n (drop q s) (kids (w .inside))) {o : Six} → Seeking us o (kids (h .more)) → read tt (drop p s) ≡ left (element d (drop q s)) → Walk us o d n p m
+    walk-on q p h g y =
         let v = rw (h .reads) at y in
-        let e : h .after ≡ k = cc in
-        record { inside = h .more; holds = rw e at (h .holds); seeks = g }
+        let e : h .after ≡ drop p s = cc in
+        record { inside = h .more; is = rw e at (rest-after s at q (w .is) h); seeks = g }
 
     pub walk-stuck : {A : Type 0} (q : ℕ) (h : Ahead d n (drop q s) (kids (w .inside))) → refused ≡ left (element d (drop q s)) → A
     walk-stuck q h y = let v = rw (h .reads) at y in never cc

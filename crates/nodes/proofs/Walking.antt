@@ -16,10 +16,10 @@ use Rattle.reading.proofs.Steps.Pieces.{closed, told, noted, born}
 use Rattle.nodes.specs.Lookup.{said}
 use Rattle.nodes.specs.Stands.{Holds, Ahead}
 
-child-here : (d : ℕ) (n l : List ℕ) (t : Tree) (m : List ℕ) → element d l ≡ read t m → piece n l ≡ read child l
+pub child-here : (d : ℕ) (n l : List ℕ) (t : Tree) (m : List ℕ) → element d l ≡ read t m → piece n l ≡ read child l
 child-here d n l t m e = let o = element-opens d l t m e in subst (λ (y : List ℕ). piece n y ≡ read child y) (sym (o .is)) (child-back n (o .h) (o .x) (o .starts))
 
-back : (d : ℕ) (n : List ℕ) {l : List ℕ} {i : Inside} {m : List ℕ} → Pieces d n l i m → content (element d) n l ≡ read i m
+pub back : (d : ℕ) (n : List ℕ) {l : List ℕ} {i : Inside} {m : List ℕ} → Pieces d n l i m → content (element d) n l ≡ read i m
 back d n (closed {l = l} e) = on-close d n l e
 back d n (told {l = l} e q r) = on-words d n l e (back d n r)
 back d n (noted {l = l} e q r) = on-note d n l e (back d n r)

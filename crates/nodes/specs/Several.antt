@@ -1,11 +1,13 @@
 -- Six children of an element by their names.
-use Prim.Native.Nat.{ℕ}
+use Prim.Native.Nat.{ℕ, _<_}
+use mathlib.Core.Path.{_≡_}
 use mathlib.Core.Bool.{Bool, cond}
 use mathlib.Core.List.{List}
 use lib.Dec.{eqb}
 use lib.ListN.{drop}
 use Rattle.laws.specs.Lists.{same}
-use Rattle.markup.specs.Elements.{Tree}
+use Rattle.markup.specs.Reading.Read.{read}
+use Rattle.markup.specs.Elements.{Inside, Tree, content, element}
 use Rattle.nodes.specs.Lookup.{firstNamed}
 use Rattle.nodes.specs.Stands.{Stands}
 use Rattle.nodes.specs.declared.Node.{Node}
@@ -34,3 +36,7 @@ pub record Sixes (s : List ℕ) (ts : List Tree) (xa xb xc xd xe xf : List ℕ) 
   pub d : Stands (r .d .levels) (drop (r .d .at) s) (firstNamed xd ts)
   pub e : Stands (r .e .levels) (drop (r .e .at) s) (firstNamed xe ts)
   pub f : Stands (r .f .levels) (drop (r .f .at) s) (firstNamed xf ts)
+
+-- from the place rest on stands what is left of an element, and m behind it (0: it was not entered)
+abbrev pub Unfinished : List ℕ → ℕ → List ℕ → Type 0
+Unfinished s rest m = 0 < rest → (d : ℕ) × (n : List ℕ) × (i : Inside) × (content (element d) n (drop rest s) ≡ read i m)

@@ -34,6 +34,15 @@ abbrev pub Entered : List ℕ → Tree → Entry → Type 0
 Entered s t (entry.Open a e from d) = Holds d (part s a e) (drop from s) (t .inside)
 Entered s t entry.Empty = t .inside ≡ end
 
+-- what stands in it ends before m
+abbrev pub EndsBefore : List ℕ → List ℕ → Entry → Type 0
+EndsBefore s m (entry.Open a e from d) = (i : Inside) × (content (element d) (part s a e) (drop from s) ≡ read i m)
+EndsBefore s m entry.Empty = Unit
+
+abbrev pub okEntry : ℕ → Entry → Type 0
+okEntry at (entry.Open a e from d) = at ≤ from
+okEntry at entry.Empty = Unit
+
 -- the first of the children ts stands at l, before the others
 pub record Ahead (d : ℕ) (n l : List ℕ) (ts : List Tree) : Type 0 where
   pub tree : Tree

@@ -4,52 +4,45 @@ ghost use mathlib.Core.List.{List};
 ghost use Prim.Native.Nat.{ℕ};
 ghost use lib.ListN.{drop};
 ghost use Rattle.laws.specs.Lists.{same};
-ghost use Rattle.markup.specs.Reading.{then};
 ghost use Rattle.markup.specs.Reading.Read.{read};
-ghost use Rattle.markup.specs.Names.{byte, name};
 ghost use Rattle.markup.specs.Elements.{Inside, Tree, element};
-ghost use Rattle.markup.specs.View.{part, viewGot, okGot};
+ghost use Rattle.markup.specs.View.{part};
 ghost use Rattle.reading.specs.Within.{kids};
 ghost use Rattle.nodes.specs.Lookup.{firstNamed, childOf, hasChild};
-ghost use Rattle.nodes.specs.Stands.{Stands, Holds, Entered, NextKid, okKid};
+ghost use Rattle.nodes.specs.Stands.{Stands, Holds, Entered, EndsBefore, okEntry, NextKid, okKid};
 use crate::Entry;
 use crate::Kid;
 use crate::Node;
-use crate::skips::skip;
 use markup::Cursor;
+use markup::Ending;
 use markup::Got;
 use markup::Move;
 use markup::Piece;
-use markup::Start;
 use markup::bytes::part;
 use markup::bytes::same;
+use reading::skips::head;
+use reading::skips::skip;
 
-// What stands in an element.
+// What stands in an element: by its name and the end of its start tag, since the attributes were held against each other when the file was read.
 pub fn enter(s: &[u8], n: Node) -> Entry
-    ensures { λ r. ⌜ ((t : Tree) → Stands (n .levels) (drop (n .at) (now (s .entry))) t → Entered (now (s .entry)) t r) ⌝ }
+    ensures { λ r. ⌜ ((t : Tree) → Stands (n .levels) (drop (n .at) (now (s .entry))) t → Entered (now (s .entry)) t r) × ((t : Tree) (m : List ℕ) → element (n .levels) (drop (n .at) (now (s .entry))) ≡ read t m → EndsBefore (now (s .entry)) m r) × okEntry (n .at) r ⌝ }
 {
     let levels = n.levels;
     if levels == 0 {
         return Entry::Empty;
     }
-    let here = Cursor { at: n.at };
-    match here.start(s) {
-        Start::Refused => Entry::Empty,
-        Start::Shut { .. } => Entry::Empty,
-        Start::Open {
-            name,
-            name_end,
-            next,
-            ..
-        } => {
-            let from = next.at;
-            Entry::Open {
-                name,
-                name_end,
-                from,
-                levels: levels - 1,
-            }
-        }
+    let Got::Text { start, end, next } = head(s, n.at) else {
+        return Entry::Empty;
+    };
+    match next.attributes(s) {
+        Ending::Refused => Entry::Empty,
+        Ending::Shut(_) => Entry::Empty,
+        Ending::Open(done) => Entry::Open {
+            name: start,
+            name_end: end,
+            from: done.at,
+            levels: levels - 1,
+        },
     }
 }
 
@@ -78,17 +71,6 @@ pub fn next_kid(s: &[u8], from: usize, name: usize, name_end: usize) -> Kid
             }
         }
     }
-}
-
-// The name at an element's `<`: the rest of its start tag isn't read.
-pub fn head(s: &[u8], at: usize) -> Got
-    ensures { λ r. ⌜ (viewGot (now (s .entry)) r ≡ then (byte 60 (drop at (now (s .entry)))) (λ _ m. name m)) × okGot (now (s .entry)) at r ⌝ }
-{
-    let here = Cursor { at };
-    let Move::To(first) = here.expect(s, b'<') else {
-        return Got::Refused;
-    };
-    first.name(s)
 }
 
 // The element at a place has the name x.

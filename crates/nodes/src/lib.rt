@@ -1,7 +1,6 @@
 // Looking things up in an element that stands in a file: a child by its name, an attribute's value, a leaf's text.
 pub mod children;
 pub mod several;
-pub mod skips;
 pub mod values;
 
 // An element: the place of its `<`, and the levels that it has at most; 0 levels where it is missing.
@@ -47,4 +46,10 @@ pub struct Six {
     pub d: Node,
     pub e: Node,
     pub f: Node,
+}
+
+// Six children, and the place inside their element where the walk ended; 0 where nothing stands in it.
+pub struct Walked {
+    pub found: Six,
+    pub rest: usize,
 }

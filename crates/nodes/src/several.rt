@@ -1,26 +1,30 @@
 // Several children of an element by their names, in one walk that ends when all are found. Who looks for fewer names than six repeats one.
 ghost use mathlib.Core.Path.{_≡_};
 ghost use mathlib.Core.Bool.{not, _&&_};
+ghost use mathlib.Core.List.{List};
+ghost use Prim.Native.Nat.{ℕ, _≤_, _<_};
 ghost use lib.Dec.{eqb};
 ghost use lib.ListN.{drop};
 ghost use Rattle.laws.specs.Lists.{same};
-ghost use Rattle.markup.specs.Elements.{Inside, Tree};
+ghost use Rattle.markup.specs.Reading.Read.{read};
+ghost use Rattle.markup.specs.Elements.{Inside, Tree, content, element};
 ghost use Rattle.markup.specs.View.{part};
 ghost use Rattle.reading.specs.Within.{kids};
-ghost use Rattle.nodes.specs.Stands.{Stands, Holds};
-ghost use Rattle.nodes.specs.Several.{meets, meetsEach, Sixes};
+ghost use Rattle.nodes.specs.Stands.{Stands};
+ghost use Rattle.nodes.specs.Several.{meets, meetsEach, Sixes, Unfinished};
 use crate::Entry;
 use crate::Kid;
 use crate::Node;
 use crate::Six;
+use crate::Walked;
 use crate::children::enter;
-use crate::children::head;
 use crate::children::next_kid;
-use crate::skips::skip;
 use markup::Got;
 use markup::Move;
 use markup::bytes::part;
 use markup::bytes::same;
+use reading::skips::head;
+use reading::skips::skip;
 
 // A node that is missing is the child at a place where that has the name.
 fn met(n: Node, named: bool, at: usize, levels: usize) -> Node
@@ -99,27 +103,55 @@ fn several_from(
     xd: &[u8],
     xe: &[u8],
     xf: &[u8],
-) -> Six
-    ensures { λ r. ⌜ ((i : Inside) → Holds levels (part (now (s .entry)) name «name_end») (drop from (now (s .entry))) i → Sixes (now (s .entry)) (kids i) (now (xa .entry)) (now (xb .entry)) (now (xc .entry)) (now (xd .entry)) (now (xe .entry)) (now (xf .entry)) r) ⌝ }
+) -> Walked
+    ensures { λ r. ⌜ ((i : Inside) (m : List ℕ) → content (element levels) (part (now (s .entry)) name «name_end») (drop from (now (s .entry))) ≡ read i m → Sixes (now (s .entry)) (kids i) (now (xa .entry)) (now (xb .entry)) (now (xc .entry)) (now (xd .entry)) (now (xe .entry)) (now (xf .entry)) (r .found) × Unfinished (now (s .entry)) (r .rest) m) × (from ≤ r .rest) ⌝ }
 {
     let mut at = from;
     let mut r = none_there();
     loop {
         let Kid::At(q) = next_kid(s, at, name, name_end) else {
-            return r;
+            return Walked { found: r, rest: at };
         };
         let Got::Text { start, end, .. } = head(s, q) else {
-            return r;
+            return Walked { found: r, rest: q };
         };
         r = meet(r, part(s, start, end), q, levels, xa, xb, xc, xd, xe, xf);
         if all_there(r) {
-            return r;
+            return Walked { found: r, rest: q };
         }
         let Move::To(done) = skip(s, q) else {
-            return r;
+            return Walked { found: r, rest: q };
         };
         at = done.at;
     }
+}
+
+// The first children of six names, and where the walk ended.
+pub fn walk(
+    s: &[u8],
+    n: Node,
+    xa: &[u8],
+    xb: &[u8],
+    xc: &[u8],
+    xd: &[u8],
+    xe: &[u8],
+    xf: &[u8],
+) -> Walked
+    ensures { λ r. ⌜ ((t : Tree) → Stands (n .levels) (drop (n .at) (now (s .entry))) t → Sixes (now (s .entry)) (kids (t .inside)) (now (xa .entry)) (now (xb .entry)) (now (xc .entry)) (now (xd .entry)) (now (xe .entry)) (now (xf .entry)) (r .found)) × ((t : Tree) (m : List ℕ) → element (n .levels) (drop (n .at) (now (s .entry))) ≡ read t m → Unfinished (now (s .entry)) (r .rest) m) × (0 < r .rest → n .at ≤ r .rest) ⌝ }
+{
+    let Entry::Open {
+        name,
+        name_end,
+        from,
+        levels,
+    } = enter(s, n)
+    else {
+        return Walked {
+            found: none_there(),
+            rest: 0,
+        };
+    };
+    several_from(s, levels, from, name, name_end, xa, xb, xc, xd, xe, xf)
 }
 
 // The first children of six names.
@@ -135,14 +167,5 @@ pub fn several(
 ) -> Six
     ensures { λ r. ⌜ ((t : Tree) → Stands (n .levels) (drop (n .at) (now (s .entry))) t → Sixes (now (s .entry)) (kids (t .inside)) (now (xa .entry)) (now (xb .entry)) (now (xc .entry)) (now (xd .entry)) (now (xe .entry)) (now (xf .entry)) r) ⌝ }
 {
-    let Entry::Open {
-        name,
-        name_end,
-        from,
-        levels,
-    } = enter(s, n)
-    else {
-        return none_there();
-    };
-    several_from(s, levels, from, name, name_end, xa, xb, xc, xd, xe, xf)
+    walk(s, n, xa, xb, xc, xd, xe, xf).found
 }

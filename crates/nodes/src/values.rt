@@ -14,13 +14,13 @@ use crate::Node;
 use crate::Span;
 use crate::Value;
 use crate::children::enter;
-use crate::children::head;
 use markup::Cursor;
 use markup::Got;
 use markup::Piece;
 use markup::TagStep;
 use markup::bytes::part;
 use markup::bytes::same;
+use reading::skips::head;
 
 // The value of the attribute x, from the place after a tag's name.
 fn value_from(s: &[u8], after: usize, x: &[u8]) -> Value

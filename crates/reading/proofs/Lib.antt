@@ -12,3 +12,4 @@ pub mod Places
 pub mod Parts
 pub mod Many
 pub mod Examples
+pub mod Skipping

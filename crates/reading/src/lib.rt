@@ -1,2 +1,2 @@
-// The laws of the markup's tree: specs/ and proofs/ alone, no code.
-fn nothing() {}
+// What is read of a file in the markup: its tree's laws (specs/ and proofs/), and the code that reads an element again.
+pub mod skips;

@@ -10,7 +10,7 @@ use lib.ListN.{length, take, drop, getD}
 use borrow.Author.Tests.{eq-eqb, ne-eqb}
 use Rattle.laws.specs.Decimal.{decimal}
 use Rattle.laws.specs.Lists.{all}
-use Rattle.days.specs.Dates.{isDate, dayOf, undated, dated, dateAt}
+use Rattle.days.specs.Dates.{isDate}
 use Rattle.schema.specs.Texts.{Range, inRanges, digitsIn, unpadded, signedIn, fitsText}
 use Rattle.schema.specs.Table.{cell, rangesAt, textsOf}
 
@@ -62,24 +62,16 @@ take-whole zero (b ∷ t) h = absurd (omega arith)
 take-whole (suc n) [] h = refl
 take-whole (suc n) (b ∷ t) h = ap (λ (l : List ℕ). b ∷ l) (take-whole n t (omega arith))
 
+-- and so it is what stands at its first place
 module _ (t : List ℕ) (h : length t ≡ 10) where
-  dated-is : dateAt (drop 0 t) ≡ cond (isDate t) (dated (dayOf t) (drop 10 t)) undated
-  unfolding dateAt
-  dated-is = rw (take-whole 10 t h)
+  at-start : isDate (take 10 (drop 0 t)) ≡ isDate t
+  at-start = ap isDate (take-whole 10 t h)
 
-  pub date-yes : {n : ℕ} {l : List ℕ} → dated n l ≡ dateAt (drop 0 t) → true ≡ isDate t
-  date-yes {n} {l} e = go (isDate t) (e ∙ dated-is)
-    where
-      go : (b : Bool) → dated n l ≡ cond b (dated (dayOf t) (drop 10 t)) undated → true ≡ b
-      go true e = refl
-      go false e = absurd (let z : _≡_ {A = ℕ} 0 1 = cc in omega arith)
+  pub date-yes : isDate (take 10 (drop 0 t)) ≡ true → true ≡ isDate t
+  date-yes e = sym e ∙ at-start
 
-  pub date-no : undated ≡ dateAt (drop 0 t) → false ≡ isDate t
-  date-no e = go (isDate t) (e ∙ dated-is)
-    where
-      go : (b : Bool) → undated ≡ cond b (dated (dayOf t) (drop 10 t)) undated → false ≡ b
-      go true e = absurd (let z : _≡_ {A = ℕ} 0 1 = cc in omega arith)
-      go false e = refl
+  pub date-no : isDate (take 10 (drop 0 t)) ≡ false → false ≡ isDate t
+  date-no e = sym e ∙ at-start
 
 -- a text of a row, by its kind and what the code reads of the row
 module _ (table pool ranges : List ℕ) (row : ℕ) (text : List ℕ) where

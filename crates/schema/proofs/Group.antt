@@ -96,6 +96,10 @@ module _ {R : Type 0} (d : ℕ) (n m : List ℕ) (fault : ℕ) (told : R) (ns : 
   pub group-refused : refused ≡ piece n l → ⊥
   group-refused p = onward-refused d n m (fault, told) f l o p
 
+  -- what `known_piece` asks: a piece stands there
+  pub group-known : piece n l ≡ refused → ⊥
+  group-known p = group-refused (sym p)
+
   module _ (p : read child l ≡ piece n l) where
     pub group-nowhere : ((t : Tree) (y : List ℕ) → element d l ≡ read t y → nowhere ≡ seek (t .named) ns k) → fault ≡ z
     group-nowhere h =

@@ -1,17 +1,42 @@
 -- The nodes of a table's rows one after the other: where a child stands among them, and whether none that must come is left.
 use Prim.Native.Nat.{ℕ, zero, suc, _+_, _-_, _<_, _≤_}
-use mathlib.Core.Path.{_≡_, refl}
-use mathlib.Core.Bool.{Bool, true, false, cond, _&&_, _||_}
-use mathlib.Core.List.{List}
+use mathlib.Core.Path.{_≡_, refl, ap, _∙_}
+use mathlib.Core.Bool.{Bool, true, false, cond, _&&_, _||_, false≢true}
+use mathlib.Core.List.{List, [], _∷_}
 use native.Mathlib.Omega.{arith}
 use lib.Dec.{eqb, ltb, leb}
-use borrow.Author.Tests.{lt-ltb, le-ltb, le-leb, lt-leb}
+use borrow.Author.Tests.{eqb-true, lt-ltb, le-ltb, le-leb, lt-leb}
 use Rattle.laws.specs.Lists.{same}
+use Rattle.laws.proofs.Truth.{and-left, and-right}
 use Rattle.schema.specs.Texts.{Texts}
-use Rattle.schema.specs.Schema.{Head, leaf, group, another, Nodes, none, _▸_, headOf}
+use Rattle.schema.specs.Schema.{Head, Node, leaf, group, another, Nodes, none, _▸_, headOf}
 use Rattle.schema.specs.Shape.{nowhere, here, mayCome, seek, enough}
 use Rattle.schema.specs.Table.{cell, nameAt, textsOf, headAt, nodesBy, nodeAt}
 use Rattle.schema.proofs.Ranges.{one-left, none-left}
+
+-- the test of two names tells that they are one
+pub same-is : (x y : List ℕ) → same x y ≡ true → x ≡ y
+unfolding same
+same-is [] [] e = refl
+same-is [] (b ∷ y) e = absurd (false≢true e)
+same-is (a ∷ x) [] e = absurd (false≢true e)
+same-is (a ∷ x) (b ∷ y) e =
+    let j : a ≡ b = eqb-true a b (and-left (eqb a b) (same x y) e) in
+    let i : x ≡ y = same-is x y (and-right (eqb a b) (same x y) e) in
+    cc
+
+-- a child has the name of the node that it is found at
+seek-named : (x : List ℕ) (ns : Nodes) (k : ℕ) {nd : Node} {ms : Nodes} {c : ℕ} → here nd ms c ≡ seek x ns k → x ≡ headOf nd .named
+unfolding seek
+seek-named x none k e = absurd (let z : _≡_ {A = ℕ} 0 1 = cc in omega arith)
+seek-named x (n ▸ ns) k {nd} {ms} {c} e = go (mayCome x (headOf n) k) refl (ltb k (headOf n .least)) (seek-named x ns 0) e
+  where
+    go : (b : Bool) → mayCome x (headOf n) k ≡ b → (l : Bool) → (here nd ms c ≡ seek x ns 0 → x ≡ headOf nd .named) → here nd ms c ≡ cond b (here n ns k) (cond l nowhere (seek x ns 0)) → x ≡ headOf nd .named
+    go true f l h e =
+        let q : n ≡ nd = cc in
+        same-is x (headOf n .named) (and-left (same x (headOf n .named)) (eqb (headOf n .most) 0 || ltb k (headOf n .most)) f) ∙ ap (λ (n : Node). headOf n .named) q
+    go false f true h e = absurd (let z : _≡_ {A = ℕ} 0 1 = cc in omega arith)
+    go false f false h e = h e
 
 module _ (table pool ranges : List ℕ) where
   by-head : (p q : Bool) (h : Head) (ns : Nodes) (x : Texts) → headOf (cond p (group h ns) (cond q (another h) (leaf h x))) ≡ h
@@ -25,6 +50,10 @@ module _ (table pool ranges : List ℕ) where
   head-is (suc d) row =
       by-head (eqb (cell table pool ranges row 4) 0) (eqb (cell table pool ranges row 4) 1) (headAt table pool ranges row)
       (nodesBy table pool ranges (nodeAt table pool ranges d) (cell table pool ranges row 7) (cell table pool ranges row 8)) (textsOf table pool ranges row)
+
+  pub spot-named : (d row : ℕ) {x : List ℕ} (ns : Nodes) (k : ℕ) {ms : Nodes} {c : ℕ} → here (nodeAt table pool ranges d row) ms c ≡ seek x ns k → x ≡ nameAt table pool [] row
+  unfolding headAt
+  spot-named d row {x} ns k e = seek-named x ns k e ∙ ap (λ (h : Head). h .named) (head-is d row)
 
   pub may-come : (row k : ℕ) (x : List ℕ) {most : ℕ} {b : Bool} → most ≡ cell table pool ranges row 3 → b ≡ same x (nameAt table pool ranges row)
       → (b && (eqb most 0 || ltb k most)) ≡ mayCome x (headAt table pool ranges row) k

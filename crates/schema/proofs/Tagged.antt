@@ -1,22 +1,24 @@
 -- An element that was read at a place, as the code reads it again: its name, its attributes, what stands in it.
 use Prim.Native.Nat.{ℕ, zero, suc, _+_, _-_, _≤_}
 use Prim.Native.Char.{code}
-use mathlib.Core.Path.{_≡_, sym, ap, _∙_}
+use mathlib.Core.Path.{_≡_, refl, sym, ap, _∙_}
 use mathlib.Core.Bool.{Bool, true, false, cond}
-use mathlib.Core.List.{List, [], _∷_}
+use mathlib.Core.List.{List, [], _∷_, _++_}
 use native.Mathlib.Numerals.{sub-one}
 use native.Mathlib.Omega.{arith}
 use lib.Dec.{eqb}
 use lib.ListN.{length, drop, length-drop}
-use lib.Seq.{drop-drop}
+use lib.Seq.{drop-drop, take-at, drop-at}
 use Rattle.markup.specs.Reading.{Read, then}
 use Rattle.markup.specs.Reading.Read.{refused, read}
 use Rattle.markup.specs.Names.{byte, name}
 use Rattle.markup.specs.Tags.{Pair, Attributes, attributes, differ, Tag, tagOf, tag}
 use Rattle.markup.specs.Elements.{Inside, Tree, content, element}
 use Rattle.markup.specs.Elements.Inside.{end}
+use Rattle.markup.specs.View.{part}
 use Rattle.reading.specs.Within.{mk}
 use Rattle.reading.proofs.Cut.{never, then-is, cond-is, read-in}
+use Rattle.reading.proofs.Leaves.{name-is}
 use Rattle.reading.proofs.Steps.{built}
 use Rattle.reading.proofs.Shrink.{element-shrinks}
 
@@ -105,3 +107,13 @@ module _ (d : ℕ) (s : List ℕ) (at : ℕ) (t : Tree) (m : List ℕ) (e : elem
 
   pub head-refused : refused ≡ name (drop (at + 1) s) → ⊥
   head-refused h = let i = h ∙ tagged .named in never cc
+
+  -- a name that is known is read by its length
+  pub head-known : {n : List ℕ} → t .named ≡ n → read (part s (at + 1) (at + 1 + length n)) (drop (at + 1 + length n) s) ≡ name (drop (at + 1) s)
+  head-known {n} h =
+      let p = name-is (drop (at + 1) s) (t .named) (tagged .after) (tagged .named) .2 in
+      let w : drop (at + 1) s ≡ n ++ tagged .after = p ∙ ap (λ (z : List ℕ). z ++ tagged .after) h in
+      let i : (at + 1 + length n) - (at + 1) ≡ length n = omega arith in
+      let f : part s (at + 1) (at + 1 + length n) ≡ t .named = rw (i, w) (take-at n (tagged .after) (length n) refl ∙ sym h) in
+      let g : drop (at + 1 + length n) s ≡ tagged .after = sym (drop-drop (length n) (at + 1) s) ∙ rw w (drop-at n (tagged .after) (length n) refl) in
+      rw (f, g) (sym (tagged .named))

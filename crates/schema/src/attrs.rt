@@ -5,7 +5,6 @@ ghost use mathlib.Core.List.{List, []};
 ghost use Prim.Native.Nat.{ℕ, _<_};
 ghost use lib.ListN.{drop};
 ghost use Rattle.laws.specs.Lists.{all, any, same};
-ghost use Rattle.days.specs.Table.{Firsts};
 ghost use Rattle.markup.specs.View.{OfPairs};
 ghost use Rattle.schema.specs.Texts.{fitsText};
 ghost use Rattle.schema.specs.Shape.{attrFits, attrsFit};
@@ -88,7 +87,6 @@ fn is_named(table: &[u16], pool: &[u8], row: usize, key: &[u8]) -> bool
 
 // The attribute is another than the row's, or its value is of the row's texts.
 fn value_fits(
-    t: &[u32; 2400],
     table: &[u16],
     pool: &[u8],
     ranges: &[u16],
@@ -96,27 +94,17 @@ fn value_fits(
     key: &[u8],
     value: &[u8],
 ) -> bool
-    requires { ⌜ Firsts (now t) ⌝ }
     ensures { λ r. ⌜ r ≡ not (same (nameAt (now (table .entry)) (now (pool .entry)) [] row) (now (key .entry))) || fitsText (textsOf (now (table .entry)) (now (pool .entry)) (now (ranges .entry)) row) (now (value .entry)) ⌝ }
 {
     if is_named(table, pool, row, key) {
-        fits_text(t, table, ranges, row, value)
+        fits_text(table, ranges, row, value)
     } else {
         true
     }
 }
 
 // The attribute of a row: there if it must be, and of its texts if it is there.
-fn attr_fits(
-    t: &[u32; 2400],
-    table: &[u16],
-    pool: &[u8],
-    ranges: &[u16],
-    row: usize,
-    s: &[u8],
-    after: usize,
-) -> bool
-    requires { ⌜ Firsts (now t) ⌝ }
+fn attr_fits(table: &[u16], pool: &[u8], ranges: &[u16], row: usize, s: &[u8], after: usize) -> bool
     ensures { λ r. ⌜ OfPairs (λ ps. attrFits ps (attrAt (now (table .entry)) (now (pool .entry)) (now (ranges .entry)) row)) (drop after (now (s .entry))) r ⌝ }
 {
     let mut seen = cell(table, row, 2) == 0;
@@ -134,7 +122,7 @@ fn attr_fits(
             return seen;
         };
         let key = part(s, name, name_end);
-        if !value_fits(t, table, pool, ranges, row, key, part(s, value, value_end)) {
+        if !value_fits(table, pool, ranges, row, key, part(s, value, value_end)) {
             return false;
         }
         seen = seen | is_named(table, pool, row, key);
@@ -143,7 +131,6 @@ fn attr_fits(
 }
 
 fn all_attrs(
-    t: &[u32; 2400],
     table: &[u16],
     pool: &[u8],
     ranges: &[u16],
@@ -152,12 +139,12 @@ fn all_attrs(
     s: &[u8],
     after: usize,
 ) -> bool
-    requires { ⌜ Firsts (now t) × (first < 65536) × (n < 65536) ⌝ }
+    requires { ⌜ (first < 65536) × (n < 65536) ⌝ }
     ensures { λ r. ⌜ OfPairs (λ ps. all (attrFits ps) (attrsAt (now (table .entry)) (now (pool .entry)) (now (ranges .entry)) first n)) (drop after (now (s .entry))) r ⌝ }
 {
     let mut k = 0;
     while k < n {
-        if !attr_fits(t, table, pool, ranges, first + k, s, after) {
+        if !attr_fits(table, pool, ranges, first + k, s, after) {
             return false;
         }
         k += 1;
@@ -167,7 +154,6 @@ fn all_attrs(
 
 // The attributes of an element of a row.
 pub fn attrs_fit(
-    t: &[u32; 2400],
     table: &[u16],
     pool: &[u8],
     ranges: &[u16],
@@ -175,12 +161,11 @@ pub fn attrs_fit(
     s: &[u8],
     after: usize,
 ) -> bool
-    requires { ⌜ Firsts (now t) ⌝ }
     ensures { λ r. ⌜ OfPairs (attrsFit [] (attrsAt (now (table .entry)) (now (pool .entry)) (now (ranges .entry)) (cell (now (table .entry)) [] [] row 9) (cell (now (table .entry)) [] [] row 10))) (drop after (now (s .entry))) r ⌝ }
 {
     let first = cell(table, row, 9);
     let n = cell(table, row, 10);
-    if all_attrs(t, table, pool, ranges, first, n, s, after) {
+    if all_attrs(table, pool, ranges, first, n, s, after) {
         all_known(table, pool, first, n, false, s, after)
     } else {
         false

@@ -1,15 +1,14 @@
 // The first fault in an element, by a row of the table, and the number of counted elements in it: element by element, with one level less left in each.
 ghost use mathlib.Core.Path.{_≡_};
-ghost use mathlib.Core.List.{List};
+ghost use mathlib.Core.List.{List, []};
 ghost use Prim.Native.Nat.{ℕ, _<_};
 ghost use lib.ListN.{drop};
-ghost use Rattle.days.specs.Table.{Firsts};
 ghost use Rattle.markup.specs.Reading.Read.{read};
 ghost use Rattle.markup.specs.Elements.{Inside, Tree, content, element};
 ghost use Rattle.markup.specs.View.{part};
 ghost use Rattle.schema.specs.Shape.{faultIn, faultOf};
 ghost use Rattle.schema.specs.Counted.{countIn, countOf};
-ghost use Rattle.schema.specs.Table.{nodesBy, nodeAt};
+ghost use Rattle.schema.specs.Table.{nameAt, nodesBy, nodeAt};
 ghost use Rattle.schema.specs.View.{Tells, okOutcome};
 use crate::Outcome;
 use crate::attrs::attrs_fit;
@@ -21,16 +20,16 @@ use crate::leaves::leaf_inside;
 use crate::leaves::may_be_empty;
 use crate::table::cell;
 use crate::table::marked;
+use crate::table::name_of;
 use markup::Cursor;
 use markup::Ending;
-use markup::Got;
 use markup::Move;
 use markup::Piece;
 use markup::bytes::part;
+use reading::skips::skip;
 
 // What stands in a group that opened with `from` bytes left, by the n rows from the first on; its children have so many levels.
 pub fn inside(
-    t: &[u32; 2400],
     table: &[u16],
     pool: &[u8],
     ranges: &[u16],
@@ -43,7 +42,7 @@ pub fn inside(
     n: usize,
     from: usize,
 ) -> Outcome
-    requires { ⌜ Firsts (now t) × (first < 65536) × (n < 65536) ⌝ }
+    requires { ⌜ (first < 65536) × (n < 65536) ⌝ }
     ensures { λ r. ⌜ ((i : Inside) (m : List ℕ) → content (element levels) (part (now (s .entry)) name «name_end») (drop start (now (s .entry))) ≡ read i m → 0 < from → Tells (now (s .entry)) r (faultIn (nodesBy (now (table .entry)) (now (pool .entry)) (now (ranges .entry)) (nodeAt (now (table .entry)) (now (pool .entry)) (now (ranges .entry)) levels) first n) 0 from i) (countIn (nodesBy (now (table .entry)) (now (pool .entry)) (now (ranges .entry)) (nodeAt (now (table .entry)) (now (pool .entry)) (now (ranges .entry)) levels) first n) 0 i) m) × okOutcome (now (s .entry)) start r ⌝ }
 {
     let mut at = start;
@@ -52,7 +51,7 @@ pub fn inside(
     let mut total = 0;
     loop {
         let here = Cursor { at };
-        match here.next_piece(s, name, name_end) {
+        match here.known_piece(s, name, name_end) {
             Piece::Refused => {
                 return Outcome::Fault(0);
             }
@@ -81,7 +80,7 @@ pub fn inside(
                 Spot::Here {
                     item: now,
                     count: before,
-                } => match fault(t, table, pool, ranges, s, at, levels, first + now) {
+                } => match fault(table, pool, ranges, s, at, levels, first + now) {
                     Outcome::Fault(z) => {
                         return Outcome::Fault(z);
                     }
@@ -97,9 +96,9 @@ pub fn inside(
     }
 }
 
-// The element at a place, of at most so many levels.
+// The element at a place, of at most so many levels, whose name is its row's: whoever found the row has compared the two, so the row tells where the name
+// ends. One that may hold anything is passed by its tags alone.
 pub fn fault(
-    t: &[u32; 2400],
     table: &[u16],
     pool: &[u8],
     ranges: &[u16],
@@ -108,8 +107,7 @@ pub fn fault(
     levels: usize,
     row: usize,
 ) -> Outcome
-    requires { ⌜ Firsts (now t) ⌝ }
-    ensures { λ r. ⌜ ((tree : Tree) (m : List ℕ) → element levels (drop at (now (s .entry))) ≡ read tree m → Tells (now (s .entry)) r (faultOf (nodeAt (now (table .entry)) (now (pool .entry)) (now (ranges .entry)) levels row) tree) (countOf (nodeAt (now (table .entry)) (now (pool .entry)) (now (ranges .entry)) levels row) tree) m) × okOutcome (now (s .entry)) at r ⌝ }
+    ensures { λ r. ⌜ ((tree : Tree) (m : List ℕ) → element levels (drop at (now (s .entry))) ≡ read tree m → tree .named ≡ nameAt (now (table .entry)) (now (pool .entry)) [] row → Tells (now (s .entry)) r (faultOf (nodeAt (now (table .entry)) (now (pool .entry)) (now (ranges .entry)) levels row) tree) (countOf (nodeAt (now (table .entry)) (now (pool .entry)) (now (ranges .entry)) levels row) tree) m) × okOutcome (now (s .entry)) at r ⌝ }
 {
     if levels == 0 {
         return Outcome::Fault(0);
@@ -119,8 +117,7 @@ pub fn fault(
     }
     let kind = cell(table, row, 4);
     if kind == 1 {
-        let here = Cursor { at };
-        let Move::To(done) = here.element(s, levels) else {
+        let Move::To(done) = skip(s, at) else {
             return Outcome::Fault(0);
         };
         return Outcome::Past {
@@ -129,17 +126,16 @@ pub fn fault(
         };
     }
     let from = s.len() - at;
-    let first = Cursor { at: at + 1 };
-    let Got::Text { start, end, next } = first.name(s) else {
-        return Outcome::Fault(0);
-    };
-    if !attrs_fit(t, table, pool, ranges, row, s, next.at) {
+    let start = at + 1;
+    let end = start + name_of(table, pool, row).len();
+    let next = Cursor { at: end };
+    if !attrs_fit(table, pool, ranges, row, s, next.at) {
         return Outcome::Fault(from);
     }
     match next.attributes(s) {
         Ending::Refused => Outcome::Fault(0),
         Ending::Shut(done) => {
-            if may_be_empty(t, table, ranges, row) {
+            if may_be_empty(table, ranges, row) {
                 return Outcome::Past {
                     next: done.at,
                     count: 0,
@@ -150,7 +146,6 @@ pub fn fault(
         Ending::Open(done) => {
             if kind == 0 {
                 return inside(
-                    t,
                     table,
                     pool,
                     ranges,
@@ -164,7 +159,7 @@ pub fn fault(
                     from,
                 );
             }
-            leaf_inside(t, table, ranges, row, s, done.at, start, end, from)
+            leaf_inside(table, ranges, row, s, done.at, start, end, from)
         }
     }
 }

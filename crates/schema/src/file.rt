@@ -6,7 +6,6 @@ ghost use lib.Dec.{ltb};
 ghost use Prim.Native.Nat.{ℕ, _+_, _<_, _≤_};
 ghost use lib.ListN.{length, drop};
 ghost use Rattle.laws.specs.Lists.{same};
-ghost use Rattle.days.specs.Table.{Firsts};
 ghost use Rattle.markup.specs.Reading.Read.{read};
 ghost use Rattle.markup.specs.Elements.{Inside, Tree, content, element};
 ghost use Rattle.markup.specs.Document.{depth};
@@ -80,16 +79,8 @@ fn first_over(table: &[u16], over: usize, number: usize, count: usize) -> usize
 }
 
 // A record is held against its row, as long as none was at fault; another child changes nothing.
-fn take_record(
-    t: &[u32; 2400],
-    table: &[u16],
-    pool: &[u8],
-    ranges: &[u16],
-    s: &[u8],
-    at: usize,
-    seen: Seen,
-) -> Taken
-    requires { ⌜ Firsts (now t) × okSeen at seen ⌝ }
+fn take_record(table: &[u16], pool: &[u8], ranges: &[u16], s: &[u8], at: usize, seen: Seen) -> Taken
+    requires { ⌜ okSeen at seen ⌝ }
     ensures { λ r. ⌜ ((tree : Tree) (m : List ℕ) → element 11 (drop at (now (s .entry))) ≡ read tree m → ((ts : List Tree) → heldAfter (schemaAt (now (table .entry)) (now (pool .entry)) (now (ranges .entry)) 11) (r .seen) ts ≡ heldAfter (schemaAt (now (table .entry)) (now (pool .entry)) (now (ranges .entry)) 11) seen (tree ∷ ts)) × (0 < r .next → drop (r .next) (now (s .entry)) ≡ m)) × okSeen (at + 1) (r .seen) × (0 < r .next → (at < r .next) × (r .next ≤ length (now (s .entry)))) ⌝ }
 {
     let Seen::Good { number, over } = seen else {
@@ -100,7 +91,7 @@ fn take_record(
         return Taken { seen, next: 0 };
     }
     let number = number + 1;
-    match fault(t, table, pool, ranges, s, at, 11, each) {
+    match fault(table, pool, ranges, s, at, 11, each) {
         Outcome::Fault(from) => Taken {
             seen: Seen::Bad { number, from },
             next: 0,
@@ -115,9 +106,8 @@ fn take_record(
     }
 }
 
-// The child at a place, by its row: one that may hold anything isn't read again where the place past it is known.
+// The child at a place, by the row that has its name: one that may hold anything isn't read again where the place past it is known.
 fn past_child(
-    t: &[u32; 2400],
     table: &[u16],
     pool: &[u8],
     ranges: &[u16],
@@ -126,8 +116,8 @@ fn past_child(
     row: usize,
     known: usize,
 ) -> Outcome
-    requires { ⌜ Firsts (now t) × (0 < known → (at < known) × (known ≤ length (now s))) ⌝ }
-    ensures { λ r. ⌜ ((tree : Tree) (m : List ℕ) → element 11 (drop at (now (s .entry))) ≡ read tree m → (0 < known → drop known (now (s .entry)) ≡ m) → Tells (now (s .entry)) r (faultOf (nodeAt (now (table .entry)) (now (pool .entry)) (now (ranges .entry)) 11 row) tree) (countOf (nodeAt (now (table .entry)) (now (pool .entry)) (now (ranges .entry)) 11 row) tree) m) × okOutcome (now (s .entry)) at r ⌝ }
+    requires { ⌜ (0 < known → (at < known) × (known ≤ length (now s))) ⌝ }
+    ensures { λ r. ⌜ ((tree : Tree) (m : List ℕ) → element 11 (drop at (now (s .entry))) ≡ read tree m → tree .named ≡ nameAt (now (table .entry)) (now (pool .entry)) [] row → (0 < known → drop known (now (s .entry)) ≡ m) → Tells (now (s .entry)) r (faultOf (nodeAt (now (table .entry)) (now (pool .entry)) (now (ranges .entry)) 11 row) tree) (countOf (nodeAt (now (table .entry)) (now (pool .entry)) (now (ranges .entry)) 11 row) tree) m) × okOutcome (now (s .entry)) at r ⌝ }
 {
     if 0 < known {
         if cell(table, row, 4) == 1 {
@@ -137,7 +127,7 @@ fn past_child(
             };
         }
     }
-    fault(t, table, pool, ranges, s, at, 11, row)
+    fault(table, pool, ranges, s, at, 11, row)
 }
 
 // What is known after all records.
@@ -157,7 +147,6 @@ fn answer(seen: Seen) -> ShapeAnswer
 
 // What stands in the root, which opened with `from` bytes left: each record is read by the way, and a fault outside the records comes first.
 fn root_inside(
-    t: &[u32; 2400],
     table: &[u16],
     pool: &[u8],
     ranges: &[u16],
@@ -167,7 +156,6 @@ fn root_inside(
     name_end: usize,
     from: usize,
 ) -> ShapeAnswer
-    requires { ⌜ Firsts (now t) ⌝ }
     ensures { λ r. ⌜ ((i : Inside) (m : List ℕ) → content (element 11) (part (now (s .entry)) name «name_end») (drop start (now (s .entry))) ≡ read i m → 0 < from → viewShape r ≡ heldInside (schemaAt (now (table .entry)) (now (pool .entry)) (now (ranges .entry)) 11) from i) × okShape (now (s .entry)) r ⌝ }
 {
     let first = cell(table, 0, 7);
@@ -205,8 +193,8 @@ fn root_inside(
                     item: now,
                     count: before,
                 } => {
-                    let taken = take_record(t, table, pool, ranges, s, at, seen);
-                    match past_child(t, table, pool, ranges, s, at, first + now, taken.next) {
+                    let taken = take_record(table, pool, ranges, s, at, seen);
+                    match past_child(table, pool, ranges, s, at, first + now, taken.next) {
                         Outcome::Fault(_) => {
                             return ShapeAnswer::Faulty { number: 0, from };
                         }
@@ -224,15 +212,7 @@ fn root_inside(
 }
 
 // The file whose root stands at a place: its tag, then what stands in it.
-pub fn shape(
-    t: &[u32; 2400],
-    table: &[u16],
-    pool: &[u8],
-    ranges: &[u16],
-    s: &[u8],
-    root: usize,
-) -> ShapeAnswer
-    requires { ⌜ Firsts (now t) ⌝ }
+pub fn shape(table: &[u16], pool: &[u8], ranges: &[u16], s: &[u8], root: usize) -> ShapeAnswer
     ensures { λ r. ⌜ ((tree : Tree) (m : List ℕ) → element depth (drop root (now (s .entry))) ≡ read tree m → viewShape r ≡ heldOf (schemaAt (now (table .entry)) (now (pool .entry)) (now (ranges .entry)) 11) tree) × okShape (now (s .entry)) r ⌝ }
 {
     if s.len() <= root {
@@ -257,6 +237,6 @@ pub fn shape(
             }
             ShapeAnswer::Faulty { number: 0, from }
         }
-        Ending::Open(done) => { root_inside(t, table, pool, ranges, s, done.at, start, end, from) }
+        Ending::Open(done) => { root_inside(table, pool, ranges, s, done.at, start, end, from) }
     }
 }

@@ -5,7 +5,6 @@ ghost use mathlib.Core.List.{List};
 ghost use Prim.Native.Nat.{ℕ, _<_};
 ghost use lib.ListN.{drop};
 ghost use Rattle.laws.specs.Lists.{all};
-ghost use Rattle.days.specs.Table.{Firsts};
 ghost use Rattle.markup.specs.Bytes.{isWs};
 ghost use Rattle.markup.specs.Reading.Read.{read};
 ghost use Rattle.markup.specs.Elements.{Inside, content, element};
@@ -55,7 +54,6 @@ fn end_of(s: &[u8], start: usize, name: usize, name_end: usize, from: usize) -> 
 
 // A leaf's text of a row, and nothing else.
 pub fn leaf_inside(
-    t: &[u32; 2400],
     table: &[u16],
     ranges: &[u16],
     row: usize,
@@ -65,19 +63,18 @@ pub fn leaf_inside(
     name_end: usize,
     from: usize,
 ) -> Outcome
-    requires { ⌜ Firsts (now t) ⌝ }
     ensures { λ r. ⌜ ((pool : List ℕ) (d : ℕ) (i : Inside) (m : List ℕ) → content (element d) (part (now (s .entry)) name «name_end») (drop start (now (s .entry))) ≡ read i m → 0 < from → Tells (now (s .entry)) r (cond (leafFits (textsOf (now (table .entry)) pool (now (ranges .entry)) row) i) 0 from) 0 m) × okOutcome (now (s .entry)) start r ⌝ }
 {
     let here = Cursor { at: start };
     match here.known_piece(s, name, name_end) {
         Piece::Words { start: text, end } => {
-            if fits_text(t, table, ranges, row, part(s, text, end)) {
+            if fits_text(table, ranges, row, part(s, text, end)) {
                 return end_of(s, end, name, name_end, from);
             }
             Outcome::Fault(from)
         }
         Piece::Close(done) => {
-            if fits_text(t, table, ranges, row, b"") {
+            if fits_text(table, ranges, row, b"") {
                 return Outcome::Past {
                     next: done.at,
                     count: 0,
@@ -92,12 +89,11 @@ pub fn leaf_inside(
 }
 
 // An element of a row may be empty.
-pub fn may_be_empty(t: &[u32; 2400], table: &[u16], ranges: &[u16], row: usize) -> bool
-    requires { ⌜ Firsts (now t) ⌝ }
+pub fn may_be_empty(table: &[u16], ranges: &[u16], row: usize) -> bool
     ensures { λ r. ⌜ ((pool : List ℕ) (d z : ℕ) → cond r 0 z ≡ faultWithin (now (table .entry)) pool (now (ranges .entry)) d row z end) ⌝ }
 {
     if cell(table, row, 4) == 0 {
         return enough(table, cell(table, row, 7), cell(table, row, 8), 0, 0);
     }
-    fits_text(t, table, ranges, row, b"")
+    fits_text(table, ranges, row, b"")
 }

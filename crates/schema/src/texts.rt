@@ -8,14 +8,13 @@ ghost use lib.ListN.{drop};
 ghost use Rattle.laws.specs.Decimal.{isDigit, decimal};
 ghost use Rattle.laws.specs.Lists.{all};
 ghost use Rattle.days.specs.Dates.{isDate};
-ghost use Rattle.days.specs.Table.{Firsts};
 ghost use Rattle.schema.specs.Texts.{inRanges, digitsIn, unpadded, signedIn, fitsText};
 ghost use Rattle.schema.specs.Table.{rangesAt, textsOf};
 ghost use Rattle.schema.specs.View.{Near, SaysNumber};
 use crate::table::cell;
 use crate::table::number_at;
-use days::dates::Date;
-use days::dates::read_date;
+use days::dates::Parts;
+use days::dates::date_parts;
 
 // A number that digits write; one above 65,535 is that large and no more.
 pub enum Number {
@@ -141,27 +140,25 @@ fn is_unpadded(text: &[u8]) -> bool
     text[0] != b'0'
 }
 
-fn is_date(t: &[u32; 2400], text: &[u8]) -> bool
-    requires { ⌜ Firsts (now t) ⌝ }
+fn is_date(text: &[u8]) -> bool
     ensures { λ r. ⌜ r ≡ isDate (now (text .entry)) ⌝ }
 {
     if text.len() != 10 {
         return false;
     }
-    match read_date(t, text, 0) {
-        Date::Day { .. } => true,
-        Date::Refused => false,
+    match date_parts(text, 0) {
+        Parts::Is { .. } => true,
+        Parts::Refused => false,
     }
 }
 
 // A text of a row of the table.
-pub fn fits_text(t: &[u32; 2400], table: &[u16], ranges: &[u16], row: usize, text: &[u8]) -> bool
-    requires { ⌜ Firsts (now t) ⌝ }
+pub fn fits_text(table: &[u16], ranges: &[u16], row: usize, text: &[u8]) -> bool
     ensures { λ r. ⌜ ((pool : List ℕ) → r ≡ fitsText (textsOf (now (table .entry)) pool (now (ranges .entry)) row) (now (text .entry))) ⌝ }
 {
     let kind = cell(table, row, 4);
     if kind == 2 {
-        return is_date(t, text);
+        return is_date(text);
     }
     let first = cell(table, row, 7);
     let n = cell(table, row, 8);

@@ -1,5 +1,4 @@
 // Holds each file that its arguments name against the shape of its track, which the name's first byte says.
-ghost use Rattle.days.specs.Table.{Firsts};
 use libc::STDOUT_FILENO;
 use markup::Document;
 use markup::bytes::peek;
@@ -37,15 +36,13 @@ fn say(s: &[u8], shape: ShapeAnswer) {
     }
 }
 
-fn judge(t: &[u32; 2400], track: u64, s: &[u8])
-    requires { ⌜ Firsts (now t) ⌝ }
-{
+fn judge(track: u64, s: &[u8]) {
     let Document::Root(root) = document(s) else {
         io::write_all(STDOUT_FILENO, b": not in the markup\n");
         return;
     };
     let at = root.at;
-    let shape = shape_of(t, track, s, at);
+    let shape = shape_of(track, s, at);
     say(s, shape);
 }
 
@@ -56,9 +53,7 @@ fn track_of(name: &[u8]) -> u64 {
     2
 }
 
-fn one(t: &[u32; 2400], i: usize)
-    requires { ⌜ Firsts (now t) ⌝ }
-{
+fn one(i: usize) {
     let mut path = io::buffer();
     let n = os::arg(i, &mut path);
     io::write_all(STDOUT_FILENO, &path[..n]);
@@ -70,15 +65,14 @@ fn one(t: &[u32; 2400], i: usize)
     let mut text = io::large_buffer();
     let long = io::read_full(fd, &mut text);
     libc::close(fd);
-    judge(t, track_of(&path[..n]), &text[..long]);
+    judge(track_of(&path[..n]), &text[..long]);
 }
 
 fn main() {
-    let t = days::table::make();
     let n = os::arg_count();
     let mut i = 1;
     while i < n {
-        one(&t, i);
+        one(i);
         i += 1;
     }
 }

@@ -12,6 +12,7 @@ use tracks::record::AdmissionRead;
 use tracks::record::HeadRead;
 use tracks::record::admission;
 use tracks::record::head;
+use tracks::record::top_of;
 ghost use Rattle.days.specs.Table.{Firsts};
 
 fn line() {
@@ -125,8 +126,9 @@ fn run(t: &[u32; 2400], s: &[u8])
         return;
     };
     let one = child(s, Node { at: 0, levels: 12 }, b"Assistenza");
-    show_head(s, head(t, s, one.at));
-    show_admission(s, admission(s, one.at));
+    let first = top_of(s, one.at);
+    show_head(s, head(t, s, first.found));
+    show_admission(s, admission(s, first.found));
     let two = child(
         s,
         Node {
@@ -135,9 +137,10 @@ fn run(t: &[u32; 2400], s: &[u8])
         },
         b"Assistenza",
     );
-    show_head(s, head(t, s, two.at));
+    let second = top_of(s, two.at);
+    show_head(s, head(t, s, second.found));
     let mut out = [0u64; 128];
-    let e = events(t, s, two.at, &mut out);
+    let e = events(t, s, second.found, &mut out);
     show_events(e, out);
 }
 

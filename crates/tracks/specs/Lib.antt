@@ -6,3 +6,4 @@ pub mod WellRead
 pub mod Flags
 pub mod Defaults
 pub mod View
+pub mod Top

@@ -8,13 +8,13 @@ ghost use Rattle.markup.specs.Reading.Read.{read};
 ghost use Rattle.markup.specs.Elements.{Inside, Tree, element};
 ghost use Rattle.markup.specs.View.{part};
 ghost use Rattle.nodes.specs.Stands.{Stands, Holds};
-ghost use Rattle.reading.specs.Many.{belowRoot};
 ghost use Rattle.reading.specs.Within.{kids};
 ghost use Rattle.rows.specs.Row.{eventNumber};
 ghost use Rattle.schema.specs.Shape.{faultOf};
 ghost use Rattle.tracks.specs.Record.{eventsOf};
 ghost use Rattle.tracks.specs.Track2.{track2};
 ghost use Rattle.tracks.specs.Defaults.{rivalutazione, erogazione, sospensione, conclusione, saidWith, saidElseIn, told, happenedAt, counted, kept};
+ghost use Rattle.tracks.specs.Top.{TopOf};
 ghost use Rattle.tracks.specs.View.{IsEvents};
 use crate::fields::attr_day;
 use crate::fields::attr_end;
@@ -27,11 +27,12 @@ use markup::bytes::same;
 use nodes::Entry;
 use nodes::Kid;
 use nodes::Node;
+use nodes::Six;
 use nodes::children::child;
 use nodes::children::enter;
 use nodes::children::is_named;
 use nodes::children::next_kid;
-use nodes::skips::skip;
+use reading::skips::skip;
 use rows::pack::event_number;
 
 pub struct EventsRead {
@@ -186,12 +187,12 @@ fn events_from(
     }
 }
 
-// The events of the record at a place: their 52 bits in order, as many as the buffer has room for, their number, and the two tests.
-pub fn events(t: &[u32; 2400], s: &[u8], at: usize, out: &mut [u64]) -> EventsRead
+// The events of a record: their 52 bits in order, as many as the buffer has room for, their number, and the two tests.
+pub fn events(t: &[u32; 2400], s: &[u8], top: Six, out: &mut [u64]) -> EventsRead
     requires { ⌜ Firsts (now t) ⌝ }
-    ensures { λ r. ⌜ ((a : Tree) (m : List ℕ) → element belowRoot (drop at (now (s .entry))) ≡ read a m → faultOf (track2 .each) a ≡ 0 → IsEvents r (now (out .entry)) (now (out .exit)) (eventsOf a)) ⌝ }
+    ensures { λ r. ⌜ ((at : ℕ) (a : Tree) → TopOf (now (s .entry)) at a top → faultOf (track2 .each) a ≡ 0 → IsEvents r (now (out .entry)) (now (out .exit)) (eventsOf a)) ⌝ }
 {
-    let all = child(s, Node { at, levels: 11 }, b"Eventi");
+    let all = top.d;
     let Entry::Open {
         name,
         name_end,

@@ -1,33 +1,41 @@
-// A record's head, and a record of Track 1.
+// A record's children and its end, its head, and a record of Track 1.
 ghost use mathlib.Core.Path.{_≡_};
 ghost use mathlib.Core.List.{List};
-ghost use Prim.Native.Nat.{ℕ, _%_, _<_};
+ghost use Prim.Native.Nat.{ℕ, _%_, _≤_, _<_};
 ghost use lib.ListN.{drop};
 ghost use Rattle.days.specs.Calendar.{dayCount};
 ghost use Rattle.days.specs.Table.{Firsts};
 ghost use Rattle.markup.specs.Reading.Read.{read};
 ghost use Rattle.markup.specs.Elements.{Tree, element};
 ghost use Rattle.nodes.specs.Stands.{Stands};
+ghost use Rattle.nodes.specs.Several.{Unfinished};
 ghost use Rattle.reading.specs.Many.{belowRoot};
 ghost use Rattle.schema.specs.Shape.{faultOf};
 ghost use Rattle.tracks.specs.Track1.{track1};
 ghost use Rattle.tracks.specs.Record.{_▹_, padded, headOf, admissionOf};
-ghost use Rattle.markup.specs.View.{part};
+ghost use Rattle.markup.specs.View.{part, viewMove, okMove, left};
 ghost use Rattle.nodes.specs.Lookup.{textOf};
 ghost use Rattle.tracks.specs.Defaults.{numberElse, scalesElse};
+ghost use Rattle.tracks.specs.Top.{TopOf};
 ghost use Rattle.tracks.specs.View.{eachOf, IsHead, IsAdmission};
 use crate::fields::attr_byte;
 use crate::fields::attr_day;
 use crate::fields::child_number;
 use crate::fields::child_text;
 use crate::fields::text_number;
+use markup::Move;
 use markup::bytes::part;
 use markup::bytes::peek;
 use nodes::Node;
+use nodes::Six;
 use nodes::Span;
+use nodes::Walked;
 use nodes::children::child;
 use nodes::several::several;
+use nodes::several::walk;
 use nodes::values::text;
+use reading::skips::past;
+use reading::skips::skip;
 
 // The type, and the case's key: ASL's 3 bytes and Id_Rec's 88 by their places.
 pub struct HeadRead {
@@ -49,28 +57,44 @@ pub struct AdmissionRead {
     pub stato: Span,
 }
 
-// The head of the record at a place.
-pub fn head(t: &[u32; 2400], s: &[u8], at: usize) -> HeadRead
-    requires { ⌜ Firsts (now t) ⌝ }
-    ensures { λ r. ⌜ ((track : ℕ) (a : Tree) (m : List ℕ) → element belowRoot (drop at (now (s .entry))) ≡ read a m → faultOf (eachOf track) a ≡ 0 → IsHead (now (s .entry)) r (headOf a)) × (r .region < 10000) × (r .day < dayCount) ⌝ }
+// The children of the record at a place that its fields are read from, in one walk.
+pub fn top_of(s: &[u8], at: usize) -> Walked
+    ensures { λ r. ⌜ ((a : Tree) (m : List ℕ) → element belowRoot (drop at (now (s .entry))) ≡ read a m → TopOf (now (s .entry)) at a (r .found) × Unfinished (now (s .entry)) (r .rest) m) × (0 < r .rest → at ≤ r .rest) ⌝ }
 {
-    let whole = Node { at, levels: 11 };
-    let top = several(
+    walk(
         s,
-        whole,
+        Node { at, levels: 11 },
         b"Trasmissione",
+        b"Assistito",
         b"Erogatore",
         b"Eventi",
         b"Eventi",
         b"Eventi",
-        b"Eventi",
-    );
-    let taken = child(s, top.c, b"PresaInCarico");
-    let asl = child_text(s, top.b, b"CodiceASL");
+    )
+}
+
+// The place past the record at a place, from the place where its walk ended on.
+pub fn record_end(s: &[u8], at: usize, rest: usize) -> Move
+    requires { ⌜ (0 < rest → at ≤ rest) ⌝ }
+    ensures { λ r. ⌜ ((a : Tree) (m : List ℕ) → element belowRoot (drop at (now (s .entry))) ≡ read a m → Unfinished (now (s .entry)) rest m → viewMove (now (s .entry)) r ≡ left (element belowRoot (drop at (now (s .entry))))) × okMove (now (s .entry)) at r ⌝ }
+{
+    if rest == 0 {
+        return skip(s, at);
+    }
+    past(s, rest)
+}
+
+// The head of a record.
+pub fn head(t: &[u32; 2400], s: &[u8], top: Six) -> HeadRead
+    requires { ⌜ Firsts (now t) ⌝ }
+    ensures { λ r. ⌜ ((track at : ℕ) (a : Tree) → TopOf (now (s .entry)) at a top → faultOf (eachOf track) a ≡ 0 → IsHead (now (s .entry)) r (headOf a)) × (r .region < 10000) × (r .day < dayCount) ⌝ }
+{
+    let taken = child(s, top.d, b"PresaInCarico");
+    let asl = child_text(s, top.c, b"CodiceASL");
     let id = child_text(s, taken, b"Id_Rec");
     HeadRead {
         tipo: attr_byte(s, top.a, b"tipo"),
-        region: child_number(s, top.b, b"CodiceRegione"),
+        region: child_number(s, top.c, b"CodiceRegione"),
         asl: asl.start,
         day: attr_day(t, s, taken, b"data"),
         id: id.start,
@@ -127,22 +151,11 @@ fn valued(s: &[u8], value: Node) -> ValueRead
     }
 }
 
-// The case and the residence of the record at a place.
-pub fn admission(s: &[u8], at: usize) -> AdmissionRead
-    ensures { λ r. ⌜ ((a : Tree) (m : List ℕ) → element belowRoot (drop at (now (s .entry))) ≡ read a m → faultOf (track1 .each) a ≡ 0 → IsAdmission (now (s .entry)) r (admissionOf a)) × (r .birth < 10000) ⌝ }
+// The case and the residence of a record.
+pub fn admission(s: &[u8], top: Six) -> AdmissionRead
+    ensures { λ r. ⌜ ((at : ℕ) (a : Tree) → TopOf (now (s .entry)) at a top → faultOf (track1 .each) a ≡ 0 → IsAdmission (now (s .entry)) r (admissionOf a)) × (r .birth < 10000) ⌝ }
 {
-    let whole = Node { at, levels: 11 };
-    let top = several(
-        s,
-        whole,
-        b"Assistito",
-        b"Eventi",
-        b"Eventi",
-        b"Eventi",
-        b"Eventi",
-        b"Eventi",
-    );
-    let person = child(s, top.a, b"DatiAnagrafici");
+    let person = child(s, top.b, b"DatiAnagrafici");
     let p = several(
         s,
         person,
@@ -163,7 +176,7 @@ pub fn admission(s: &[u8], at: usize) -> AdmissionRead
         b"StatoEstero",
         b"StatoEstero",
     );
-    let v = valued(s, child(s, top.b, b"Valutazione"));
+    let v = valued(s, child(s, top.d, b"Valutazione"));
     let main = v.main;
     let prevalente = filled(part(s, main.start, main.end));
     let scales = v.scales;

@@ -4,22 +4,17 @@ use Rattle.exports.proofs.siad_sound.Statement.{statement}
 use Rattle.exports.proofs.siad_sound.Tie as tie
 use Rattle.exports.proofs.siad_sound.Reads as reads
 use Rattle.exports.proofs.siad_sound.Lts as lts
-use Rattle.days.proofs.table.make.Reads as make-reads
-use Rattle.soundness.proofs.sound.sound.Reads as sound-reads
 
-make-requires : tie.Need-make-requires
-make-requires c κs = search needs
-
-sound-requires : tie.Need-sound-requires
-sound-requires c κs = search needs
+is-sound-requires : tie.Need-is-sound-requires
+is-sound-requires c κs = search needs
 
 returns : tie.Need-returns
 unfolding soundness
-returns c = rw (← c .before .sound .ensures, c .if1 .taken)
+returns c = rw (← c .before .is-sound .ensures, c .if1 .taken)
 
 returns-2 : tie.Need-returns-2
 unfolding soundness
-returns-2 c = rw (← c .before .sound .ensures, c .if1 .left)
+returns-2 c = rw (← c .before .is-sound .ensures, c .if1 .left)
 
 pub siad-sound-spec : {M : Type 1} → statement M
-siad-sound-spec = tie.close (tie.spec make-requires sound-requires returns returns-2)
+siad-sound-spec = tie.close (tie.spec is-sound-requires returns returns-2)

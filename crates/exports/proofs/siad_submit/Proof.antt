@@ -6,14 +6,10 @@ use Rattle.exports.proofs.siad_submit.Statement.{statement}
 use Rattle.exports.proofs.siad_submit.Tie as tie
 use Rattle.exports.proofs.siad_submit.Reads as reads
 use Rattle.exports.proofs.siad_submit.Lts as lts
-use Rattle.days.proofs.table.make.Reads as make-reads
 use Rattle.intake.proofs.submit.submit.Reads as submit-reads
 
 four : (a b c d p q r s : ℕ) → a ≡ p → b ≡ q → c ≡ r → d ≡ s → (a ∷ b ∷ c ∷ d ∷ []) ≡ (p ∷ q ∷ r ∷ s ∷ [])
 four a b c d p q r s e f g h = rw (e, f, g, h)
-
-make-requires : tie.Need-make-requires
-make-requires c κs = search needs
 
 submit-requires : tie.Need-submit-requires
 submit-requires c κs = search needs
@@ -31,4 +27,4 @@ returns c =
 
 pub siad-submit-spec : {M : Type 1} → statement M
 siad-submit-spec =
-    tie.close (tie.spec make-requires submit-requires same-length same-length-2 returns)
+    tie.close (tie.spec submit-requires same-length same-length-2 returns)

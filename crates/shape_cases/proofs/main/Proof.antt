@@ -2,16 +2,12 @@ use Prim.Native.Nat.{_-_}
 use borrow.Author.Needs.{needs}
 use Rattle.shape_cases.proofs.main.Statement.{statement}
 use Rattle.shape_cases.proofs.main.Tie as tie
-use Rattle.days.specs.Table.{Firsts}
 
 abbrev Inv-loop : tie.InvT-loop
-Inv-loop t n i₀ i = Firsts t
+Inv-loop n i₀ i = Unit {0}
 
 abbrev μ-loop : tie.MeasureT-loop
-μ-loop t n i₀ i = n - i
-
-make-requires : tie.Need-make-requires Inv-loop μ-loop
-make-requires c κs = search needs
+μ-loop n i₀ i = n - i
 
 arg-count-requires : tie.Need-arg-count-requires Inv-loop μ-loop
 arg-count-requires c κs = search needs
@@ -40,7 +36,6 @@ main-spec =
     (tie.spec
     Inv-loop
     μ-loop
-    make-requires
     arg-count-requires
     loop-holds
     one-requires

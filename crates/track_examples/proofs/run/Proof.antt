@@ -32,6 +32,9 @@ slice-aggregate-child c = search needs
 child-requires : tie.Need-child-requires
 child-requires c κs = search needs
 
+top-of-requires : tie.Need-top-of-requires
+top-of-requires c κs = search needs
+
 head-requires : tie.Need-head-requires
 head-requires c κs = search needs
 
@@ -50,9 +53,12 @@ slice-aggregate-child-2 c = search needs
 child-requires-2 : tie.Need-child-requires-2
 child-requires-2 c κs = search needs
 
+top-of-requires-2 : tie.Need-top-of-requires-2
+top-of-requires-2 c κs = search needs
+
 head-requires-2 : tie.Need-head-requires-2
 head-requires-2 c κs =
-    c .before .before .before .before .before .before .before .before .before .before .before .before .before .before .before .before .before .pre
+    c .before .before .before .before .before .before .before .before .before .before .before .before .before .before .before .before .before .before .before .pre
 
 show-head-requires-2 : tie.Need-show-head-requires-2
 show-head-requires-2 c κs = search needs
@@ -62,7 +68,7 @@ slice-aggregate-events c = search needs
 
 events-requires : tie.Need-events-requires
 events-requires c κs =
-    c .before .before .before .before .before .before .before .before .before .before .before .before .before .before .before .before .before .before .before .before .pre
+    c .before .before .before .before .before .before .before .before .before .before .before .before .before .before .before .before .before .before .before .before .before .before .pre
 
 show-events-requires : tie.Need-show-events-requires
 show-events-requires c κs = search needs
@@ -84,12 +90,14 @@ run-spec =
     returns-2
     slice-aggregate-child
     child-requires
+    top-of-requires
     head-requires
     show-head-requires
     admission-requires
     show-admission-requires
     slice-aggregate-child-2
     child-requires-2
+    top-of-requires-2
     head-requires-2
     show-head-requires-2
     slice-aggregate-events

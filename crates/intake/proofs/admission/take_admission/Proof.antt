@@ -16,13 +16,13 @@ admission-requires : tie.Need-admission-requires
 admission-requires c κs = search needs
 
 add-part : tie.Need-add-part
-add-part c = omega (arith, asl-within (c .before .before .before .before .before .args .s .now) (c .before .before .before .before .before .args .at) (c .before .before .head .result) (c .before .before .head .ensures .0) 1 (c .before .before .before .before .before .pre .1 .0) (c .before .before .before .before .before .pre .1 .1))
+add-part c = omega (arith, asl-within (c .before .before .before .before .before .args .s .now) (c .before .before .before .before .before .args .top) (c .before .before .head .result) (c .before .before .head .ensures .0) 1 (c .before .before .before .before .before .pre .1 .0) (c .before .before .before .before .before .pre .1 .1))
 
 part-requires : tie.Need-part-requires
 part-requires c κs = search needs
 
 add-part-2 : tie.Need-add-part-2
-add-part-2 c = omega (arith, id-within (c .before .before .before .before .before .before .before .args .s .now) (c .before .before .before .before .before .before .before .args .at) (c .before .before .before .before .head .result) (c .before .before .before .before .head .ensures .0) 1 (c .before .before .before .before .before .before .before .pre .1 .0) (c .before .before .before .before .before .before .before .pre .1 .1))
+add-part-2 c = omega (arith, id-within (c .before .before .before .before .before .before .before .args .s .now) (c .before .before .before .before .before .before .before .args .top) (c .before .before .before .before .head .result) (c .before .before .before .before .head .ensures .0) 1 (c .before .before .before .before .before .before .before .pre .1 .0) (c .before .before .before .before .before .before .before .pre .1 .1))
 
 part-requires-2 : tie.Need-part-requires-2
 part-requires-2 c κs = search needs
@@ -32,7 +32,7 @@ probe-of-requires c κs =
     let i = c .before .before .before .before .before .before .before .before .args in
     let p = c .before .before .before .before .before .before .before .before .pre in
     let h = c .before .before .before .before .before .head in
-    key-fits (i .s .now) (i .at) (h .result) (h .ensures .0) 1 (p .1 .0) (p .1 .1) _ _ (c .before .before .part .ensures) (c .part2 .ensures)
+    key-fits (i .s .now) (i .top) (h .result) (h .ensures .0) 1 (p .1 .0) (p .1 .1) _ _ (c .before .before .part .ensures) (c .part2 .ensures)
 
 slice-aggregate-judge-admission : tie.Need-slice-aggregate-judge-admission
 slice-aggregate-judge-admission c = search needs
@@ -42,7 +42,7 @@ slice-aggregate-judge-admission-2 c =
     let i = c .before .before .before .before .before .before .before .before .before .before .before .before .before .before .args in
     let p = c .before .before .before .before .before .before .before .before .before .before .before .before .before .before .pre in
     let m = c .before .before .before .before .before .before .before .before .before .before .admission in
-    sym (five (i .s .now) (i .at) (m .result) (m .ensures .0) (p .1 .0) (p .1 .1))
+    sym (five (i .s .now) (i .top) (m .result) (m .ensures .0) (p .1 .0) (p .1 .1))
 
 part-requires-3 : tie.Need-part-requires-3
 part-requires-3 c κs = search needs
@@ -68,14 +68,14 @@ slice-aggregate-apply-case c =
     let i = c .before .before .before .before .before .before .before .before .before .before .before .before .before .before .before .before .before .before .before .before .before .before .args in
     let p = c .before .before .before .before .before .before .before .before .before .before .before .before .before .before .before .before .before .before .before .before .before .before .pre in
     let m = c .before .before .before .before .before .before .before .before .before .before .before .before .before .before .before .before .before .before .admission in
-    sym (five (i .s .now) (i .at) (m .result) (m .ensures .0) (p .1 .0) (p .1 .1))
+    sym (five (i .s .now) (i .top) (m .result) (m .ensures .0) (p .1 .0) (p .1 .1))
 
 slice-aggregate-apply-case-2 : tie.Need-slice-aggregate-apply-case-2
 slice-aggregate-apply-case-2 c =
     let i = c .before .before .before .before .before .before .before .before .before .before .before .before .before .before .before .before .before .before .before .before .before .before .before .args in
     let p = c .before .before .before .before .before .before .before .before .before .before .before .before .before .before .before .before .before .before .before .before .before .before .before .pre in
     let m = c .before .before .before .before .before .before .before .before .before .before .before .before .before .before .before .before .before .before .before .admission in
-    sym (six (i .s .now) (i .at) (m .result) (m .ensures .0) (p .1 .0) (p .1 .1))
+    sym (six (i .s .now) (i .top) (m .result) (m .ensures .0) (p .1 .0) (p .1 .1))
 
 apply-case-requires : tie.Need-apply-case-requires
 apply-case-requires c κs =
@@ -83,9 +83,9 @@ apply-case-requires c κs =
     let p = c .before .before .before .before .before .before .before .before .before .before .before .before .before .before .before .before .before .before .before .before .before .before .before .pre in
     let h = c .before .before .before .before .before .before .before .before .before .before .before .before .before .before .before .before .before .before .before .before .head in
     let m = c .before .before .before .before .before .before .before .before .before .before .before .before .before .before .before .before .before .before .before .admission in (
-      key-fits (i .s .now) (i .at) (h .result) (h .ensures .0) 1 (p .1 .0) (p .1 .1) _ _ (c .before .before .before .before .before .before .before .before .before .before .before .before .before .before .before .before .before .part .ensures) (c .before .before .before .before .before .before .before .before .before .before .before .before .before .before .before .part2 .ensures),
-      case-held (i .s .now) (i .at) (m .result) (m .ensures .0) (p .1 .0) (p .1 .1)
-          _ _ _ _ (head-held (i .s .now) (i .at) (h .result) (h .ensures .0) 1 (p .1 .0) (p .1 .1) _ _ (c .before .before .before .before .before .before .before .before .before .before .before .before .before .before .before .before .before .part .ensures) (c .before .before .before .before .before .before .before .before .before .before .before .before .before .before .before .part2 .ensures) _ (c .before .before .before .before .before .before .before .before .before .before .before .before .before .before .probe-of .ensures .0))
+      key-fits (i .s .now) (i .top) (h .result) (h .ensures .0) 1 (p .1 .0) (p .1 .1) _ _ (c .before .before .before .before .before .before .before .before .before .before .before .before .before .before .before .before .before .part .ensures) (c .before .before .before .before .before .before .before .before .before .before .before .before .before .before .before .part2 .ensures),
+      case-held (i .s .now) (i .top) (m .result) (m .ensures .0) (p .1 .0) (p .1 .1)
+          _ _ _ _ (head-held (i .s .now) (i .top) (h .result) (h .ensures .0) 1 (p .1 .0) (p .1 .1) _ _ (c .before .before .before .before .before .before .before .before .before .before .before .before .before .before .before .before .before .part .ensures) (c .before .before .before .before .before .before .before .before .before .before .before .before .before .before .before .part2 .ensures) _ (c .before .before .before .before .before .before .before .before .before .before .before .before .before .before .probe-of .ensures .0))
           _ _ _ _ (c .before .before .before .before .before .before .before .before .part3 .ensures) (c .before .before .before .before .before .before .before .part4 .ensures) (c .before .before .before .before .before .before .part5 .ensures) (c .before .before .before .before .before .part6 .ensures)
           (i .reg .now) (fit-of 8 (i .reg .now) (λ j. c .before .before .before .before .before .before .before .before .before .before .before .before .before .before .before .before .before .before .before .before .before .slice-known .given j .fits)) (p .2) (contextIn (i .l)) _ (c .before .before .before .before .judge-admission .ensures) (c .before .before .before .if1 .taken),
     )
@@ -100,8 +100,8 @@ returns c =
     let h = c .before .before .before .before .before .before .before .before .before .before .before .before .before .before .before .before .before .before .before .before .before .before .before .head in
     let m = c .before .before .before .before .before .before .before .before .before .before .before .before .before .before .before .before .before .before .before .before .before .before .admission in
     λ a x.
-    case-accepted (i .s .now) (i .at) (m .result) (m .ensures .0) a x
-    _ _ _ _ (head-held (i .s .now) (i .at) (h .result) (h .ensures .0) 1 a x _ _ (c .before .before .before .before .before .before .before .before .before .before .before .before .before .before .before .before .before .before .before .before .part .ensures) (c .before .before .before .before .before .before .before .before .before .before .before .before .before .before .before .before .before .before .part2 .ensures) _ (c .before .before .before .before .before .before .before .before .before .before .before .before .before .before .before .before .before .probe-of .ensures .0))
+    case-accepted (i .s .now) (i .top) (m .result) (m .ensures .0) a x
+    _ _ _ _ (head-held (i .s .now) (i .top) (h .result) (h .ensures .0) 1 a x _ _ (c .before .before .before .before .before .before .before .before .before .before .before .before .before .before .before .before .before .before .before .before .part .ensures) (c .before .before .before .before .before .before .before .before .before .before .before .before .before .before .before .before .before .before .part2 .ensures) _ (c .before .before .before .before .before .before .before .before .before .before .before .before .before .before .before .before .before .probe-of .ensures .0))
     _ _ _ _ (c .before .before .before .before .before .before .before .before .before .before .before .part3 .ensures) (c .before .before .before .before .before .before .before .before .before .before .part4 .ensures) (c .before .before .before .before .before .before .before .before .before .part5 .ensures) (c .before .before .before .before .before .before .before .before .part6 .ensures)
     (i .reg .now) (fit-of 8 (i .reg .now) (λ j. c .before .before .before .before .before .before .before .before .before .before .before .before .before .before .before .before .before .before .before .before .before .before .before .before .slice-known .given j .fits)) (p .2) (contextIn (i .l)) _ (c .before .before .before .before .before .before .before .judge-admission .ensures)
     (c .before .before .before .before .before .before .if1 .taken) (p .3) _ (c .before .before .apply-case .ensures .0) (c .before .before .apply-case .ensures .1)
@@ -116,8 +116,8 @@ returns-2 c =
     let h = c .before .before .before .before .before .before .before .before .before .before .before .before .before .before .before .before .before .head in
     let m = c .before .before .before .before .before .before .before .before .before .before .before .before .before .before .before .before .admission in
     λ a x.
-    case-discarded (i .s .now) (i .at) (m .result) (m .ensures .0) a x
-    _ _ _ _ (head-held (i .s .now) (i .at) (h .result) (h .ensures .0) 1 a x _ _ (c .before .before .before .before .before .before .before .before .before .before .before .before .before .before .part .ensures) (c .before .before .before .before .before .before .before .before .before .before .before .before .part2 .ensures) _ (c .before .before .before .before .before .before .before .before .before .before .before .probe-of .ensures .0))
+    case-discarded (i .s .now) (i .top) (m .result) (m .ensures .0) a x
+    _ _ _ _ (head-held (i .s .now) (i .top) (h .result) (h .ensures .0) 1 a x _ _ (c .before .before .before .before .before .before .before .before .before .before .before .before .before .before .part .ensures) (c .before .before .before .before .before .before .before .before .before .before .before .before .part2 .ensures) _ (c .before .before .before .before .before .before .before .before .before .before .before .probe-of .ensures .0))
     _ _ _ _ (c .before .before .before .before .before .part3 .ensures) (c .before .before .before .before .part4 .ensures) (c .before .before .before .part5 .ensures) (c .before .before .part6 .ensures)
     (i .reg .now) (fit-of 8 (i .reg .now) (λ j. c .before .before .before .before .before .before .before .before .before .before .before .before .before .before .before .before .before .before .slice-known .given j .fits)) (p .2) (contextIn (i .l)) _ (c .before .judge-admission .ensures)
     (c .if1 .left)

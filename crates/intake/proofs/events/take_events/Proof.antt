@@ -19,13 +19,13 @@ events-requires : tie.Need-events-requires
 events-requires c κs = search needs
 
 add-part : tie.Need-add-part
-add-part c = omega (arith, asl-within (c .before .before .before .before .before .before .before .args .s .now) (c .before .before .before .before .before .before .before .args .at) (c .before .before .before .before .head .result) (c .before .before .before .before .head .ensures .0) 2 (c .before .before .before .before .before .before .before .pre .1 .0) (c .before .before .before .before .before .before .before .pre .1 .1))
+add-part c = omega (arith, asl-within (c .before .before .before .before .before .before .before .args .s .now) (c .before .before .before .before .before .before .before .args .top) (c .before .before .before .before .head .result) (c .before .before .before .before .head .ensures .0) 2 (c .before .before .before .before .before .before .before .pre .1 .0) (c .before .before .before .before .before .before .before .pre .1 .1))
 
 part-requires : tie.Need-part-requires
 part-requires c κs = search needs
 
 add-part-2 : tie.Need-add-part-2
-add-part-2 c = omega (arith, id-within (c .before .before .before .before .before .before .before .before .before .args .s .now) (c .before .before .before .before .before .before .before .before .before .args .at) (c .before .before .before .before .before .before .head .result) (c .before .before .before .before .before .before .head .ensures .0) 2 (c .before .before .before .before .before .before .before .before .before .pre .1 .0) (c .before .before .before .before .before .before .before .before .before .pre .1 .1))
+add-part-2 c = omega (arith, id-within (c .before .before .before .before .before .before .before .before .before .args .s .now) (c .before .before .before .before .before .before .before .before .before .args .top) (c .before .before .before .before .before .before .head .result) (c .before .before .before .before .before .before .head .ensures .0) 2 (c .before .before .before .before .before .before .before .before .before .pre .1 .0) (c .before .before .before .before .before .before .before .before .before .pre .1 .1))
 
 part-requires-2 : tie.Need-part-requires-2
 part-requires-2 c κs = search needs
@@ -35,7 +35,7 @@ probe-of-requires c κs =
     let i = c .before .before .before .before .before .before .before .before .before .before .args in
     let p = c .before .before .before .before .before .before .before .before .before .before .pre in
     let h = c .before .before .before .before .before .before .before .head in
-    key-fits (i .s .now) (i .at) (h .result) (h .ensures .0) 2 (p .1 .0) (p .1 .1) _ _ (c .before .before .part .ensures) (c .part2 .ensures)
+    key-fits (i .s .now) (i .top) (h .result) (h .ensures .0) 2 (p .1 .0) (p .1 .1) _ _ (c .before .before .part .ensures) (c .part2 .ensures)
 
 slice-aggregate-judge-events : tie.Need-slice-aggregate-judge-events
 slice-aggregate-judge-events c = search needs
@@ -45,14 +45,14 @@ array-share-prefix-evs c =
     let i = c .before .before .before .before .before .before .before .before .before .before .before .before .before .args in
     let p = c .before .before .before .before .before .before .before .before .before .before .before .before .before .pre in
     let e = c .before .before .before .before .before .before .before .before .events in
-    inside (i .s .now) (i .at) (e .result) _ _ refl (e .ensures) (p .1 .0) (p .1 .1)
+    inside (i .s .now) (i .top) (e .result) _ _ refl (e .ensures) (p .1 .0) (p .1 .1)
 
 slice-aggregate-judge-events-2 : tie.Need-slice-aggregate-judge-events-2
 slice-aggregate-judge-events-2 c =
     let i = c .before .before .before .before .before .before .before .before .before .before .before .before .before .before .args in
     let p = c .before .before .before .before .before .before .before .before .before .before .before .before .before .before .pre in
     let e = c .before .before .before .before .before .before .before .before .before .events in
-    all-there (i .s .now) (i .at) (e .result) _ _ refl (e .ensures) (p .1 .0) (p .1 .1)
+    all-there (i .s .now) (i .top) (e .result) _ _ refl (e .ensures) (p .1 .0) (p .1 .1)
 
 judge-events-requires : tie.Need-judge-events-requires
 judge-events-requires c κs =
@@ -60,21 +60,21 @@ judge-events-requires c κs =
     let p = c .before .before .before .before .before .before .before .before .before .before .before .before .before .before .pre in
     let e = c .before .before .before .before .before .before .before .before .before .events in
     let w = rows-within (i .reg .now) (p .2) in
-    (w .0, w .1, c .before .before .before .probe-of .ensures .1, no-more (i .s .now) (i .at) (e .result) _ _ refl (e .ensures) (p .1 .0) (p .1 .1))
+    (w .0, w .1, c .before .before .before .probe-of .ensures .1, no-more (i .s .now) (i .top) (e .result) _ _ refl (e .ensures) (p .1 .0) (p .1 .1))
 
 array-share-prefix-evs-2 : tie.Need-array-share-prefix-evs-2
 array-share-prefix-evs-2 c =
     let i = c .before .before .before .before .before .before .before .before .before .before .before .before .before .before .before .before .before .args in
     let p = c .before .before .before .before .before .before .before .before .before .before .before .before .before .before .before .before .before .pre in
     let e = c .before .before .before .before .before .before .before .before .before .before .before .before .events in
-    inside (i .s .now) (i .at) (e .result) _ _ refl (e .ensures) (p .1 .0) (p .1 .1)
+    inside (i .s .now) (i .top) (e .result) _ _ refl (e .ensures) (p .1 .0) (p .1 .1)
 
 slice-aggregate-apply-events : tie.Need-slice-aggregate-apply-events
 slice-aggregate-apply-events c =
     let i = c .before .before .before .before .before .before .before .before .before .before .before .before .before .before .before .before .before .before .args in
     let p = c .before .before .before .before .before .before .before .before .before .before .before .before .before .before .before .before .before .before .pre in
     let e = c .before .before .before .before .before .before .before .before .before .before .before .before .before .events in
-    all-there (i .s .now) (i .at) (e .result) _ _ refl (e .ensures) (p .1 .0) (p .1 .1)
+    all-there (i .s .now) (i .top) (e .result) _ _ refl (e .ensures) (p .1 .0) (p .1 .1)
 
 apply-events-requires : tie.Need-apply-events-requires
 apply-events-requires c κs =
@@ -82,7 +82,7 @@ apply-events-requires c κs =
     let p = c .before .before .before .before .before .before .before .before .before .before .before .before .before .before .before .before .before .before .pre in
     let h = c .before .before .before .before .before .before .before .before .before .before .before .before .before .before .before .head in
     let e = c .before .before .before .before .before .before .before .before .before .before .before .before .before .events in
-    (key-fits (i .s .now) (i .at) (h .result) (h .ensures .0) 2 (p .1 .0) (p .1 .1) _ _ (c .before .before .before .before .before .before .before .before .before .before .part .ensures) (c .before .before .before .before .before .before .before .before .part2 .ensures), small (i .s .now) (i .at) (e .result) _ _ refl (e .ensures) (p .1 .0) (p .1 .1))
+    (key-fits (i .s .now) (i .top) (h .result) (h .ensures .0) 2 (p .1 .0) (p .1 .1) _ _ (c .before .before .before .before .before .before .before .before .before .before .part .ensures) (c .before .before .before .before .before .before .before .before .part2 .ensures), small (i .s .now) (i .top) (e .result) _ _ refl (e .ensures) (p .1 .0) (p .1 .1))
 
 same-length : tie.Need-same-length
 same-length c = search needs
@@ -94,8 +94,8 @@ returns c =
     let h = c .before .before .before .before .before .before .before .before .before .before .before .before .before .before .before .before .before .before .head in
     let e = c .before .before .before .before .before .before .before .before .before .before .before .before .before .before .before .before .events in
     λ a x.
-    events-accepted (i .s .now) (i .at) (e .result) _ _ refl (e .ensures) a x
-    _ _ _ _ (head-held (i .s .now) (i .at) (h .result) (h .ensures .0) 2 a x _ _ (c .before .before .before .before .before .before .before .before .before .before .before .before .before .part .ensures) (c .before .before .before .before .before .before .before .before .before .before .before .part2 .ensures) _ (c .before .before .before .before .before .before .before .before .before .before .probe-of .ensures .0))
+    events-accepted (i .s .now) (i .top) (e .result) _ _ refl (e .ensures) a x
+    _ _ _ _ (head-held (i .s .now) (i .top) (h .result) (h .ensures .0) 2 a x _ _ (c .before .before .before .before .before .before .before .before .before .before .before .before .before .part .ensures) (c .before .before .before .before .before .before .before .before .before .before .before .part2 .ensures) _ (c .before .before .before .before .before .before .before .before .before .before .probe-of .ensures .0))
     (i .reg .now) (fit-of 8 (i .reg .now) (λ j. c .before .before .before .before .before .before .before .before .before .before .before .before .before .before .before .before .before .before .before .slice-known .given j .fits)) (p .2) (contextIn (i .l)) _ (c .before .before .before .before .before .before .judge-events .ensures)
     (c .before .before .before .before .before .if1 .taken) (p .3) _ (c .before .before .apply-events .ensures .0) (c .before .before .apply-events .ensures .1)
 
@@ -109,8 +109,8 @@ returns-2 c =
     let h = c .before .before .before .before .before .before .before .before .before .before .before .before .before .head in
     let e = c .before .before .before .before .before .before .before .before .before .before .before .events in
     λ a x.
-    events-discarded (i .s .now) (i .at) (e .result) _ _ refl (e .ensures) a x
-    _ _ _ _ (head-held (i .s .now) (i .at) (h .result) (h .ensures .0) 2 a x _ _ (c .before .before .before .before .before .before .before .before .part .ensures) (c .before .before .before .before .before .before .part2 .ensures) _ (c .before .before .before .before .before .probe-of .ensures .0))
+    events-discarded (i .s .now) (i .top) (e .result) _ _ refl (e .ensures) a x
+    _ _ _ _ (head-held (i .s .now) (i .top) (h .result) (h .ensures .0) 2 a x _ _ (c .before .before .before .before .before .before .before .before .part .ensures) (c .before .before .before .before .before .before .part2 .ensures) _ (c .before .before .before .before .before .probe-of .ensures .0))
     (i .reg .now) (fit-of 8 (i .reg .now) (λ j. c .before .before .before .before .before .before .before .before .before .before .before .before .before .before .slice-known .given j .fits)) (p .2) (contextIn (i .l)) _ (c .before .judge-events .ensures)
     (c .if1 .left)
 

@@ -1,38 +1,19 @@
-use Rattle.intake.proofs.Filing.{named-are, file-open, file-shut, file-bad}
+use Rattle.intake.proofs.Filing.{named-are, file-open, file-shut, file-bad, file-nameless}
 use Rattle.judge.specs.View.{contextIn}
 use Rattle.rows.proofs.Bytes.{fit-of}
 use denote.Ref.{now}
-use mathlib.Core.Path.{refl}
 use borrow.Author.Needs.{needs}
 use Rattle.intake.proofs.records.take_file.Statement.{statement}
 use Rattle.intake.proofs.records.take_file.Tie as tie
 
-start-requires : tie.Need-start-requires
-start-requires c κs = search needs
+head-requires : tie.Need-head-requires
+head-requires c κs = search needs
+
+enum-known-start : tie.Need-enum-known-start
+enum-known-start c = search needs
 
 enum-told : tie.Need-enum-told
 enum-told c = search needs
-
-enum-told-2 : tie.Need-enum-told-2
-enum-told-2 c = search needs
-
-enum-known-name : tie.Need-enum-known-name
-enum-known-name c = search needs
-
-take-all-requires : tie.Need-take-all-requires
-take-all-requires c κs =
-    let x = rw (c .before .before .before .name .given .1) at (c .before .before .before .before .before .start .ensures) in
-    (c .before .before .before .before .before .before .before .before .before .pre .0, (c .before .before .before .before .before .before .before .before .before .pre .1 .0 .inside, file-open (c .before .before .before .before .before .before .before .before .before .args .track) (c .before .before .before .before .before .before .before .before .before .pre .1 .1) (x .0) refl), c .before .before .before .before .before .before .before .before .before .pre .2, c .before .before .before .before .before .before .before .before .before .pre .3)
-
-returns : tie.Need-returns
-returns c =
-    let x = rw (c .enum-told .given .1) at (c .before .before .start .ensures) in
-    λ t w. file-bad (c .before .before .before .before .before .before .args .track) w (contextIn (c .before .before .before .before .before .before .args .l)) (fit-of 8 (now (c .before .before .before .before .before .before .args .reg)) (λ i. c .before .before .before .before .slice-known .given i .fits)) (c .before .before .before .before .before .before .pre .2) (x .0)
-
-returns-2 : tie.Need-returns-2
-returns-2 c =
-    let x = rw (c .enum-told2 .given .1) at (c .before .before .start .ensures) in
-    λ t w. file-shut (c .before .before .before .before .before .before .args .track) w (contextIn (c .before .before .before .before .before .before .args .l)) (fit-of 8 (now (c .before .before .before .before .before .before .args .reg)) (λ i. c .before .before .before .before .slice-known .given i .fits)) (c .before .before .before .before .before .before .pre .2) (x .0) refl
 
 same-length : tie.Need-same-length
 same-length c = search needs
@@ -40,22 +21,62 @@ same-length c = search needs
 same-length-2 : tie.Need-same-length-2
 same-length-2 c = search needs
 
+returns : tie.Need-returns
+returns c =
+    let x = rw (c .enum-told .given .1) at (c .before .before .head .ensures) in
+    λ t w. file-nameless (c .before .before .before .before .before .before .args .track) w (contextIn (c .before .before .before .before .before .before .args .l)) (fit-of 8 (now (c .before .before .before .before .before .before .args .reg)) (λ i. c .before .before .before .before .slice-known .given i .fits)) (c .before .before .before .before .before .before .pre .1) (x .0)
+
+attributes-requires : tie.Need-attributes-requires
+attributes-requires c κs = search needs
+
+enum-told-2 : tie.Need-enum-told-2
+enum-told-2 c = search needs
+
+enum-told-3 : tie.Need-enum-told-3
+enum-told-3 c = search needs
+
+enum-known-done : tie.Need-enum-known-done
+enum-known-done c = search needs
+
+take-all-requires : tie.Need-take-all-requires
+take-all-requires c κs =
+    let x = rw (c .before .before .before .before .before .before .before .start .given .1) at (c .before .before .before .before .before .before .before .before .before .head .ensures) in
+    let y = rw (c .before .before .before .done .given .1) at (c .before .before .before .before .before .attributes .ensures) in
+    ((c .before .before .before .before .before .before .before .before .before .before .before .before .before .pre .0 .0 .inside, file-open (c .before .before .before .before .before .before .before .before .before .before .before .before .before .args .track) (c .before .before .before .before .before .before .before .before .before .before .before .before .before .pre .0 .1) (x .0) (y .0)), c .before .before .before .before .before .before .before .before .before .before .before .before .before .pre .1, c .before .before .before .before .before .before .before .before .before .before .before .before .before .pre .2)
+
+returns-2 : tie.Need-returns-2
+returns-2 c =
+    let x = rw (c .before .before .before .before .start .given .1) at (c .before .before .before .before .before .before .head .ensures) in
+    let y = rw (c .enum-told2 .given .1) at (c .before .before .attributes .ensures) in
+    λ t w. file-bad (c .before .before .before .before .before .before .before .before .before .before .args .track) w (contextIn (c .before .before .before .before .before .before .before .before .before .before .args .l)) (fit-of 8 (now (c .before .before .before .before .before .before .before .before .before .before .args .reg)) (λ i. c .before .before .before .before .before .before .before .before .slice-known .given i .fits)) (c .before .before .before .before .before .before .before .before .before .before .pre .1) (x .0) (y .0)
+
 returns-3 : tie.Need-returns-3
 returns-3 c =
-    let x = rw (c .before .before .before .before .before .before .before .before .name .given .1) at (c .before .before .before .before .before .before .before .before .before .before .start .ensures) in
-    λ t w. rw (named-are (c .before .before .before .before .before .before .before .before .before .before .before .before .before .before .args .track) t) (c .before .before .before .before .take-all .ensures (t .inside) (file-open (c .before .before .before .before .before .before .before .before .before .before .before .before .before .before .args .track) w (x .0) refl .holds))
+    let x = rw (c .before .before .before .before .start .given .1) at (c .before .before .before .before .before .before .head .ensures) in
+    let y = rw (c .enum-told3 .given .1) at (c .before .before .attributes .ensures) in
+    λ t w. file-shut (c .before .before .before .before .before .before .before .before .before .before .args .track) w (contextIn (c .before .before .before .before .before .before .before .before .before .before .args .l)) (fit-of 8 (now (c .before .before .before .before .before .before .before .before .before .before .args .reg)) (λ i. c .before .before .before .before .before .before .before .before .slice-known .given i .fits)) (c .before .before .before .before .before .before .before .before .before .before .pre .1) (x .0) (y .0)
+
+returns-4 : tie.Need-returns-4
+returns-4 c =
+    let x = rw (c .before .before .before .before .before .before .before .before .before .before .before .before .start .given .1) at (c .before .before .before .before .before .before .before .before .before .before .before .before .before .before .head .ensures) in
+    let y = rw (c .before .before .before .before .before .before .before .before .done .given .1) at (c .before .before .before .before .before .before .before .before .before .before .attributes .ensures) in
+    λ t w. rw (named-are (c .before .before .before .before .before .before .before .before .before .before .before .before .before .before .before .before .before .before .args .track) t) (c .before .before .before .before .take-all .ensures (t .inside) (file-open (c .before .before .before .before .before .before .before .before .before .before .before .before .before .before .before .before .before .before .args .track) w (x .0) (y .0) .holds))
 
 pub take-file-spec : {M : Type 1} → statement M
 take-file-spec =
     tie.close
     (tie.spec
-    start-requires
+    head-requires
+    enum-known-start
     enum-told
-    enum-told-2
-    enum-known-name
-    take-all-requires
     returns
+    attributes-requires
+    enum-told-2
+    enum-told-3
+    enum-known-done
+    take-all-requires
     returns-2
+    returns-3
     same-length
     same-length-2
-    returns-3)
+    returns-4)

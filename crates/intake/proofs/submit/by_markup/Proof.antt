@@ -48,7 +48,7 @@ taken-requires c κs =
     let o = rooted (now (c .before .before .before .before .before .before .before .before .before .before .before .before .before .before .args .sub)) (c .before .before .before .before .before .before .before .before .c .given .0 .0 .at) (d .0) (d .1 .1) in
     let k = rw (c .before .before .before .before .records .given .1) at (c .before .before .before .before .before .before .shape-of .ensures) in
     let h = k .0 (o .tree) (o .after) (o .reads) in
-    (c .before .before .before .before .before .before .before .before .before .before .before .before .before .before .pre .0, (o .tree, whole-file (now (c .before .before .before .before .before .before .before .before .before .before .before .before .before .before .args .sub)) (c .before .before .before .before .before .before .before .before .before .before .before .before .before .before .args .track) 0 0 (now (c .before .before .before .before .before .before .before .before .before .before .before .before .before .before .args .reg)) (now (c .before .before .before .before .before .before .before .before .before .before .before .before .before .before .args .answers)) o (c .before .before .before .before .before .before .before .before .before .before .before .before .before .before .pre .1) h (c .before .before .if1 .left)), c .before .before .before .before .before .before .before .before .before .before .before .before .before .before .pre .2, c .before .before .before .before .before .before .before .before .before .before .before .before .before .before .pre .3)
+    ((o .tree, whole-file (now (c .before .before .before .before .before .before .before .before .before .before .before .before .before .before .args .sub)) (c .before .before .before .before .before .before .before .before .before .before .before .before .before .before .args .track) 0 0 (now (c .before .before .before .before .before .before .before .before .before .before .before .before .before .before .args .reg)) (now (c .before .before .before .before .before .before .before .before .before .before .before .before .before .before .args .answers)) o (c .before .before .before .before .before .before .before .before .before .before .before .before .before .before .pre .0) h (c .before .before .if1 .left)), c .before .before .before .before .before .before .before .before .before .before .before .before .before .before .pre .1, c .before .before .before .before .before .before .before .before .before .before .before .before .before .before .pre .2)
 
 returns-2 : tie.Need-returns-2
 returns-2 c =
@@ -72,7 +72,7 @@ returns-4 c =
     let o = rooted (now (c .before .before .before .before .before .before .before .before .before .before .before .before .before .args .sub)) (c .before .before .before .before .before .before .before .c .given .0 .0 .at) (d .0) (d .1 .1) in
     let k = rw (c .before .before .before .records .given .1) at (c .before .before .before .before .before .shape-of .ensures) in
     let h = k .0 (o .tree) (o .after) (o .reads) in
-    λ year quarter _. says-8 (now (c .before .before .before .before .before .before .before .before .before .before .before .before .before .args .sub)) (c .before .before .before .before .before .before .before .before .before .before .before .before .before .args .track) year quarter (now (c .before .before .before .before .before .before .before .before .before .before .before .before .before .args .reg)) (now (c .before .before .before .before .before .before .before .before .before .before .before .before .before .args .answers)) o (c .before .before .before .before .before .before .before .before .before .before .before .before .before .pre .1) h (c .before .if1 .taken) (c .refused4 .ensures)
+    λ year quarter _. says-8 (now (c .before .before .before .before .before .before .before .before .before .before .before .before .before .args .sub)) (c .before .before .before .before .before .before .before .before .before .before .before .before .before .args .track) year quarter (now (c .before .before .before .before .before .before .before .before .before .before .before .before .before .args .reg)) (now (c .before .before .before .before .before .before .before .before .before .before .before .before .before .args .answers)) o (c .before .before .before .before .before .before .before .before .before .before .before .before .before .pre .0) h (c .before .if1 .taken) (c .refused4 .ensures)
 
 same-length : tie.Need-same-length
 same-length c = search needs
@@ -86,7 +86,7 @@ returns-5 c =
     let o = rooted (now (c .before .before .before .before .before .before .before .before .before .before .before .before .before .before .before .before .before .before .before .args .sub)) (c .before .before .before .before .before .before .before .before .before .before .before .before .before .c .given .0 .0 .at) (d .0) (d .1 .1) in
     let k = rw (c .before .before .before .before .before .before .before .before .before .records .given .1) at (c .before .before .before .before .before .before .before .before .before .before .before .shape-of .ensures) in
     let h = k .0 (o .tree) (o .after) (o .reads) in
-    λ year quarter e. says-0 (now (c .before .before .before .before .before .before .before .before .before .before .before .before .before .before .before .before .before .before .before .args .sub)) (c .before .before .before .before .before .before .before .before .before .before .before .before .before .before .before .before .before .before .before .args .track) year quarter (now (c .before .before .before .before .before .before .before .before .before .before .before .before .before .before .before .before .before .before .before .args .reg)) (now (c .before .before .before .before .before .before .before .before .before .before .before .before .before .before .before .before .before .before .before .args .answers)) o (c .before .before .before .before .before .before .before .before .before .before .before .before .before .before .before .before .before .before .before .pre .1) h (c .before .before .before .before .before .before .before .if1 .left) (c .before .before .before .before .taken .ensures (o .tree) year quarter (whole-file (now (c .before .before .before .before .before .before .before .before .before .before .before .before .before .before .before .before .before .before .before .args .sub)) (c .before .before .before .before .before .before .before .before .before .before .before .before .before .before .before .before .before .before .before .args .track) year quarter (now (c .before .before .before .before .before .before .before .before .before .before .before .before .before .before .before .before .before .before .before .args .reg)) (now (c .before .before .before .before .before .before .before .before .before .before .before .before .before .before .before .before .before .before .before .args .answers)) o (c .before .before .before .before .before .before .before .before .before .before .before .before .before .before .before .before .before .before .before .pre .1) h (c .before .before .before .before .before .before .before .if1 .left)) e)
+    λ year quarter e. says-0 (now (c .before .before .before .before .before .before .before .before .before .before .before .before .before .before .before .before .before .before .before .args .sub)) (c .before .before .before .before .before .before .before .before .before .before .before .before .before .before .before .before .before .before .before .args .track) year quarter (now (c .before .before .before .before .before .before .before .before .before .before .before .before .before .before .before .before .before .before .before .args .reg)) (now (c .before .before .before .before .before .before .before .before .before .before .before .before .before .before .before .before .before .before .before .args .answers)) o (c .before .before .before .before .before .before .before .before .before .before .before .before .before .before .before .before .before .before .before .pre .0) h (c .before .before .before .before .before .before .before .if1 .left) (c .before .before .before .before .taken .ensures (o .tree) year quarter (whole-file (now (c .before .before .before .before .before .before .before .before .before .before .before .before .before .before .before .before .before .before .before .args .sub)) (c .before .before .before .before .before .before .before .before .before .before .before .before .before .before .before .before .before .before .before .args .track) year quarter (now (c .before .before .before .before .before .before .before .before .before .before .before .before .before .before .before .before .before .before .before .args .reg)) (now (c .before .before .before .before .before .before .before .before .before .before .before .before .before .before .before .before .before .before .before .args .answers)) o (c .before .before .before .before .before .before .before .before .before .before .before .before .before .before .before .before .before .before .before .pre .0) h (c .before .before .before .before .before .before .before .if1 .left)) e)
 
 pub by-markup-spec : {M : Type 1} → statement M
 by-markup-spec =

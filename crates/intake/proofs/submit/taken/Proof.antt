@@ -7,9 +7,9 @@ use Rattle.intake.proofs.submit.taken.Tie as tie
 take-file-requires : tie.Need-take-file-requires
 take-file-requires c κs = search needs
 
-sub-t16 : tie.Need-sub-t16
-sub-t16 c =
-    omega (arith, no-more (c .before .before .before .before .before .before .before .before .before .before .args .track) (c .before .before .before .before .before .before .before .before .before .before .pre .1 .1) (c .before .before .before .before .take-file .ensures (c .before .before .before .before .before .before .before .before .before .before .pre .1 .0) (c .before .before .before .before .before .before .before .before .before .before .pre .1 .1)))
+sub-t15 : tie.Need-sub-t15
+sub-t15 c =
+    omega (arith, no-more (c .before .before .before .before .before .before .before .before .before .before .args .track) (c .before .before .before .before .before .before .before .before .before .before .pre .0 .1) (c .before .before .before .before .take-file .ensures (c .before .before .before .before .before .before .before .before .before .before .pre .0 .0) (c .before .before .before .before .before .before .before .before .before .before .pre .0 .1)))
 
 same-length : tie.Need-same-length
 same-length c = search needs
@@ -22,4 +22,4 @@ returns c =
     λ t year quarter w e. taken-says (c .before .before .before .before .before .before .before .before .before .before .args .track) w (c .before .before .before .before .take-file .ensures t w) year quarter e
 
 pub taken-spec : {M : Type 1} → statement M
-taken-spec = tie.close (tie.spec take-file-requires sub-t16 same-length same-length-2 returns)
+taken-spec = tie.close (tie.spec take-file-requires sub-t15 same-length same-length-2 returns)

@@ -6,7 +6,7 @@ use lib.ListN.{length, drop, getD, drop-of-length-le}
 use Rattle.laws.specs.Lists.{any}
 use Rattle.laws.proofs.Places.{front}
 use Rattle.judge.specs.Against.{clash, fresh}
-use Rattle.judge.specs.Standing.{standingIn, Climbs}
+use Rattle.judge.specs.Standing.{standingIn, Settled}
 use Rattle.judge.proofs.Scan.{hit, miss, past}
 use Rattle.judge.proofs.Rows.{next-row, no-row}
 use Rattle.judge.proofs.Clashing.{unreplaced, freshFrom, fresh-end, fresh-later, rival-stands, no-rival}
@@ -31,13 +31,13 @@ abbrev μ-loop2 : tie.MeasureT-loop2
 
 abbrev Inv-search : tie.InvT-search
 Inv-search number evs reg lo hi found₀ i₀ found i =
-    (found ≡ false) × (Climbs reg lo hi → fresh (clash number) evs (standingIn reg lo hi) ≡ freshFrom (clash number) evs (standingIn reg lo hi) i)
+    (found ≡ false) × (Settled reg lo hi → fresh (clash number) evs (standingIn reg lo hi) ≡ freshFrom (clash number) evs (standingIn reg lo hi) i)
 
 abbrev μ-search : tie.MeasureT-search
 μ-search number evs reg lo hi found₀ i₀ found i = length evs - i
 
 search-holds : tie.Need-search-holds Inv-loop μ-loop Inv-loop2 μ-loop2 Inv-search μ-search
-search-holds c = (refl, λ up. refl)
+search-holds c = (refl, λ settled. refl)
 
 mul-a : tie.Need-mul-a Inv-loop μ-loop Inv-loop2 μ-loop2 Inv-search μ-search
 mul-a c = search needs
@@ -105,23 +105,23 @@ search-less c = search needs
 search-again : tie.Need-search-again Inv-loop μ-loop Inv-loop2 μ-loop2 Inv-search μ-search
 search-again c = (
   c .before .loop2 .inv .0,
-  λ up. no-rival (c .before .before .before .before .before .before .before .before .before .before .args .number) (c .before .before .before .before .before .before .before .before .before .before .args .evs .now) (c .before .before .before .before .before .before .before .before .before .before .args .reg .now) (c .before .before .before .before .before .before .before .before .before .before .args .lo) (c .before .before .before .before .before .before .before .before .before .before .args .hi) (c .before .before .before .before .before .before .before .search .i) up (c .before .before .before .before .before .before .search-test .taken) _ (c .before .before .before .before .before .before .before .search .inv .1 up) _ _ (c .before .before .rivals .ensures)
+  λ settled. no-rival (c .before .before .before .before .before .before .before .before .before .before .args .number) (c .before .before .before .before .before .before .before .before .before .before .args .evs .now) (c .before .before .before .before .before .before .before .before .before .before .args .reg .now) (c .before .before .before .before .before .before .before .before .before .before .args .lo) (c .before .before .before .before .before .before .before .before .before .before .args .hi) (c .before .before .before .before .before .before .before .search .i) settled (c .before .before .before .before .before .before .search-test .taken) _ (c .before .before .before .before .before .before .before .search .inv .1 settled) _ _ (c .before .before .rivals .ensures)
       (past _ _ (drop (c .before .before .before .before .loop .j) (c .before .before .before .before .before .before .before .before .before .before .args .evs .now)) (c .before .before .before .before .loop .inv .1) (drop-of-length-le (c .before .before .before .before .before .before .before .before .before .before .args .evs .now) (c .before .before .before .loop-test .left)))
       (past _ _ (standingIn (c .before .before .before .before .before .before .before .before .before .before .args .reg .now) (c .before .loop2 .k) (c .before .before .rivals .result .hi)) (c .before .loop2 .inv .1) (no-row (c .before .before .before .before .before .before .before .before .before .before .args .reg .now) (c .before .loop2 .k) (c .before .before .rivals .result .hi) (c .loop2-test .left))),
 )
 
 returns : tie.Need-returns Inv-loop μ-loop Inv-loop2 μ-loop2 Inv-search μ-search
 returns c =
-    λ up. c .before .search .inv .0 ∙ fresh-end (clash (c .before .before .before .before .args .number)) (c .before .before .before .before .args .evs .now) (standingIn (c .before .before .before .before .args .reg .now) (c .before .before .before .before .args .lo) (c .before .before .before .before .args .hi)) (c .before .search .i) _ (c .before .search .inv .1 up) (c .search-test .left)
+    λ settled. c .before .search .inv .0 ∙ fresh-end (clash (c .before .before .before .before .args .number)) (c .before .before .before .before .args .evs .now) (standingIn (c .before .before .before .before .args .reg .now) (c .before .before .before .before .args .lo) (c .before .before .before .before .args .hi)) (c .before .search .i) _ (c .before .search .inv .1 settled) (c .search-test .left)
 
 returns-2 : tie.Need-returns-2 Inv-loop μ-loop Inv-loop2 μ-loop2 Inv-search μ-search
 returns-2 c =
-    λ up. fresh-later (clash (c .before .before .before .before .before .before .before .before .before .before .args .number)) (c .before .before .before .before .before .before .before .before .before .before .args .evs .now) (standingIn (c .before .before .before .before .before .before .before .before .before .before .args .reg .now) (c .before .before .before .before .before .before .before .before .before .before .args .lo) (c .before .before .before .before .before .before .before .before .before .before .args .hi)) (c .before .before .before .before .before .before .before .search .i) _ (c .before .before .before .before .before .before .before .search .inv .1 up) (c .before .before .before .before .before .before .search-test .taken)
+    λ settled. fresh-later (clash (c .before .before .before .before .before .before .before .before .before .before .args .number)) (c .before .before .before .before .before .before .before .before .before .before .args .evs .now) (standingIn (c .before .before .before .before .before .before .before .before .before .before .args .reg .now) (c .before .before .before .before .before .before .before .before .before .before .args .lo) (c .before .before .before .before .before .before .before .before .before .before .args .hi)) (c .before .before .before .before .before .before .before .search .i) _ (c .before .before .before .before .before .before .before .search .inv .1 settled) (c .before .before .before .before .before .before .search-test .taken)
     (hit _ _ (drop (c .before .before .before .before .loop .j) (c .before .before .before .before .before .before .before .before .before .before .args .evs .now)) (c .before .before .before .before .loop .inv .1) _ _ (front (c .before .before .before .before .before .before .before .before .before .before .args .evs .now) (c .before .before .before .before .loop .j) (c .before .before .before .loop-test .taken)) _ (c .before .clash .ensures) (c .if1 .taken))
 
 returns-3 : tie.Need-returns-3 Inv-loop μ-loop Inv-loop2 μ-loop2 Inv-search μ-search
 returns-3 c =
-    λ up. rival-stands (c .before .before .before .before .before .before .before .before .before .before .before .before .before .args .number) (c .before .before .before .before .before .before .before .before .before .before .before .before .before .args .evs .now) (c .before .before .before .before .before .before .before .before .before .before .before .before .before .args .reg .now) (c .before .before .before .before .before .before .before .before .before .before .before .before .before .args .lo) (c .before .before .before .before .before .before .before .before .before .before .before .before .before .args .hi) (c .before .before .before .before .before .before .before .before .before .before .search .i) up (c .before .before .before .before .before .before .before .before .before .search-test .taken) _ (c .before .before .before .before .before .before .before .before .before .before .search .inv .1 up) _ _ (c .before .before .before .before .before .rivals .ensures)
+    λ settled. rival-stands (c .before .before .before .before .before .before .before .before .before .before .before .before .before .args .number) (c .before .before .before .before .before .before .before .before .before .before .before .before .before .args .evs .now) (c .before .before .before .before .before .before .before .before .before .before .before .before .before .args .reg .now) (c .before .before .before .before .before .before .before .before .before .before .before .before .before .args .lo) (c .before .before .before .before .before .before .before .before .before .before .before .before .before .args .hi) (c .before .before .before .before .before .before .before .before .before .before .search .i) settled (c .before .before .before .before .before .before .before .before .before .search-test .taken) _ (c .before .before .before .before .before .before .before .before .before .before .search .inv .1 settled) _ _ (c .before .before .before .before .before .rivals .ensures)
     (hit _ _ (standingIn (c .before .before .before .before .before .before .before .before .before .before .before .before .before .args .reg .now) (c .before .before .before .before .loop2 .k) (c .before .before .before .before .before .rivals .result .hi)) (c .before .before .before .before .loop2 .inv .1) _ _ (next-row (c .before .before .before .before .before .before .before .before .before .before .before .before .before .args .reg .now) (c .before .before .before .before .loop2 .k) (c .before .before .before .before .before .rivals .result .hi) (c .before .before .before .loop2-test .taken)) _ (c .before .clash-standing .ensures ∙ ap (unreplaced (clash (c .before .before .before .before .before .before .before .before .before .before .before .before .before .args .number)) (c .before .before .before .before .before .before .before .before .before .before .before .before .before .args .evs .now) (getD (c .before .before .before .before .before .before .before .before .before .before .before .before .before .args .evs .now) (c .before .before .before .before .before .before .before .before .before .before .search .i) 0)) (c .before .before .event-at .ensures .0)) (c .if2 .taken))
 
 pub clashes-spec : {M : Type 1} → statement M

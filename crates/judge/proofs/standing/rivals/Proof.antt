@@ -1,5 +1,5 @@
 use Rattle.judge.specs.Against.{clash}
-use Rattle.judge.proofs.Rivals.{all-rows, none-clash, suspensions-clash, conclusions-clash}
+use Rattle.judge.proofs.Rivals.{all-rows, none-clash, sharing-clash, conclusions-clash}
 use borrow.Author.Needs.{needs}
 use Rattle.judge.proofs.standing.rivals.Statement.{statement}
 use Rattle.judge.proofs.standing.rivals.Tie as tie
@@ -10,20 +10,20 @@ kind-of-requires c κs = search needs
 returns : tie.Need-returns
 returns c = none-clash (c .before .before .before .args .reg .now) (c .before .before .before .args .lo) (c .before .before .before .args .hi) (c .before .before .before .pre .0) (c .before .before .before .args .number) (c .before .before .before .args .a) _ (c .before .kind-of .ensures) (c .if1 .taken)
 
-of-kind-requires : tie.Need-of-kind-requires
-of-kind-requires c κs = search needs
+sharing-requires : tie.Need-sharing-requires
+sharing-requires c κs = search needs
 
 returns-2 : tie.Need-returns-2
-returns-2 c = suspensions-clash (c .before .before .before .before .before .args .reg .now) (c .before .before .before .before .before .args .lo) (c .before .before .before .before .before .args .hi) (c .before .before .before .before .before .pre .0) (c .before .before .before .before .before .args .number) (c .before .before .before .before .before .args .a) _ (c .before .before .before .kind-of .ensures) _ _ (c .before .if2 .taken) (c .of-kind .ensures)
+returns-2 c = sharing-clash (c .before .before .before .before .before .args .reg .now) (c .before .before .before .before .before .args .lo) (c .before .before .before .before .before .args .hi) (c .before .before .before .before .before .pre .0) (c .before .before .before .before .before .args .number) (c .before .before .before .before .before .args .a) _ (c .before .before .before .kind-of .ensures) _ _ (c .before .if2 .taken) (c .sharing .ensures)
 
 returns-3 : tie.Need-returns-3
 returns-3 c = all-rows (c .before .before .before .before .before .args .reg .now) (c .before .before .before .before .before .args .lo) (c .before .before .before .before .before .args .hi) (c .before .before .before .before .before .pre .0) (clash (c .before .before .before .before .before .args .number) (c .before .before .before .before .before .args .a))
 
-of-kind-requires-2 : tie.Need-of-kind-requires-2
-of-kind-requires-2 c κs = search needs
+of-kind-requires : tie.Need-of-kind-requires
+of-kind-requires c κs = search needs
 
 returns-4 : tie.Need-returns-4
-returns-4 c = conclusions-clash (c .before .before .before .before .before .before .args .reg .now) (c .before .before .before .before .before .before .args .lo) (c .before .before .before .before .before .before .args .hi) (c .before .before .before .before .before .before .pre .0) (c .before .before .before .before .before .before .args .number) (c .before .before .before .before .before .before .args .a) _ (c .before .before .before .before .kind-of .ensures) _ _ (c .before .before .if2 .left) (c .before .if3 .left) (c .of-kind2 .ensures)
+returns-4 c = conclusions-clash (c .before .before .before .before .before .before .args .reg .now) (c .before .before .before .before .before .before .args .lo) (c .before .before .before .before .before .before .args .hi) (c .before .before .before .before .before .before .pre .0) (c .before .before .before .before .before .before .args .number) (c .before .before .before .before .before .before .args .a) _ (c .before .before .before .before .kind-of .ensures) _ _ (c .before .before .if2 .left) (c .before .if3 .left) (c .of-kind .ensures)
 
 pub rivals-spec : {M : Type 1} → statement M
 rivals-spec =
@@ -31,8 +31,8 @@ rivals-spec =
     (tie.spec
     kind-of-requires
     returns
-    of-kind-requires
+    sharing-requires
     returns-2
     returns-3
-    of-kind-requires-2
+    of-kind-requires
     returns-4)

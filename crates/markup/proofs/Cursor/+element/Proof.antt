@@ -12,10 +12,11 @@ use Rattle.markup.specs.Reading.Read.{refused}
 use Rattle.markup.specs.Elements.{contentStep, content, element as elementOf}
 use Rattle.markup.specs.View.{part, left}
 use Rattle.markup.proofs.AtElements.{content-text, content-note, content-child, content-close, content-bad, content-no-child, element-none, element-bad, element-shut, element-open}
+use Rattle.markup.proofs.AtOwn.{tag-named}
 use Rattle.markup.proofs.Cursor.element.Reads as element
 use Rattle.markup.proofs.Cursor.element.Kinds as element-kinds
 use Rattle.markup.proofs.Cursor.+element.Lts-element as element-lts
-use Rattle.markup.proofs.Cursor.next_piece.Reads as next-piece-reads
+use Rattle.markup.proofs.Cursor.own_piece.Reads as own-piece-reads
 use Rattle.markup.proofs.Cursor.start.Reads as start-reads
 use Rattle.markup.proofs.Cursor.+element.{statement}
 use Rattle.markup.proofs.Cursor.+element.Tie.{close}
@@ -30,7 +31,7 @@ abbrev element-below : ℕ → In 1 element-kinds.ps
 element-below t = and 1 element-kinds.ps (falls 1 element-kinds.ps _<_ μ-element t) element.Pre
 
 abbrev claims : ℕ → element-lts.Claims
-claims t = (start-reads.Asked, start-reads.Learnt, next-piece-reads.Asked, next-piece-reads.Learnt, element-below t, element.Post)
+claims t = (start-reads.Asked, start-reads.Learnt, own-piece-reads.Asked, own-piece-reads.Learnt, element-below t, element.Post)
 
 abbrev element-Inv-loop : element-lts.InvT-loop
 element-Inv-loop s levels name name-end at₀ at =
@@ -59,8 +60,8 @@ element-loop-holds : (t : ℕ) → element-lts.Need-loop-holds (claims t) (eleme
 unfolding content
 element-loop-holds t c = (omega arith, reach-start _ _ _ _)
 
-element-next-piece-requires : (t : ℕ) → element-lts.Need-next-piece-requires (claims t) (element-at t) element.Post element-Inv-loop element-μ-loop
-element-next-piece-requires t c κs = search needs
+element-own-piece-requires : (t : ℕ) → element-lts.Need-own-piece-requires (claims t) (element-at t) element.Post element-Inv-loop element-μ-loop
+element-own-piece-requires t c κs = search needs
 
 element-enum-told-2 : (t : ℕ) → element-lts.Need-enum-told-2 (claims t) (element-at t) element.Post element-Inv-loop element-μ-loop
 element-enum-told-2 t c = search needs
@@ -71,8 +72,9 @@ element-returns-2 t c =
     let n = part s (c .before .before .before .before .before .name .given .0 .0) (c .before .before .before .before .before .name .given .0 .1 .0) in
     let r = c .before .before .before .loop .inv .1 in
     let x = rw (c .before .before .before .before .before .name .given .1) at (c .before .before .before .before .before .before .before .start .ensures) in
-    let p = rw (c .enum-told2 .given .1) at (c .before .before .next-piece .ensures) in
-    (content-bad (elementOf (c .before .before .before .before .before .before .before .before .before .before .args .levels - 1)) n r (p .0) ∙ element-open (c .before .before .before .before .before .before .before .before .before .before .args .levels) (drop (c .before .before .before .before .before .before .before .before .before .before .args .self .at) s) (c .before .before .before .before .before .before .before .before .if1 .left) (x .0) refl, tt)
+    let i = tag-named (drop (c .before .before .before .before .before .before .before .before .before .before .args .self .at) s) (x .0) in
+    let p = rw (c .enum-told2 .given .1) at (c .before .before .own-piece .ensures) in
+    (content-bad (elementOf (c .before .before .before .before .before .before .before .before .before .before .args .levels - 1)) n r (p .0 i) ∙ element-open (c .before .before .before .before .before .before .before .before .before .before .args .levels) (drop (c .before .before .before .before .before .before .before .before .before .before .args .self .at) s) (c .before .before .before .before .before .before .before .before .if1 .left) (x .0) refl, tt)
 
 element-enum-known-done : (t : ℕ) → element-lts.Need-enum-known-done (claims t) (element-at t) element.Post element-Inv-loop element-μ-loop
 element-enum-known-done t c = search needs
@@ -83,15 +85,16 @@ element-returns-3 t c =
     let n = part s (c .before .before .before .before .before .before .name .given .0 .0) (c .before .before .before .before .before .before .name .given .0 .1 .0) in
     let r = c .before .before .before .before .loop .inv .1 in
     let x = rw (c .before .before .before .before .before .before .name .given .1) at (c .before .before .before .before .before .before .before .before .start .ensures) in
-    let p = rw (c .before .done .given .1) at (c .before .before .before .next-piece .ensures) in
-    (content-close (elementOf (c .before .before .before .before .before .before .before .before .before .before .before .args .levels - 1)) n r (p .0) ∙ element-open (c .before .before .before .before .before .before .before .before .before .before .before .args .levels) (drop (c .before .before .before .before .before .before .before .before .before .before .before .args .self .at) s) (c .before .before .before .before .before .before .before .before .before .if1 .left) (x .0) refl, omega arith)
+    let i = tag-named (drop (c .before .before .before .before .before .before .before .before .before .before .before .args .self .at) s) (x .0) in
+    let p = rw (c .before .done .given .1) at (c .before .before .before .own-piece .ensures) in
+    (content-close (elementOf (c .before .before .before .before .before .before .before .before .before .before .before .args .levels - 1)) n r (p .0 i) ∙ element-open (c .before .before .before .before .before .before .before .before .before .before .before .args .levels) (drop (c .before .before .before .before .before .before .before .before .before .before .before .args .self .at) s) (c .before .before .before .before .before .before .before .before .before .if1 .left) (x .0) refl, omega arith)
 
 element-enum-known-end : (t : ℕ) → element-lts.Need-enum-known-end (claims t) (element-at t) element.Post element-Inv-loop element-μ-loop
 element-enum-known-end t c = search needs
 
 element-loop-less : (t : ℕ) → element-lts.Need-loop-less (claims t) (element-at t) element.Post element-Inv-loop element-μ-loop
 element-loop-less t c =
-    let p = rw (c .before .end .given .1) at (c .before .before .before .next-piece .ensures) in
+    let p = rw (c .before .end .given .1) at (c .before .before .before .own-piece .ensures) in
     omega arith
 
 element-loop-again : (t : ℕ) → element-lts.Need-loop-again (claims t) (element-at t) element.Post element-Inv-loop element-μ-loop
@@ -99,15 +102,17 @@ element-loop-again t c =
     let s = now (c .before .before .before .before .before .before .before .before .before .before .before .args .s) in
     let n = part s (c .before .before .before .before .before .before .name .given .0 .0) (c .before .before .before .before .before .before .name .given .0 .1 .0) in
     let r = c .before .before .before .before .loop .inv .1 in
-    let p = rw (c .before .end .given .1) at (c .before .before .before .next-piece .ensures) in
-    (omega arith, content-text (elementOf (c .before .before .before .before .before .before .before .before .before .before .before .args .levels - 1)) n r (p .0) (simp length-drop (omega arith)))
+    let x = rw (c .before .before .before .before .before .before .name .given .1) at (c .before .before .before .before .before .before .before .before .start .ensures) in
+    let i = tag-named (drop (c .before .before .before .before .before .before .before .before .before .before .before .args .self .at) s) (x .0) in
+    let p = rw (c .before .end .given .1) at (c .before .before .before .own-piece .ensures) in
+    (omega arith, content-text (elementOf (c .before .before .before .before .before .before .before .before .before .before .before .args .levels - 1)) n r (p .0 i) (simp length-drop (omega arith)))
 
 element-enum-known-done-2 : (t : ℕ) → element-lts.Need-enum-known-done-2 (claims t) (element-at t) element.Post element-Inv-loop element-μ-loop
 element-enum-known-done-2 t c = search needs
 
 element-loop-less-2 : (t : ℕ) → element-lts.Need-loop-less-2 (claims t) (element-at t) element.Post element-Inv-loop element-μ-loop
 element-loop-less-2 t c =
-    let p = rw (c .before .done2 .given .1) at (c .before .before .before .next-piece .ensures) in
+    let p = rw (c .before .done2 .given .1) at (c .before .before .before .own-piece .ensures) in
     omega arith
 
 element-loop-again-2 : (t : ℕ) → element-lts.Need-loop-again-2 (claims t) (element-at t) element.Post element-Inv-loop element-μ-loop
@@ -115,8 +120,10 @@ element-loop-again-2 t c =
     let s = now (c .before .before .before .before .before .before .before .before .before .before .before .args .s) in
     let n = part s (c .before .before .before .before .before .before .name .given .0 .0) (c .before .before .before .before .before .before .name .given .0 .1 .0) in
     let r = c .before .before .before .before .loop .inv .1 in
-    let p = rw (c .before .done2 .given .1) at (c .before .before .before .next-piece .ensures) in
-    (omega arith, content-note (elementOf (c .before .before .before .before .before .before .before .before .before .before .before .args .levels - 1)) n r (p .0) (simp length-drop (omega arith)))
+    let x = rw (c .before .before .before .before .before .before .name .given .1) at (c .before .before .before .before .before .before .before .before .start .ensures) in
+    let i = tag-named (drop (c .before .before .before .before .before .before .before .before .before .before .before .args .self .at) s) (x .0) in
+    let p = rw (c .before .done2 .given .1) at (c .before .before .before .own-piece .ensures) in
+    (omega arith, content-note (elementOf (c .before .before .before .before .before .before .before .before .before .before .before .args .levels - 1)) n r (p .0 i) (simp length-drop (omega arith)))
 
 element-enum-told-3 : (t : ℕ) → element-lts.Need-enum-told-3 (claims t) (element-at t) element.Post element-Inv-loop element-μ-loop
 element-enum-told-3 t c = search needs
@@ -136,9 +143,10 @@ element-returns-4 t c =
     let n = part s (c .before .before .before .before .before .before .before .before .name .given .0 .0) (c .before .before .before .before .before .before .before .before .name .given .0 .1 .0) in
     let r = c .before .before .before .before .before .before .loop .inv .1 in
     let x = rw (c .before .before .before .before .before .before .before .before .name .given .1) at (c .before .before .before .before .before .before .before .before .before .before .start .ensures) in
-    let p = rw (c .before .before .before .enum-told3 .given .1) at (c .before .before .before .before .before .next-piece .ensures) in
+    let i = tag-named (drop (c .before .before .before .before .before .before .before .before .before .before .before .before .before .args .self .at) s) (x .0) in
+    let p = rw (c .before .before .before .enum-told3 .given .1) at (c .before .before .before .before .before .own-piece .ensures) in
     let k = rw (c .enum-told4 .given .1) at (c .before .before .element .ensures) in
-    (content-no-child (elementOf (c .before .before .before .before .before .before .before .before .before .before .before .before .before .args .levels - 1)) n r (drop (c .before .before .before .before .before .before .loop .at) s) (p .0) (k .0) ∙ element-open (c .before .before .before .before .before .before .before .before .before .before .before .before .before .args .levels) (drop (c .before .before .before .before .before .before .before .before .before .before .before .before .before .args .self .at) s) (c .before .before .before .before .before .before .before .before .before .before .before .if1 .left) (x .0) refl, tt)
+    (content-no-child (elementOf (c .before .before .before .before .before .before .before .before .before .before .before .before .before .args .levels - 1)) n r (drop (c .before .before .before .before .before .before .loop .at) s) (p .0 i) (k .0) ∙ element-open (c .before .before .before .before .before .before .before .before .before .before .before .before .before .args .levels) (drop (c .before .before .before .before .before .before .before .before .before .before .before .before .before .args .self .at) s) (c .before .before .before .before .before .before .before .before .before .before .before .if1 .left) (x .0) refl, tt)
 
 element-enum-known-done-3 : (t : ℕ) → element-lts.Need-enum-known-done-3 (claims t) (element-at t) element.Post element-Inv-loop element-μ-loop
 element-enum-known-done-3 t c = search needs
@@ -153,9 +161,11 @@ element-loop-again-3 t c =
     let s = now (c .before .before .before .before .before .before .before .before .before .before .before .before .before .before .args .s) in
     let n = part s (c .before .before .before .before .before .before .before .before .before .name .given .0 .0) (c .before .before .before .before .before .before .before .before .before .name .given .0 .1 .0) in
     let r = c .before .before .before .before .before .before .before .loop .inv .1 in
-    let p = rw (c .before .before .before .before .enum-told3 .given .1) at (c .before .before .before .before .before .before .next-piece .ensures) in
+    let x = rw (c .before .before .before .before .before .before .before .before .before .name .given .1) at (c .before .before .before .before .before .before .before .before .before .before .before .start .ensures) in
+    let i = tag-named (drop (c .before .before .before .before .before .before .before .before .before .before .before .before .before .before .args .self .at) s) (x .0) in
+    let p = rw (c .before .before .before .before .enum-told3 .given .1) at (c .before .before .before .before .before .before .own-piece .ensures) in
     let k = rw (c .before .done3 .given .1) at (c .before .before .before .element .ensures) in
-    (omega arith, content-child (elementOf (c .before .before .before .before .before .before .before .before .before .before .before .before .before .before .args .levels - 1)) n r (drop (c .before .before .before .before .before .before .before .loop .at) s) (p .0) (k .0) (simp length-drop (omega arith)))
+    (omega arith, content-child (elementOf (c .before .before .before .before .before .before .before .before .before .before .before .before .before .before .args .levels - 1)) n r (drop (c .before .before .before .before .before .before .before .loop .at) s) (p .0 i) (k .0) (simp length-drop (omega arith)))
 
 element-returns-5 : (t : ℕ) → element-lts.Need-returns-5 (claims t) (element-at t) element.Post element-Inv-loop element-μ-loop
 element-returns-5 t c =
@@ -179,7 +189,7 @@ pub +element-spec : {M : Type 1} → statement M
     (element-enum-known-next t)
     (element-enum-known-name t)
     (element-loop-holds t)
-    (element-next-piece-requires t)
+    (element-own-piece-requires t)
     (element-enum-told-2 t)
     (element-returns-2 t)
     (element-enum-known-done t)

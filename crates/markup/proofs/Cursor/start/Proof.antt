@@ -6,7 +6,7 @@ use borrow.Author.Needs.{needs}
 use Rattle.markup.specs.Tags.{attributes, differ, tag}
 use Rattle.markup.specs.View.{part, viewEnding}
 use Rattle.markup.specs.declared.Ending.the-variants as end
-use Rattle.markup.proofs.AtTags.{attributes-none, tag-end}
+use Rattle.markup.proofs.AtTags.{attributes-none, tag-end, tag-bad}
 use Rattle.markup.proofs.Cursor.start.Statement.{statement}
 use Rattle.markup.proofs.Cursor.start.Tie as tie
 
@@ -60,8 +60,8 @@ returns-3 c =
 attributes-requires : tie.Need-attributes-requires
 attributes-requires c κs = search needs
 
-differ-requires : tie.Need-differ-requires
-differ-requires c κs = search needs
+enum-told-3 : tie.Need-enum-told-3
+enum-told-3 c = search needs
 
 returns-4 : tie.Need-returns-4
 unfolding tag
@@ -70,8 +70,21 @@ returns-4 c =
     let g = c .before .before .before .before .before .before .start .given .0 in
     let x = rw (c .before .before .before .before .before .before .before .before .before .before .first .given .1) at (c .before .before .before .before .before .before .before .before .before .before .before .before .expect .ensures) in
     let n = rw (c .before .before .before .before .before .before .start .given .1) at (c .before .before .before .before .before .before .before .before .name .ensures) in
-    let y = c .before .before .attributes .ensures in
-    let t = tag-end (part s (g .0) (g .1 .0)) (attributes (drop (g .1 .1 .0 .at) s)) (viewEnding s (c .before .before .attributes .result)) (c .before .differ .result) (y .0) (c .before .differ .ensures) in
+    let y = rw (c .enum-told3 .given .1) at (c .before .before .attributes .ensures) in
+    (rw (← x .0, ← n .0) (tag-bad (part s (g .0) (g .1 .0)) (attributes (drop (g .1 .1 .0 .at) s)) (y .0)), tt)
+
+differ-requires : tie.Need-differ-requires
+differ-requires c κs = search needs
+
+returns-5 : tie.Need-returns-5
+unfolding tag
+returns-5 c =
+    let s = now (c .before .before .before .before .before .before .before .before .before .before .before .before .before .before .before .args .s) in
+    let g = c .before .before .before .before .before .before .before .start .given .0 in
+    let x = rw (c .before .before .before .before .before .before .before .before .before .before .before .first .given .1) at (c .before .before .before .before .before .before .before .before .before .before .before .before .before .expect .ensures) in
+    let n = rw (c .before .before .before .before .before .before .before .start .given .1) at (c .before .before .before .before .before .before .before .before .before .name .ensures) in
+    let y = c .before .before .before .attributes .ensures in
+    let t = tag-end (part s (g .0) (g .1 .0)) (attributes (drop (g .1 .1 .0 .at) s)) (viewEnding s (c .before .before .before .attributes .result)) (c .before .differ .result) (y .0) (c .before .differ .ensures) in
     (rw (← x .0, ← n .0, t, not-true (c .before .differ .result) (c .if2 .taken)), tt)
 
 enum-known-ending : tie.Need-enum-known-ending
@@ -80,39 +93,39 @@ enum-known-ending c = search needs
 enum-known-ending-2 : tie.Need-enum-known-ending-2
 enum-known-ending-2 c = search needs
 
-enum-told-3 : tie.Need-enum-told-3
-enum-told-3 c = search needs
-
-returns-5 : tie.Need-returns-5
-unfolding tag
-returns-5 c =
-    let s = now (c .before .before .before .before .before .before .before .before .before .before .before .before .before .before .before .before .before .args .s) in
-    let g = c .before .before .before .before .before .before .before .before .before .start .given .0 in
-    let x = rw (c .before .before .before .before .before .before .before .before .before .before .before .before .before .first .given .1) at (c .before .before .before .before .before .before .before .before .before .before .before .before .before .before .before .expect .ensures) in
-    let n = rw (c .before .before .before .before .before .before .before .before .before .start .given .1) at (c .before .before .before .before .before .before .before .before .before .before .before .name .ensures) in
-    let y = rw (c .before .ending .given .1) at (c .before .before .before .before .before .attributes .ensures) in
-    let t = tag-end (part s (g .0) (g .1 .0)) (attributes (drop (g .1 .1 .0 .at) s)) (viewEnding s (end.Open (c .before .ending .given .0 .0))) (c .before .before .before .before .differ .result) (y .0) (c .before .before .before .before .differ .ensures) in
-    (rw (← x .0, ← n .0, t, not-false (c .before .before .before .before .differ .result) (c .before .before .before .if2 .left)), omega arith)
+enum-told-4 : tie.Need-enum-told-4
+enum-told-4 c = search needs
 
 returns-6 : tie.Need-returns-6
 unfolding tag
 returns-6 c =
-    let s = now (c .before .before .before .before .before .before .before .before .before .before .before .before .before .before .before .before .before .args .s) in
-    let g = c .before .before .before .before .before .before .before .before .before .start .given .0 in
-    let x = rw (c .before .before .before .before .before .before .before .before .before .before .before .before .before .first .given .1) at (c .before .before .before .before .before .before .before .before .before .before .before .before .before .before .before .expect .ensures) in
-    let n = rw (c .before .before .before .before .before .before .before .before .before .start .given .1) at (c .before .before .before .before .before .before .before .before .before .before .before .name .ensures) in
-    let y = rw (c .before .ending2 .given .1) at (c .before .before .before .before .before .attributes .ensures) in
-    let t = tag-end (part s (g .0) (g .1 .0)) (attributes (drop (g .1 .1 .0 .at) s)) (viewEnding s (end.Shut (c .before .ending2 .given .0 .0))) (c .before .before .before .before .differ .result) (y .0) (c .before .before .before .before .differ .ensures) in
+    let s = now (c .before .before .before .before .before .before .before .before .before .before .before .before .before .before .before .before .before .before .args .s) in
+    let g = c .before .before .before .before .before .before .before .before .before .before .start .given .0 in
+    let x = rw (c .before .before .before .before .before .before .before .before .before .before .before .before .before .before .first .given .1) at (c .before .before .before .before .before .before .before .before .before .before .before .before .before .before .before .before .expect .ensures) in
+    let n = rw (c .before .before .before .before .before .before .before .before .before .before .start .given .1) at (c .before .before .before .before .before .before .before .before .before .before .before .before .name .ensures) in
+    let y = rw (c .before .ending .given .1) at (c .before .before .before .before .before .before .attributes .ensures) in
+    let t = tag-end (part s (g .0) (g .1 .0)) (attributes (drop (g .1 .1 .0 .at) s)) (viewEnding s (end.Open (c .before .ending .given .0 .0))) (c .before .before .before .before .differ .result) (y .0) (c .before .before .before .before .differ .ensures) in
     (rw (← x .0, ← n .0, t, not-false (c .before .before .before .before .differ .result) (c .before .before .before .if2 .left)), omega arith)
 
 returns-7 : tie.Need-returns-7
 unfolding tag
 returns-7 c =
-    let s = now (c .before .before .before .before .before .before .before .before .before .before .before .before .before .before .before .before .args .s) in
-    let g = c .before .before .before .before .before .before .before .before .start .given .0 in
-    let x = rw (c .before .before .before .before .before .before .before .before .before .before .before .before .first .given .1) at (c .before .before .before .before .before .before .before .before .before .before .before .before .before .before .expect .ensures) in
-    let n = rw (c .before .before .before .before .before .before .before .before .start .given .1) at (c .before .before .before .before .before .before .before .before .before .before .name .ensures) in
-    let y = rw (c .enum-told3 .given .1) at (c .before .before .before .before .attributes .ensures) in
+    let s = now (c .before .before .before .before .before .before .before .before .before .before .before .before .before .before .before .before .before .before .args .s) in
+    let g = c .before .before .before .before .before .before .before .before .before .before .start .given .0 in
+    let x = rw (c .before .before .before .before .before .before .before .before .before .before .before .before .before .before .first .given .1) at (c .before .before .before .before .before .before .before .before .before .before .before .before .before .before .before .before .expect .ensures) in
+    let n = rw (c .before .before .before .before .before .before .before .before .before .before .start .given .1) at (c .before .before .before .before .before .before .before .before .before .before .before .before .name .ensures) in
+    let y = rw (c .before .ending2 .given .1) at (c .before .before .before .before .before .before .attributes .ensures) in
+    let t = tag-end (part s (g .0) (g .1 .0)) (attributes (drop (g .1 .1 .0 .at) s)) (viewEnding s (end.Shut (c .before .ending2 .given .0 .0))) (c .before .before .before .before .differ .result) (y .0) (c .before .before .before .before .differ .ensures) in
+    (rw (← x .0, ← n .0, t, not-false (c .before .before .before .before .differ .result) (c .before .before .before .if2 .left)), omega arith)
+
+returns-8 : tie.Need-returns-8
+unfolding tag
+returns-8 c =
+    let s = now (c .before .before .before .before .before .before .before .before .before .before .before .before .before .before .before .before .before .args .s) in
+    let g = c .before .before .before .before .before .before .before .before .before .start .given .0 in
+    let x = rw (c .before .before .before .before .before .before .before .before .before .before .before .before .before .first .given .1) at (c .before .before .before .before .before .before .before .before .before .before .before .before .before .before .before .expect .ensures) in
+    let n = rw (c .before .before .before .before .before .before .before .before .before .start .given .1) at (c .before .before .before .before .before .before .before .before .before .before .before .name .ensures) in
+    let y = rw (c .enum-told4 .given .1) at (c .before .before .before .before .before .attributes .ensures) in
     let t = tag-end (part s (g .0) (g .1 .0)) (attributes (drop (g .1 .1 .0 .at) s)) (viewEnding s end.Refused) (c .before .before .before .differ .result) (y .0) (c .before .before .before .differ .ensures) in
     (rw (← x .0, ← n .0, t, not-false (c .before .before .before .differ .result) (c .before .before .if2 .left)), tt)
 
@@ -132,11 +145,13 @@ start-spec =
     add-t15
     returns-3
     attributes-requires
-    differ-requires
+    enum-told-3
     returns-4
+    differ-requires
+    returns-5
     enum-known-ending
     enum-known-ending-2
-    enum-told-3
-    returns-5
+    enum-told-4
     returns-6
-    returns-7)
+    returns-7
+    returns-8)

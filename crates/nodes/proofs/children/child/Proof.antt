@@ -17,7 +17,7 @@ enum-told c = search needs
 
 returns : tie.Need-returns
 returns c =
-    let x = rw (c .enum-told .given .1) at (c .before .before .enter .ensures) in
+    let x = rw (c .enum-told .given .1) at (c .before .before .enter .ensures .0) in
     λ t h. lacks refl (first-in (now (c .before .before .before .before .before .args .x)) (x t h))
 
 child-from-requires : tie.Need-child-from-requires
@@ -25,7 +25,7 @@ child-from-requires c κs = search needs
 
 returns-2 : tie.Need-returns-2
 returns-2 c =
-    let x = rw (c .before .before .name .given .1) at (c .before .before .before .before .enter .ensures) in
+    let x = rw (c .before .before .name .given .1) at (c .before .before .before .before .enter .ensures .0) in
     λ t h. c .child-from .ensures (t .inside) (x t h)
 
 pub child-spec : {M : Type 1} → statement M

@@ -15,11 +15,11 @@ use Rattle.schema.proofs.attrs.all_attrs.Statement.{statement}
 use Rattle.schema.proofs.attrs.all_attrs.Tie as tie
 
 abbrev Inv-loop : tie.InvT-loop
-Inv-loop t table pool ranges first n s after k₀ k =
+Inv-loop table pool ranges first n s after k₀ k =
     (a : Attributes) (m : List ℕ) → attributes (drop after s) ≡ read a m → all (attrFits (a .pairs)) (attrsFrom table pool ranges first n k) ≡ all (attrFits (a .pairs)) (attrsAt table pool ranges first n)
 
 abbrev μ-loop : tie.MeasureT-loop
-μ-loop t table pool ranges first n s after k₀ k = n - k
+μ-loop table pool ranges first n s after k₀ k = n - k
 
 loop-holds : tie.Need-loop-holds Inv-loop μ-loop
 loop-holds c = λ a m i. rw (← attrs-start (now (c .before .before .before .before .args .table)) (now (c .before .before .before .before .args .pool)) (now (c .before .before .before .before .args .ranges)) (c .before .before .before .before .args .first) (c .before .before .before .before .args .n))

@@ -15,11 +15,11 @@ use Rattle.schema.proofs.attrs.attr_fits.Statement.{statement}
 use Rattle.schema.proofs.attrs.attr_fits.Tie as tie
 
 abbrev Inv-loop : tie.InvT-loop
-Inv-loop t table pool ranges row s after seen₀ at₀ seen at =
+Inv-loop table pool ranges row s after seen₀ at₀ seen at =
     (b : Bool) → OfPairs (attrAfter (attrAt table pool ranges row) seen) (drop at s) b → OfPairs (λ ps. attrFits ps (attrAt table pool ranges row)) (drop after s) b
 
 abbrev μ-loop : tie.MeasureT-loop
-μ-loop t table pool ranges row s after seen₀ at₀ seen at = length s - at
+μ-loop table pool ranges row s after seen₀ at₀ seen at = length s - at
 
 cell-requires : tie.Need-cell-requires Inv-loop μ-loop
 cell-requires c κs = search needs

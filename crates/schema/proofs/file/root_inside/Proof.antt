@@ -1,6 +1,6 @@
 use Rattle.schema.proofs.Whole.{inside-bad, inside-good, held-quiet, further-on}
 use Rattle.schema.proofs.Group.{Walk, group-start, group-next, group-past, group-short, group-text, group-between, group-note, group-refused, group-nowhere, group-fault, group-child}
-use Rattle.schema.proofs.Heads.{nodesFrom}
+use Rattle.schema.proofs.Heads.{nodesFrom, spot-named}
 use Rattle.schema.specs.Table.{nodesBy, nodeAt, schemaAt}
 use Rattle.schema.specs.Shape.{faultIn}
 use Rattle.schema.specs.View.{heldAfter, okSeen}
@@ -21,11 +21,11 @@ use Rattle.schema.proofs.file.root_inside.Statement.{statement}
 use Rattle.schema.proofs.file.root_inside.Tie as tie
 
 abbrev Inv-loop : tie.InvT-loop
-Inv-loop t table pool ranges s start name name-end from first n at₀ item₀ count₀ seen₀ at item count seen =
+Inv-loop table pool ranges s start name name-end from first n at₀ item₀ count₀ seen₀ at item count seen =
     (count ≤ at) × okSeen at seen × ((i : Inside) (m : List ℕ) → content (elementOf 11) (part s name name-end) (drop start s) ≡ read i m → Walk 11 (part s name name-end) m (faultIn (nodesBy table pool ranges (nodeAt table pool ranges 11) first n) 0 from i) (heldAfter (schemaAt table pool ranges 11) (known.Good 0 0) (kids i)) (nodesFrom table pool ranges 11 first n item) count from (λ i. heldAfter (schemaAt table pool ranges 11) seen (kids i)) (drop at s))
 
 abbrev μ-loop : tie.MeasureT-loop
-μ-loop t table pool ranges s start name name-end from first n at₀ item₀ count₀ seen₀ at item count seen =
+μ-loop table pool ranges s start name name-end from first n at₀ item₀ count₀ seen₀ at item count seen =
     length s - at
 
 cell-requires : tie.Need-cell-requires Inv-loop μ-loop
@@ -129,7 +129,7 @@ enum-known-now : tie.Need-enum-known-now Inv-loop μ-loop
 enum-known-now c = search needs
 
 take-record-requires : tie.Need-take-record-requires Inv-loop μ-loop
-take-record-requires c κs = (c .before .before .before .before .before .before .before .before .before .before .before .before .before .before .pre, c .before .before .before .before .before .before .before .loop .inv .1)
+take-record-requires c κs = c .before .before .before .before .before .before .before .loop .inv .1
 
 add-past-child : tie.Need-add-past-child Inv-loop μ-loop
 add-past-child c =
@@ -137,7 +137,7 @@ add-past-child c =
     omega arith
 
 past-child-requires : tie.Need-past-child-requires Inv-loop μ-loop
-past-child-requires c κs = (c .before .before .before .before .before .before .before .before .before .before .before .before .before .before .before .pre, c .take-record .ensures .2)
+past-child-requires c κs = c .take-record .ensures .2
 
 enum-told-5 : tie.Need-enum-told-5 Inv-loop μ-loop
 enum-told-5 c = search needs
@@ -148,7 +148,7 @@ returns-6 c =
     let y = rw (c .before .before .before .before .before .now .given .1) at (c .before .before .before .before .before .before .before .spot-of .ensures) in
     let v = rw (c .enum-told5 .given .1) at (c .before .before .past-child .ensures) in (
       λ i m e h.
-          let b = group-fault _ _ m _ _ _ _ _ _ _ (c .before .before .before .before .before .before .before .before .before .before .before .loop .inv .2 i m e) (x .0) (λ k w q. y .0 (now (c .before .before .before .before .before .before .before .before .before .before .before .before .before .before .before .before .before .before .args .ranges)) 11 11 k w q) (λ k w q. v .0 k w q (c .before .before .before .take-record .ensures .0 k w q .1)) in
+          let b = group-fault _ _ m _ _ _ _ _ _ _ (c .before .before .before .before .before .before .before .before .before .before .before .loop .inv .2 i m e) (x .0) (λ k w q. y .0 (now (c .before .before .before .before .before .before .before .before .before .before .before .before .before .before .before .before .before .before .args .ranges)) 11 11 k w q) (λ k w q. v .0 k w q (spot-named (now (c .before .before .before .before .before .before .before .before .before .before .before .before .before .before .before .before .before .before .args .table)) (now (c .before .before .before .before .before .before .before .before .before .before .before .before .before .before .before .before .before .before .args .pool)) (now (c .before .before .before .before .before .before .before .before .before .before .before .before .before .before .before .before .before .before .args .ranges)) _ _ _ _ (y .0 (now (c .before .before .before .before .before .before .before .before .before .before .before .before .before .before .before .before .before .before .args .ranges)) 11 11 k w q)) (c .before .before .before .take-record .ensures .0 k w q .1)) in
           inside-bad (now (c .before .before .before .before .before .before .before .before .before .before .before .before .before .before .before .before .before .before .args .table)) (now (c .before .before .before .before .before .before .before .before .before .before .before .before .before .before .before .before .before .before .args .pool)) (now (c .before .before .before .before .before .before .before .before .before .before .before .before .before .before .before .before .before .before .args .ranges)) (c .before .before .before .before .before .before .before .before .before .before .before .before .before .cell .ensures .0) (c .before .before .before .before .before .before .before .before .before .before .before .before .cell2 .ensures .0) (c .before .before .before .before .before .before .before .before .before .before .before .before .before .before .before .before .before .before .args .from) i (b .0) (b .1),
       search needs,
     )
@@ -178,7 +178,7 @@ loop-again-3 c =
           group-next (now (c .before .before .before .before .before .before .before .before .before .before .before .before .before .before .before .before .before .before .before .args .table)) (now (c .before .before .before .before .before .before .before .before .before .before .before .before .before .before .before .before .before .before .before .args .pool)) (now (c .before .before .before .before .before .before .before .before .before .before .before .before .before .before .before .before .before .before .before .args .ranges)) 11 _ _ (c .before .before .before .before .before .before .before .before .before .before .before .before .before .before .before .before .before .before .before .args .from) (λ _ _ i. heldAfter (schemaAt (now (c .before .before .before .before .before .before .before .before .before .before .before .before .before .before .before .before .before .before .before .args .table)) (now (c .before .before .before .before .before .before .before .before .before .before .before .before .before .before .before .before .before .before .before .args .pool)) (now (c .before .before .before .before .before .before .before .before .before .before .before .before .before .before .before .before .before .before .before .args .ranges)) 11) (c .before .before .before .before .take-record .result .seen) (kids i)) (c .before .before .before .before .before .before .now .given .0 .0) (c .before .before .before .before .before .before .now .given .0 .1 .0) (y .1 .0)
           (group-child _ _ m _ _ _ _ _ _ _ (c .before .before .before .before .before .before .before .before .before .before .before .before .loop .inv .2 i m e) (x .0) (λ k w q. y .0 (now (c .before .before .before .before .before .before .before .before .before .before .before .before .before .before .before .before .before .before .before .args .ranges)) 11 11 k w q) _ (λ k w q.
           let u = c .before .before .before .before .take-record .ensures .0 k w q in
-          let h = v .0 k w q (u .1) in
+          let h = v .0 k w q (spot-named (now (c .before .before .before .before .before .before .before .before .before .before .before .before .before .before .before .before .before .before .before .args .table)) (now (c .before .before .before .before .before .before .before .before .before .before .before .before .before .before .before .before .before .before .before .args .pool)) (now (c .before .before .before .before .before .before .before .before .before .before .before .before .before .before .before .before .before .before .before .args .ranges)) _ _ _ _ (y .0 (now (c .before .before .before .before .before .before .before .before .before .before .before .before .before .before .before .before .before .before .before .args .ranges)) 11 11 k w q)) (u .1) in
           (h .0, λ j. sym (u .0 (kids j)), h .2))),
     )
 

@@ -15,8 +15,8 @@ returns c = (λ x m e. absurd (not-past depth (now (c .before .before .before .b
 sub-from : tie.Need-sub-from
 sub-from c = search needs
 
-add-t13 : tie.Need-add-t13
-add-t13 c = search needs
+add-t12 : tie.Need-add-t12
+add-t12 c = search needs
 
 name-requires : tie.Need-name-requires
 name-requires c κs = search needs
@@ -118,7 +118,7 @@ shape-spec =
     (tie.spec
     returns
     sub-from
-    add-t13
+    add-t12
     name-requires
     enum-known-start
     enum-told

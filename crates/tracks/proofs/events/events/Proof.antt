@@ -1,18 +1,11 @@
-use Rattle.nodes.specs.Stands.{stands}
+use denote.Ref.{now}
+use lib.ListN.{drop}
 use Rattle.reading.specs.Many.{belowRoot}
 use Rattle.tracks.proofs.Gathering.{none-told}
 use Rattle.tracks.proofs.ShapedEvents.{events-are}
 use borrow.Author.Needs.{needs}
-use denote.Ref.{now}
-use lib.ListN.{drop}
 use Rattle.tracks.proofs.events.events.Statement.{statement}
 use Rattle.tracks.proofs.events.events.Tie as tie
-
-slice-aggregate-child : tie.Need-slice-aggregate-child
-slice-aggregate-child c = search needs
-
-child-requires : tie.Need-child-requires
-child-requires c κs = search needs
 
 enter-requires : tie.Need-enter-requires
 enter-requires c κs = search needs
@@ -25,8 +18,8 @@ enum-told c = search needs
 
 returns : tie.Need-returns
 returns c =
-    let x = rw (c .enum-told .given .1) at (c .before .before .enter .ensures) in
-    λ a m e f. rw (← events-are a belowRoot (drop (c .before .before .before .before .before .before .before .args .at) (now (c .before .before .before .before .before .before .before .args .s))) m e f) (none-told (now (c .before .before .before .before .before .before .before .args .out)) (x _ (c .before .before .before .child .ensures a (stands m e))))
+    let x = rw (c .enum-told .given .1) at (c .before .before .enter .ensures .0) in
+    λ at a k f. rw (← events-are a belowRoot (drop at (now (c .before .before .before .before .before .before .args .s))) (k .after) (k .reads) f) (none-told (now (c .before .before .before .before .before .before .args .out)) (x _ (k .found .d)))
 
 events-from-requires : tie.Need-events-from-requires
 events-from-requires c κs = search needs
@@ -36,15 +29,13 @@ same-length c = search needs
 
 returns-2 : tie.Need-returns-2
 returns-2 c =
-    let x = rw (c .before .before .before .before .before .name .given .1) at (c .before .before .before .before .before .before .before .enter .ensures) in
-    λ a m e f. rw (← events-are a belowRoot (drop (c .before .before .before .before .before .before .before .before .before .before .before .before .args .at) (now (c .before .before .before .before .before .before .before .before .before .before .before .before .args .s))) m e f) (c .before .before .events-from .ensures _ (x _ (c .before .before .before .before .before .before .before .before .child .ensures a (stands m e))))
+    let x = rw (c .before .before .before .before .before .name .given .1) at (c .before .before .before .before .before .before .before .enter .ensures .0) in
+    λ at a k f. rw (← events-are a belowRoot (drop at (now (c .before .before .before .before .before .before .before .before .before .before .before .args .s))) (k .after) (k .reads) f) (c .before .before .events-from .ensures _ (x _ (k .found .d)))
 
 pub events-spec : {M : Type 1} → statement M
 events-spec =
     tie.close
     (tie.spec
-    slice-aggregate-child
-    child-requires
     enter-requires
     enum-known-name
     enum-told

@@ -1,14 +1,19 @@
-use Rattle.nodes.specs.Stands.{stands}
-use Rattle.reading.specs.Many.{belowRoot}
-use Rattle.tracks.proofs.ShapedAdmissions.{case-shaped}
-use Rattle.tracks.specs.Record.{padded}
+use mathlib.Core.Path.{_∙_, ap}
 use denote.Ref.{now}
 use lib.ListN.{drop}
-use mathlib.Core.Path.{_∙_, ap}
+use Rattle.reading.specs.Many.{belowRoot}
+use Rattle.tracks.specs.Record.{padded}
+use Rattle.tracks.proofs.ShapedAdmissions.{case-shaped}
 use native.Mathlib.Omega.{arith}
 use borrow.Author.Needs.{needs}
 use Rattle.tracks.proofs.record.admission.Statement.{statement}
 use Rattle.tracks.proofs.record.admission.Tie as tie
+
+slice-aggregate-child : tie.Need-slice-aggregate-child
+slice-aggregate-child c = search needs
+
+child-requires : tie.Need-child-requires
+child-requires c κs = search needs
 
 slice-aggregate-several : tie.Need-slice-aggregate-several
 slice-aggregate-several c = search needs
@@ -31,12 +36,6 @@ slice-aggregate-several-6 c = search needs
 several-requires : tie.Need-several-requires
 several-requires c κs = search needs
 
-slice-aggregate-child : tie.Need-slice-aggregate-child
-slice-aggregate-child c = search needs
-
-child-requires : tie.Need-child-requires
-child-requires c κs = search needs
-
 slice-aggregate-several-7 : tie.Need-slice-aggregate-several-7
 slice-aggregate-several-7 c = search needs
 
@@ -57,27 +56,6 @@ slice-aggregate-several-12 c = search needs
 
 several-requires-2 : tie.Need-several-requires-2
 several-requires-2 c κs = search needs
-
-slice-aggregate-several-13 : tie.Need-slice-aggregate-several-13
-slice-aggregate-several-13 c = search needs
-
-slice-aggregate-several-14 : tie.Need-slice-aggregate-several-14
-slice-aggregate-several-14 c = search needs
-
-slice-aggregate-several-15 : tie.Need-slice-aggregate-several-15
-slice-aggregate-several-15 c = search needs
-
-slice-aggregate-several-16 : tie.Need-slice-aggregate-several-16
-slice-aggregate-several-16 c = search needs
-
-slice-aggregate-several-17 : tie.Need-slice-aggregate-several-17
-slice-aggregate-several-17 c = search needs
-
-slice-aggregate-several-18 : tie.Need-slice-aggregate-several-18
-slice-aggregate-several-18 c = search needs
-
-several-requires-3 : tie.Need-several-requires-3
-several-requires-3 c κs = search needs
 
 slice-aggregate-child-2 : tie.Need-slice-aggregate-child-2
 slice-aggregate-child-2 c = search needs
@@ -111,12 +89,12 @@ text-number-requires c κs = search needs
 
 returns : tie.Need-returns
 returns c = (
-  λ a m e f.
-      let h = case-shaped a belowRoot (drop (c .before .before .before .before .before .before .before .before .before .before .before .before .before .before .before .before .before .before .before .before .before .before .before .before .before .before .before .before .before .before .before .before .before .before .before .before .args .at) (now (c .before .before .before .before .before .before .before .before .before .before .before .before .before .before .before .before .before .before .before .before .before .before .before .before .before .before .before .before .before .before .before .before .before .before .before .before .args .s))) m e f in
-      let w = c .before .before .before .before .before .before .before .before .before .before .before .before .before .before .before .before .before .before .before .before .before .before .before .before .before .before .before .before .several .ensures a (stands m e) in
-      let p = c .before .before .before .before .before .before .before .before .before .before .before .before .before .before .before .before .before .before .before .several2 .ensures _ (c .before .before .before .before .before .before .before .before .before .before .before .before .before .before .before .before .before .before .before .before .before .before .before .before .before .before .child .ensures _ (w .a)) in
-      let home = c .before .before .before .before .before .before .before .before .before .before .before .before .several3 .ensures _ (p .b) in
-      let v = c .before .before .before .before .before .before .before .before .before .valued .ensures _ (c .before .before .before .before .before .before .before .before .before .before .child2 .ensures _ (w .b)) in
+  λ at a k f.
+      let h = case-shaped a belowRoot (drop at (now (c .before .before .before .before .before .before .before .before .before .before .before .before .before .before .before .before .before .before .before .before .before .before .before .before .before .before .before .before .before .args .s))) (k .after) (k .reads) f in
+      let w = k .found in
+      let p = c .before .before .before .before .before .before .before .before .before .before .before .before .before .before .before .before .before .before .before .several .ensures _ (c .before .before .before .before .before .before .before .before .before .before .before .before .before .before .before .before .before .before .before .before .before .before .before .before .before .before .child .ensures _ (w .b)) in
+      let home = c .before .before .before .before .before .before .before .before .before .before .before .before .several2 .ensures _ (p .b) in
+      let v = c .before .before .before .before .before .before .before .before .before .valued .ensures _ (c .before .before .before .before .before .before .before .before .before .before .child2 .ensures _ (w .d)) in
       record {
         birth = c .text-number .ensures .0 _ (p .a) ∙ (let b = h .birth in omega arith);
         prevalente = c .before .before .before .before .before .before .filled .ensures ∙ ap padded (c .before .before .before .before .before .before .before .part .ensures ∙ v .0);
@@ -133,6 +111,8 @@ pub admission-spec : {M : Type 1} → statement M
 admission-spec =
     tie.close
     (tie.spec
+    slice-aggregate-child
+    child-requires
     slice-aggregate-several
     slice-aggregate-several-2
     slice-aggregate-several-3
@@ -140,8 +120,6 @@ admission-spec =
     slice-aggregate-several-5
     slice-aggregate-several-6
     several-requires
-    slice-aggregate-child
-    child-requires
     slice-aggregate-several-7
     slice-aggregate-several-8
     slice-aggregate-several-9
@@ -149,13 +127,6 @@ admission-spec =
     slice-aggregate-several-11
     slice-aggregate-several-12
     several-requires-2
-    slice-aggregate-several-13
-    slice-aggregate-several-14
-    slice-aggregate-several-15
-    slice-aggregate-several-16
-    slice-aggregate-several-17
-    slice-aggregate-several-18
-    several-requires-3
     slice-aggregate-child-2
     child-requires-2
     valued-requires

@@ -1,35 +1,13 @@
-use Rattle.nodes.specs.Stands.{stands}
+use mathlib.Core.Path.{_∙_}
+use denote.Ref.{now}
+use lib.ListN.{drop}
 use Rattle.reading.specs.Many.{belowRoot}
 use Rattle.tracks.proofs.Filling.{by-place}
 use Rattle.tracks.proofs.Shaped.{head-shaped}
-use denote.Ref.{now}
-use lib.ListN.{drop}
-use mathlib.Core.Path.{_∙_}
 use native.Mathlib.Omega.{arith}
 use borrow.Author.Needs.{needs}
 use Rattle.tracks.proofs.record.head.Statement.{statement}
 use Rattle.tracks.proofs.record.head.Tie as tie
-
-slice-aggregate-several : tie.Need-slice-aggregate-several
-slice-aggregate-several c = search needs
-
-slice-aggregate-several-2 : tie.Need-slice-aggregate-several-2
-slice-aggregate-several-2 c = search needs
-
-slice-aggregate-several-3 : tie.Need-slice-aggregate-several-3
-slice-aggregate-several-3 c = search needs
-
-slice-aggregate-several-4 : tie.Need-slice-aggregate-several-4
-slice-aggregate-several-4 c = search needs
-
-slice-aggregate-several-5 : tie.Need-slice-aggregate-several-5
-slice-aggregate-several-5 c = search needs
-
-slice-aggregate-several-6 : tie.Need-slice-aggregate-several-6
-slice-aggregate-several-6 c = search needs
-
-several-requires : tie.Need-several-requires
-several-requires c κs = search needs
 
 slice-aggregate-child : tie.Need-slice-aggregate-child
 slice-aggregate-child c = search needs
@@ -65,19 +43,19 @@ slice-aggregate-attr-day : tie.Need-slice-aggregate-attr-day
 slice-aggregate-attr-day c = search needs
 
 attr-day-requires : tie.Need-attr-day-requires
-attr-day-requires c κs = c .before .before .before .before .before .before .before .before .before .before .before .before .before .before .before .before .before .before .before .pre
+attr-day-requires c κs = c .before .before .before .before .before .before .before .before .before .before .before .before .pre
 
 returns : tie.Need-returns
 returns c = (
-  λ track a m e f.
-      let s = now (c .before .before .before .before .before .before .before .before .before .before .before .before .before .before .before .before .before .before .before .before .args .s) in
-      let h = head-shaped track a belowRoot (drop (c .before .before .before .before .before .before .before .before .before .before .before .before .before .before .before .before .before .before .before .before .args .at) s) m e f in
-      let w = c .before .before .before .before .before .before .before .before .before .before .before .before .several .ensures a (stands m e) in
-      let taken = c .before .before .before .before .before .before .before .before .before .before .child .ensures _ (w .c) in
+  λ track at a k f.
+      let s = now (c .before .before .before .before .before .before .before .before .before .before .before .before .before .args .s) in
+      let h = head-shaped track a belowRoot (drop at s) (k .after) (k .reads) f in
+      let w = k .found in
+      let taken = c .before .before .before .before .before .before .before .before .before .before .child .ensures _ (w .d) in
       record {
         tipo = c .before .before .before .before .attr-byte .ensures _ (w .a);
-        region = c .before .before .child-number .ensures .0 _ (w .b) ∙ (let r = h .region in omega arith);
-        asl = by-place s (c .before .before .before .before .before .before .before .before .child-text .result .start) (c .before .before .before .before .before .before .before .before .child-text .result .end) 3 (c .before .before .before .before .before .before .before .before .child-text .ensures .1) (c .before .before .before .before .before .before .before .before .child-text .ensures .0 _ (w .b)) (h .asl);
+        region = c .before .before .child-number .ensures .0 _ (w .c) ∙ (let r = h .region in omega arith);
+        asl = by-place s (c .before .before .before .before .before .before .before .before .child-text .result .start) (c .before .before .before .before .before .before .before .before .child-text .result .end) 3 (c .before .before .before .before .before .before .before .before .child-text .ensures .1) (c .before .before .before .before .before .before .before .before .child-text .ensures .0 _ (w .c)) (h .asl);
         taken = c .attr-day .ensures .0 _ taken ∙ rw (h .taken);
         id = by-place s (c .before .before .before .before .before .before .child-text2 .result .start) (c .before .before .before .before .before .before .child-text2 .result .end) 88 (c .before .before .before .before .before .before .child-text2 .ensures .1) (c .before .before .before .before .before .before .child-text2 .ensures .0 _ taken) (h .id);
       },
@@ -89,13 +67,6 @@ pub head-spec : {M : Type 1} → statement M
 head-spec =
     tie.close
     (tie.spec
-    slice-aggregate-several
-    slice-aggregate-several-2
-    slice-aggregate-several-3
-    slice-aggregate-several-4
-    slice-aggregate-several-5
-    slice-aggregate-several-6
-    several-requires
     slice-aggregate-child
     child-requires
     slice-aggregate-child-text

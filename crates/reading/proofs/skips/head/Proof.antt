@@ -1,9 +1,9 @@
-use Rattle.nodes.proofs.Entering.{okGot-back}
+use Rattle.reading.proofs.Skipping.{okGot-back}
 use borrow.Author.Needs.{needs}
 use denote.Ref.{now}
 use native.Mathlib.Omega.{arith}
-use Rattle.nodes.proofs.children.head.Statement.{statement}
-use Rattle.nodes.proofs.children.head.Tie as tie
+use Rattle.reading.proofs.skips.head.Statement.{statement}
+use Rattle.reading.proofs.skips.head.Tie as tie
 
 expect-requires : tie.Need-expect-requires
 expect-requires c κs = search needs

@@ -1,11 +1,11 @@
 use denote.Ref.{now}
 use mathlib.Core.Path.{_∙_}
 use Rattle.markup.proofs.AtTags.{okEnding-back}
-use Rattle.nodes.proofs.Skipping.{tag-named, tag-unnamed}
+use Rattle.reading.proofs.Skipping.{tag-named, tag-unnamed}
 use native.Mathlib.Omega.{arith}
 use borrow.Author.Needs.{needs}
-use Rattle.nodes.proofs.skips.tag_end.Statement.{statement}
-use Rattle.nodes.proofs.skips.tag_end.Tie as tie
+use Rattle.reading.proofs.skips.tag_end.Statement.{statement}
+use Rattle.reading.proofs.skips.tag_end.Tie as tie
 
 head-requires : tie.Need-head-requires
 head-requires c κs = search needs

@@ -13,11 +13,11 @@ use Rattle.markup.specs.Elements.{Inside, content, element}
 use Rattle.markup.proofs.AtBytes.{run-after}
 use Rattle.markup.proofs.AtNames.{okMove-back}
 use Rattle.markup.proofs.AtTags.{attributes-none}
-use Rattle.nodes.proofs.Skipping.{Pending, pend-start, pend-last, pend-close, pend-note, pend-no-note, pend-shut, pend-open, pend-no-tag, pend-none, none-past, tag-plain}
+use Rattle.reading.proofs.Skipping.{Pending, pend-start, pend-last, pend-close, pend-note, pend-no-note, pend-shut, pend-open, pend-no-tag, pend-none, none-past, tag-plain}
 use borrow.Author.Needs.{needs}
 use native.Mathlib.Omega.{arith}
-use Rattle.nodes.proofs.skips.past.Statement.{statement}
-use Rattle.nodes.proofs.skips.past.Tie as tie
+use Rattle.reading.proofs.skips.past.Statement.{statement}
+use Rattle.reading.proofs.skips.past.Tie as tie
 
 abbrev Inv-loop : tie.InvT-loop
 Inv-loop s from at₀ open₀ at «open» =

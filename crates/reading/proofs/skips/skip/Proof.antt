@@ -2,11 +2,11 @@ use mathlib.Core.Path.{refl}
 use denote.Ref.{now}
 use lib.ListN.{drop}
 use Rattle.markup.proofs.AtNames.{okMove-back}
-use Rattle.nodes.proofs.Skipping.{skip-none, skip-shut, skip-open}
+use Rattle.reading.proofs.Skipping.{skip-none, skip-shut, skip-open}
 use native.Mathlib.Omega.{arith}
 use borrow.Author.Needs.{needs}
-use Rattle.nodes.proofs.skips.skip.Statement.{statement}
-use Rattle.nodes.proofs.skips.skip.Tie as tie
+use Rattle.reading.proofs.skips.skip.Statement.{statement}
+use Rattle.reading.proofs.skips.skip.Tie as tie
 
 tag-end-requires : tie.Need-tag-end-requires
 tag-end-requires c κs = search needs

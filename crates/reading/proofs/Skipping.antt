@@ -22,15 +22,22 @@ use Rattle.markup.specs.Comments.{dashed}
 use Rattle.markup.specs.Tags.{Attributes, attributes, differ, Tag, tagOf, tag, endTag}
 use Rattle.markup.specs.Elements.{Inside, Tree, piece, onto, afterPiece, contentStep, content, element}
 use Rattle.markup.specs.Elements.Piece.{words, aside, closing, child}
-use Rattle.markup.specs.View.{left, endingOf}
+use Rattle.markup.specs.View.{okGot, left, endingOf}
+use Rattle.markup.specs.declared.Got.{Got}
+use Rattle.markup.specs.declared.Got.the-variants as got
 use Rattle.markup.proofs.AtBytes.{run-after}
 use Rattle.markup.proofs.AtTags.{attributes-none}
 use Rattle.markup.proofs.AtElements.{piece-tag}
 use Rattle.laws.specs.Lists.{same}
 use Rattle.reading.specs.Within.{kidOn}
 use Rattle.reading.proofs.Cut.{never, then-is, cond-is, read-in}
 use Rattle.reading.proofs.Leaves.{byte-is, byte-back, after-none}
 use Rattle.reading.proofs.Steps.{contentOf, built, inside-less, on-close}
+
+-- what lies past b lies past what stands before b
+pub okGot-back : (s : List ℕ) (a b : ℕ) (r : Got) → a ≤ b → okGot s b r → okGot s a r
+okGot-back s a b (got.Text x e c) h k = omega arith
+okGot-back s a b got.Refused h k = tt
 
 -- ---- runs: what passes p and all of which pass r is no end of a run of r
 

@@ -1,19 +1,32 @@
-// The end of an element that stands in a file in the markup: found by its tags alone. No name is compared, since answer 5 has done that.
+// What is read again in a file that is known to be in the markup: an element's name, and its end, found by its tags alone. No name is compared and no
+// attribute held against another, since answer 5 has done that.
 ghost use mathlib.Core.Path.{_≡_};
 ghost use mathlib.Core.List.{List};
 ghost use Prim.Native.Nat.{ℕ};
 ghost use lib.ListN.{drop};
+ghost use Rattle.markup.specs.Reading.{then};
 ghost use Rattle.markup.specs.Reading.Read.{read};
+ghost use Rattle.markup.specs.Names.{byte, name};
 ghost use Rattle.markup.specs.Tags.{Tag, tag};
 ghost use Rattle.markup.specs.Elements.{Inside, Tree, content, element};
-ghost use Rattle.markup.specs.View.{viewMove, okMove, viewEnding, okEnding, left};
-use crate::children::head;
+ghost use Rattle.markup.specs.View.{viewGot, okGot, viewMove, okMove, viewEnding, okEnding, left};
 use markup::Cursor;
 use markup::Ending;
 use markup::Got;
 use markup::Move;
 use markup::bytes::peek;
 use markup::bytes::run_end;
+
+// The name at an element's `<`: the rest of its start tag isn't read.
+pub fn head(s: &[u8], at: usize) -> Got
+    ensures { λ r. ⌜ (viewGot (now (s .entry)) r ≡ then (byte 60 (drop at (now (s .entry)))) (λ _ m. name m)) × okGot (now (s .entry)) at r ⌝ }
+{
+    let here = Cursor { at };
+    let Move::To(first) = here.expect(s, b'<') else {
+        return Got::Refused;
+    };
+    first.name(s)
+}
 
 // The end of the start tag at a place.
 fn tag_end(s: &[u8], at: usize) -> Ending
@@ -26,7 +39,7 @@ fn tag_end(s: &[u8], at: usize) -> Ending
 }
 
 // The end of an element, from a place in it on; `open` elements are open at `at`.
-fn past(s: &[u8], from: usize) -> Move
+pub fn past(s: &[u8], from: usize) -> Move
     ensures { λ r. ⌜ ((d : ℕ) (n : List ℕ) (i : Inside) (m : List ℕ) → content (element d) n (drop from (now (s .entry))) ≡ read i m → viewMove (now (s .entry)) r ≡ read tt m) × okMove (now (s .entry)) from r ⌝ }
 {
     if s.len() < from {
