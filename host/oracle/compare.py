@@ -871,6 +871,57 @@ def g_tokens(seed, count):
         check_submit(b, 2 if b.startswith(b"<FlsAssDom_2") else 1, 2018, 2, reg, b"\x77\x78")
 
 
+def attribute_names(rng, n, long):
+    """n names that differ, many of them the beginning of another, in random order"""
+    names, first = set(), "abcXYZ_"
+    stem = "n" * long
+    while len(names) < n:
+        x = stem + rng.choice(first) + "".join(rng.choice("abc019-.:_Z") for _ in range(rng.randint(0, 4 + n // 4000)))
+        names.add(x)
+    names = sorted(names)
+    rng.shuffle(names)
+    return names
+
+
+def attribute_text(rng, name, plain):
+    if plain:
+        return ' %s=""' % name
+    gap = lambda: rng.choice(["", "", " ", "\n\t"])
+    q = rng.choice("\"'")
+    return rng.choice([" ", "\r\n", "  "]) + name + gap() + "=" + gap() + q + rng.choice(["", "x", "a='b", ">", "a=b c"]).replace(q, "") + q
+
+
+def g_attributes(seed, count):
+    """tags with few and with very many attributes: a name repeated or not, wherever it stands, and tags that are no tags"""
+    rng = random.Random("attributes %d" % seed)
+    _, w, reg, k1, _ = base_state(2)
+    t2 = tiny(2).decode()
+    frames = [("<FlsAssDom_1", "/>"), ("<FlsAssDom_1><Assistenza", "></Assistenza></FlsAssDom_1>"), ("<FlsAssDom_1><a/><Assistenza", "/></FlsAssDom_1>")]
+    sizes = [0, 1, 2, 3, 15, 16, 17, 18, 40, 200, 2047, 2048, 2049, 6143, 6144, 6145, 6146, 12288, 12290, 13000]
+    while C["submit"] < count:
+        n = rng.choice(sizes[:10] if rng.random() < 0.8 else sizes)
+        names = attribute_names(rng, n, rng.choice([0, 0, 0, 3, 40]))
+        free = rng.random() < 0.3
+        if free:
+            names = ["xmlns:" + x for x in names]
+        x = rng.random()
+        if n and x < 0.5:
+            at = rng.choice([0, n - 1, rng.randrange(n)])
+            names.insert(rng.choice([0, 1, n, len(names), rng.randint(0, len(names))]), names[at])
+        parts = [attribute_text(rng, x, n > 200) for x in names]
+        if n and rng.random() < 0.1:
+            i = rng.randrange(len(parts))
+            parts[i] = rng.choice([parts[i].lstrip(), parts[i][:-1], parts[i].replace("=", "", 1), parts[i] + "x", " 1" + parts[i][1:]])
+        if free:
+            i = t2.index(">")
+            b = t2[:i] + "".join(parts) + t2[i:]
+        else:
+            a, e = rng.choice(frames)
+            b = a + "".join(parts) + e
+        b = b.encode()
+        check_submit(b, 2 if b.startswith(b"<FlsAssDom_2") else 1, 2018, 2, reg, b"\x77\x78")
+
+
 def g_big(seed, count):
     """limits: 1,048,576 bytes, 128 events, many records, 4,096 rows, long names, comments and values"""
     rng = random.Random("big %d" % seed)
