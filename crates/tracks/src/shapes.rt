@@ -1,5 +1,6 @@
-// The shape of a file and the number of its events (answers 6 and 7) in one pass, by its track's tables. They are made once, here, for the track at hand, and
-// stand in this function's frame alone: the passes before and after it have the stack to themselves.
+// The shape of a file and the number of its events (answers 6 and 7) in one pass, by its track's tables. They are made once, here, for the track at hand.
+// Each branch makes all three: with pool and ranges made once above the branches the compiler put this function into its caller, and 3 KB of tables then lay
+// under every pass of the call (bench/stack shows it).
 ghost use mathlib.Core.Path.{_≡_};
 ghost use mathlib.Core.List.{List};
 ghost use Prim.Native.Nat.{ℕ};
