@@ -1,5 +1,13 @@
-pub mod Turns
-pub mod Room
 pub mod RowsPacked
+pub mod CaseBytes
+pub mod Merge
+pub mod Growing
+pub mod EventRows
+pub mod Choosing
+pub mod Filling
+pub mod Spot
+pub mod Varying
+pub mod Without
+pub mod Shrinking
+pub mod Emptying
 pub mod Records
-pub mod FromLast

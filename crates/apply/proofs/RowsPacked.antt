@@ -37,7 +37,7 @@ case-row k c row f g e =
     case-split (keyNumber k) (caseNumber c) (num row) (case-lt c g) (e ∙ ap₂ (λ (x z : ℕ). x * 2 ^ (728 - z)) p w)
 
 -- an event's row: its 52 bits behind the key, then 14 zero bits
-event-split : (k e n : ℕ) → e < 2 ^ eventBits → n ≡ (k * 2 ^ eventBits + e) * 2 ^ 14 → split (eventRest siad) n ≡ eventRow k e
+pub event-split : (k e n : ℕ) → e < 2 ^ eventBits → n ≡ (k * 2 ^ eventBits + e) * 2 ^ 14 → split (eventRest siad) n ≡ eventRow k e
 event-split k e n h f = row-of (k * 2 ^ 19 + e / 2 ^ 33) (e % 2 ^ 33 * 2 ^ 14) (n / 2 ^ 47) (n % 2 ^ 47) (omega arith) (omega arith)
 
 pub event-row : (k e so at len : ℕ) (row : List ℕ) → e < 2 ^ eventBits → so ≡ k → at ≡ keyBits → len ≡ rowBytes →

@@ -1,10 +1,63 @@
-// The call that bench/ measures.
+// The calls that bench/ measures.
 ghost use mathlib.Core.Path.{_≡_};
+ghost use mathlib.Core.Bool.{true, false, _&&_};
+ghost use mathlib.Core.List.{List};
+ghost use Prim.Native.Nat.{ℕ, _^_};
+ghost use lib.Dec.{eqb, ltb};
+ghost use lib.ListN.{length};
+ghost use Rattle.laws.specs.Lists.{all};
 ghost use Rattle.markup.specs.Document.{inMarkup};
+ghost use Rattle.rows.specs.Row.{rowBytes, keyBits, eventBits, keyNumber};
+ghost use Rattle.model.specs.Checks.{first};
+ghost use Rattle.model.specs.Flow.{State};
+ghost use Rattle.register.specs.Bytes.{room};
+ghost use Rattle.register.specs.Layout.{siad};
+ghost use Rattle.register.specs.Search.{keyOf};
+ghost use Rattle.register.specs.Stored.{Stored};
+ghost use Rattle.tracks.specs.Record.{Head, Said, events};
+ghost use Rattle.checks.specs.Flow.{next};
+ghost use Rattle.checks.specs.Tests.{Context, eventsIn};
+ghost use Rattle.checks.specs.Checks.{checksOf};
+use register::layout::ROW;
+
+// No event of 52 bits is so large.
+const PAST_EVENTS: u64 = 4503599627370496;
 
 #[no_mangle]
 pub extern "C" fn bench_in_markup(s: &[u8]) -> bool
     ensures { λ r. ⌜ r ≡ inMarkup (now (s .entry)) ⌝ }
 {
     markup::file::in_markup(s)
+}
+
+// Whether each event has at most an event's 52 bits.
+fn all_events(evs: &[u64]) -> bool
+    ensures { λ r. ⌜ r ≡ all (λ e. ltb e (2 ^ eventBits)) (now (evs .entry)) ⌝ }
+{
+    let mut good = true;
+    let mut i = 0;
+    while i < evs.len() {
+        good = good & (evs[i] < PAST_EVENTS);
+        i += 1;
+    }
+    good
+}
+
+// The events of an accepted record of Track 2 stored; false, and nothing stored, where the probe is no row or an event has too many bits.
+#[no_mangle]
+pub extern "C" fn bench_store_events(reg: &mut [u8], tipo: u8, probe: &[u8], evs: &[u64]) -> bool
+    ensures { λ r. ⌜ (r ≡ eqb (length (now (probe .entry))) rowBytes && all (λ e. ltb e (2 ^ eventBits)) (now (evs .entry)))
+        × (r ≡ false → now (reg .exit) ≡ now (reg .entry))
+        × (r ≡ true → (h : Head) (es : List Said) (s : State ℕ ℕ) (c : Context) → keyNumber (h .key) ≡ keyOf rowBytes keyBits (now (probe .entry))
+        → tipo ≡ h .tipo → now (evs .entry) ≡ eventsIn es → c .room ≡ room siad (length (now (reg .entry)))
+        → Stored siad (now (reg .entry)) s → first (checksOf c (events h es)) s ≡ 0 → Stored siad (now (reg .exit)) (next (events h es) s)) ⌝ }
+{
+    if probe.len() != ROW {
+        return false;
+    }
+    if !all_events(evs) {
+        return false;
+    }
+    apply::apply_events(reg, tipo, probe, evs);
+    true
 }

@@ -10,7 +10,7 @@ use lib.Seq.{take-all, take-at}
 use Rattle.laws.specs.Lists.{all}
 use Rattle.laws.proofs.Truth.{and-left, and-right}
 use Rattle.rows.specs.Pack.{each, Fit}
-use Rattle.rows.specs.Row.{eventBits, keyOf}
+use Rattle.rows.specs.Row.{eventBits, keyNumber}
 use Rattle.model.specs.Checks.{first}
 use Rattle.model.specs.Flow.{State}
 use Rattle.markup.specs.Reading.Read.{read}
@@ -18,6 +18,7 @@ use Rattle.markup.specs.Elements.{Tree, element}
 use Rattle.reading.specs.Many.{belowRoot}
 use Rattle.register.specs.Bytes.{room, stateOf}
 use Rattle.register.specs.Layout.{siad}
+use Rattle.register.specs.Search as search
 use Rattle.register.specs.Sound.{isSound}
 use Rattle.register.specs.Stored.{Stored}
 use Rattle.register.proofs.Every.{and-tell}
@@ -108,12 +109,12 @@ module _ (s : List ℕ) (top : Six) (r : EventsRead) (buffer evs : List ℕ) (wi
     events-discarded z = discarded 2 a (events (headOf a) (eventsOf a)) (record-2 a) c reg f sound n judged z
 
     pub events-accepted : n ≡ 0 → c .room ≡ room siad (length reg) → (later : List ℕ) →
-        ((g : Head) (es : List Said) (t : State ℕ ℕ) (d : Context) → g .key ≡ keyOf (h .region) asl (h .day) id → h .tipo ≡ g .tipo →
+        ((g : Head) (es : List Said) (t : State ℕ ℕ) (d : Context) → keyNumber (g .key) ≡ search.keyOf 91 662 probe → h .tipo ≡ g .tipo →
         take (r .count) evs ≡ eventsIn es → d .room ≡ room siad (length reg) → Stored siad reg t → first (checksOf d (events g es)) t ≡ 0 →
         Stored siad later (next (events g es) t)) →
         length later ≡ length reg → Took 2 c reg a n later
     events-accepted z q later apply-told l =
         accepted 2 a (events (headOf a) (eventsOf a)) (record-2 a) c reg f sound n judged later z
-        (apply-told (headOf a) (eventsOf a) (stateOf siad reg) c (held .key) (held .is-of .tipo) events-are q
+        (apply-told (headOf a) (eventsOf a) (stateOf siad reg) c (sym (held .is-of .key)) (held .is-of .tipo) events-are q
         (sound-stored reg f sound) (sym judged ∙ z))
         l

@@ -2,16 +2,19 @@
 use Prim.Native.Nat.{ℕ, _+_, _≤_, _<_}
 use mathlib.Core.Path.{_≡_, refl, sym, ap, _∙_, subst}
 use mathlib.Core.Bool.{Bool, true, false, cond}
-use mathlib.Core.List.{List}
+use mathlib.Core.List.{List, [], append-nil}
 use native.Mathlib.Omega.{arith}
 use lib.Dec.{eqb}
 use lib.ListN.{length, drop, length-take, length-drop}
-use Rattle.rows.specs.Row.{keyOf, keyNumber, KeyFits}
+use Rattle.rows.specs.Pack.{num}
+use Rattle.rows.specs.Row.{Key, keyFields, keyOf, keyNumber, rowNumber, KeyFits}
+use Rattle.rows.proofs.Table.{key-of}
 use Rattle.markup.specs.Reading.Read.{read}
 use Rattle.markup.specs.Elements.{Tree, element}
 use Rattle.markup.specs.View.{part}
 use Rattle.reading.specs.Many.{belowRoot}
 use Rattle.register.specs.Search as search
+use Rattle.register.proofs.Keys.{probe-key}
 use Rattle.schema.specs.Shape.{faultOf}
 use Rattle.tracks.specs.Track1.{track1}
 use Rattle.tracks.specs.Track2.{track2}
@@ -72,6 +75,10 @@ head-is k a = go (eqb k 1)
     go true = refl
     go false = refl
 
+-- a packed key is found again in the row's first bits
+pub probe-is : (k : Key) (row : List ℕ) → KeyFits k → length row ≡ 91 → num row ≡ rowNumber 91 (keyFields k) → search.keyOf 91 662 row ≡ keyNumber k
+probe-is k row f l e = sym (probe-key 91 662 row l) ∙ key-of row 91 k [] f tt l (omega arith) (e ∙ ap (rowNumber 91) (sym (append-nil (keyFields k))))
+
 -- what the code holds of a head: the key's parts, and the type and the taking in with the probe
 pub record HeadHeld (r : HeadRead) (asl id probe : List ℕ) (h : Head) : Type 0 where
   pub key : h .key ≡ keyOf (r .region) asl (r .day) id
@@ -109,5 +116,9 @@ module _ (s : List ℕ) (top : Six) (r : HeadRead)
     pub key-fits : KeyFits (keyOf (r .region) asl (r .day) id)
     key-fits = subst KeyFits key-is fits
 
-    pub head-held : (probe : List ℕ) → search.keyOf 91 662 probe ≡ keyNumber (keyOf (r .region) asl (r .day) id) → HeadHeld r asl id probe (headOf a)
-    head-held probe e = record { key = key-is; is-of = record { key = e ∙ sym (ap keyNumber key-is); tipo = is-head .tipo; taken = is-head .taken } }
+    pub head-held : (probe : List ℕ) → length probe ≡ 91 → num probe ≡ rowNumber 91 (keyFields (keyOf (r .region) asl (r .day) id)) → HeadHeld r asl id probe (headOf a)
+    head-held probe l e =
+        record {
+          key = key-is;
+          is-of = record { key = probe-is _ probe key-fits l e ∙ sym (ap keyNumber key-is); tipo = is-head .tipo; taken = is-head .taken };
+        }

@@ -2,22 +2,18 @@
 use Prim.Native.Nat.{ℕ, _+_, _≤_}
 use mathlib.Core.Path.{_≡_, sym, ap, _∙_}
 use mathlib.Core.Bool.{true}
-use mathlib.Core.List.{List, [], append-nil}
+use mathlib.Core.List.{List}
 use native.Mathlib.Omega.{arith}
 use lib.ListN.{length}
 use borrow.Author.Tests.{eq-eqb, ne-eqb}
-use Rattle.rows.specs.Pack.{each, num, Fit}
-use Rattle.rows.specs.Row.{Key, keyFields, keyNumber, rowNumber, KeyFits}
-use Rattle.rows.proofs.Table.{key-of}
+use Rattle.rows.specs.Pack.{each, Fit}
 use Rattle.model.specs.Checks.{first}
 use Rattle.model.specs.Flow.{State, machine}
 use Rattle.markup.specs.Elements.{Tree}
 use Rattle.register.specs.Layout.{siad}
 use Rattle.register.specs.Bytes.{rowAt, casesHeld, eventsHeld, stateOf, encode}
-use Rattle.register.specs.Search as search
 use Rattle.register.specs.Sound.{isSound}
 use Rattle.register.specs.Stored.{Stored}
-use Rattle.register.proofs.Keys.{probe-key}
 use Rattle.soundness.proofs.Deciding.{sound-told}
 use Rattle.tracks.specs.Record.{Record, recordOf}
 use Rattle.checks.specs.Flow.{next}
@@ -29,10 +25,6 @@ use Rattle.intake.proofs.SoundBytes.{sound-stored}
 -- the rows of a sound register lie within it
 pub rows-within : (reg : List ℕ) → isSound reg ≡ true → (4 ≤ length reg) × (rowAt siad (casesHeld reg + eventsHeld reg) ≤ length reg)
 rows-within reg h = let s = sound-told reg h in let a = s .long in let b = s .few in (a, omega arith)
-
--- a packed key is found again in the row's first bits
-pub probe-is : (k : Key) (row : List ℕ) → KeyFits k → length row ≡ 91 → num row ≡ rowNumber 91 (keyFields k) → search.keyOf 91 662 row ≡ keyNumber k
-probe-is k row f l e = sym (probe-key 91 662 row l) ∙ key-of row 91 k [] f tt l (omega arith) (e ∙ ap (rowNumber 91) (sym (append-nil (keyFields k))))
 
 module _ (k : ℕ) (a : Tree) (r : Record) (is : recordOf k a ≡ r) (c : Context) (before : List ℕ) (f : Fit (each 8 before)) (sound : isSound before ≡ true) (n : ℕ)
     (judged : n ≡ first (checksOf c r) (stateOf siad before)) where

@@ -9,12 +9,13 @@ ghost use Rattle.register.specs.Layout.{siad};
 ghost use Rattle.register.specs.Sound.{isSound};
 ghost use Rattle.judge.specs.View.{contextIn};
 ghost use Rattle.intake.specs.Taking.{Here, Took};
-use crate::probe::probe_of;
 use apply::apply_case;
 use judge::Limits;
 use judge::judge::judge_admission;
 use markup::bytes::part;
 use nodes::Six;
+use register::layout::ROW;
+use rows::pack::pack_key;
 use tracks::record::admission;
 use tracks::record::head;
 
@@ -27,7 +28,8 @@ pub fn take_admission(t: &[u32; 2400], l: Limits, s: &[u8], top: Six, reg: &mut 
     let a = admission(s, top);
     let asl = part(s, h.asl, h.asl + 3);
     let id = part(s, h.id, h.id + 88);
-    let probe = probe_of(h.region, asl, h.day, id);
+    let mut probe = [0u8; ROW];
+    pack_key(&mut probe, h.region, asl, h.day, id);
     let main = a.prevalente;
     let scales = a.scales;
     let answer = judge_admission(
@@ -48,6 +50,7 @@ pub fn take_admission(t: &[u32; 2400], l: Limits, s: &[u8], top: Six, reg: &mut 
         apply_case(
             reg,
             h.tipo,
+            &probe,
             h.region,
             asl,
             h.day,

@@ -9,12 +9,13 @@ ghost use Rattle.register.specs.Layout.{siad};
 ghost use Rattle.register.specs.Sound.{isSound};
 ghost use Rattle.judge.specs.View.{contextIn};
 ghost use Rattle.intake.specs.Taking.{Here, Took};
-use crate::probe::probe_of;
 use apply::apply_events;
 use judge::Limits;
 use judge::judge::judge_events;
 use markup::bytes::part;
 use nodes::Six;
+use register::layout::ROW;
+use rows::pack::pack_key;
 use tracks::events::events;
 use tracks::record::head;
 
@@ -29,7 +30,8 @@ pub fn take_events(t: &[u32; 2400], l: Limits, s: &[u8], top: Six, reg: &mut [u8
     let n = said.count;
     let asl = part(s, h.asl, h.asl + 3);
     let id = part(s, h.id, h.id + 88);
-    let probe = probe_of(h.region, asl, h.day, id);
+    let mut probe = [0u8; ROW];
+    pack_key(&mut probe, h.region, asl, h.day, id);
     let answer = judge_events(
         reg,
         l,
@@ -41,7 +43,7 @@ pub fn take_events(t: &[u32; 2400], l: Limits, s: &[u8], top: Six, reg: &mut [u8
         said.zero_prevalente,
     );
     if answer == 0 {
-        apply_events(reg, h.tipo, h.region, asl, h.day, id, &evs[..n]);
+        apply_events(reg, h.tipo, &probe, &evs[..n]);
     }
     answer
 }

@@ -1,7 +1,6 @@
 // A file taken into a register (document 01, "Answers for a file").
 pub mod admission;
 pub mod events;
-pub mod probe;
 pub mod record;
 pub mod records;
 pub mod submit;

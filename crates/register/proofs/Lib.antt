@@ -15,3 +15,7 @@ pub mod Every
 pub mod Walks
 pub mod Ascending
 pub mod SoundLaws
+pub mod Gaps
+pub mod NewRow
+pub mod GapRows
+pub mod GoneRow

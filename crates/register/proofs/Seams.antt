@@ -1,11 +1,12 @@
 -- A part of a list that is lent and comes back, where the list is written as lists one after the other.
-use Prim.Native.Nat.{ℕ, _+_, _-_, _≤_}
+use Prim.Native.Nat.{ℕ, _+_, _-_, _*_, _≤_, _<_}
 use mathlib.Core.Path.{_≡_, sym, ap, ap₂, _∙_}
 use mathlib.Core.List.{List, [], _++_, append-assoc, append-nil}
 use native.Mathlib.Omega.{arith}
-use lib.ListN.{length, take, drop, replicate, length-append, length-drop, length-replicate, length-take, drop-of-length-le, replicate-append-replicate}
-use lib.Seq.{take-at, drop-at}
+use lib.ListN.{length, take, drop, replicate, length-append, length-drop, length-replicate, replicate-append-replicate, take-append-drop}
+use lib.Seq.{take-at, drop-at, take-take, length-take-le}
 use borrow.Rule.Slice.PartMut.{putMid}
+use Rattle.register.specs.Gap.{openedWide}
 use Rattle.register.specs.Moves.{onPart, openedBy, closedUp}
 
 module _ (x y z : List ℕ) (a k : ℕ) (e : length x ≡ a) (f : length y ≡ k) where
@@ -81,14 +82,31 @@ shifts-closed w p q z h e f =
     ∙ put-seam x y [] (length q - w) (length q - (length q - w)) a k z
     ∙ ap (λ (l : List ℕ). x ++ l) (append-nil z ∙ fz)
 
--- a row written over the part that it fills
-pub row-over : (a w : ℕ) (reg row last : List ℕ) → length row ≡ w → last ≡ row ++ drop (length row) (take (a + w - a) (drop a reg))
-    → putMid a (a + w - a) reg last ≡ onPart (λ p. row) a w reg
-unfolding onPart
-row-over a w reg row last e f =
-    let k : a + w - a ≡ w = omega arith in
-    let h : length (take w (drop a reg)) ≤ length row = rw (length-take, e) (omega arith) in
-    let n : drop (length row) (take (a + w - a) (drop a reg)) ≡ []
-    = ap (λ (j : ℕ). drop (length row) (take j (drop a reg))) k ∙ drop-of-length-le (take w (drop a reg)) h in
-    let g : last ≡ row = f ∙ ap (λ (l : List ℕ). row ++ l) n ∙ append-nil row in
-    ap₂ (λ (l : List ℕ) (j : ℕ). take a reg ++ (l ++ drop j (drop a reg))) g k
+-- the shift by w, and then a row over the first w bytes
+pub shifts-opened : (w : ℕ) (p q z row : List ℕ) → w ≤ length p → length row ≡ w → q ≡ take w p ++ take (length p - w) p → z ≡ row
+    → z ++ drop w q ≡ openedBy row p
+unfolding openedBy
+shifts-opened w p q z row h er e f =
+    ap₂ (λ (x y : List ℕ). x ++ drop w y) f e
+    ∙ ap (λ (l : List ℕ). row ++ l) (drop-at (take w p) (take (length p - w) p) w (length-take-le w p h))
+    ∙ ap (λ (k : ℕ). row ++ take (length p - k) p) (sym er)
+
+-- the shift by j rows, and then a row over the last of the j in front
+pub shifts-wide : (w j : ℕ) (p q z row : List ℕ) → 0 < j → w * j ≤ length p → q ≡ take (w * j) p ++ take (length p - w * j) p → z ≡ row
+    → putMid (w * j - w) (w * j - (w * j - w)) q z ≡ openedWide w j row p
+unfolding openedWide
+shifts-wide w j p q z row h l e f =
+    let x : List ℕ = take (w * (j - 1)) p in
+    let y : List ℕ = drop (w * (j - 1)) (take (w * j) p) in
+    let t : List ℕ = take (length p - w * j) p in
+    let n : j ≡ j - 1 + 1 = omega arith in
+    let m : w * j ≡ w * (j - 1 + 1) = ap (λ (i : ℕ). w * i) n in
+    let a : w * (j - 1) ≡ w * j - w = omega arith in
+    let lx : length x ≡ w * j - w = length-take-le (w * (j - 1)) p (omega arith) ∙ a in
+    let ly : length y ≡ w * j - (w * j - w) = length-drop (w * (j - 1)) (take (w * j) p) ∙ ap₂ _-_ (length-take-le (w * j) p l) a in
+    let s : take (w * j) p ≡ x ++ y
+    = sym (take-append-drop (w * (j - 1)) (take (w * j) p)) ∙ ap (λ (u : List ℕ). u ++ y) (take-take (w * (j - 1)) (w * j) p (omega arith)) in
+    let eq : q ≡ x ++ (y ++ t) = e ∙ ap (λ (u : List ℕ). u ++ t) s ∙ append-assoc x y t in
+    ap (λ (u : List ℕ). putMid (w * j - w) (w * j - (w * j - w)) u z) eq
+    ∙ put-seam x y t (w * j - w) (w * j - (w * j - w)) lx ly z
+    ∙ ap (λ (u : List ℕ). x ++ (u ++ t)) f

@@ -29,7 +29,7 @@ zero-run (suc n) = zero-run n
 
 -- past its rows an encoding is zero
 module _ (l : Layout) (n : ℕ) (s : State ℕ ℕ) where
-  past-rows : drop (used l s) (encode l n s) ≡ replicate (n - used l s) 0
+  pub past-rows : drop (used l s) (encode l n s) ≡ replicate (n - used l s) 0
   unfolding encode
   past-rows =
       let x : List ℕ = digits 2 (length (s .cases)) ++ digits 2 (length (s .events)) in

@@ -9,22 +9,20 @@ use lib.Dec.{leb}
 use lib.ListN.{length}
 use borrow.Author.Tests.{leb-true, le-leb, le-ltb}
 use Rattle.laws.proofs.Truth.{and-left, and-right}
-use Rattle.rows.specs.Pack.{each, Fit}
 use Rattle.model.specs.Flow.{State, empty}
 use Rattle.register.specs.Layout.{Layout}
 use Rattle.register.specs.Bytes.{casesHeld, eventsHeld}
 use Rattle.register.specs.Calls.{emptied}
 use Rattle.register.specs.Stored.{Laid, Stored, Group, cases, events, rowsOf}
-use Rattle.register.specs.Storing.{Put, Dropped}
-use Rattle.register.specs.OnBytes.{PutDone, DropDone}
-use Rattle.register.specs.OnBytes.PutDone.{unfit, full, over, new}
+use Rattle.register.specs.Storing.{Dropped}
+use Rattle.register.specs.OnBytes.{DropDone}
 use Rattle.register.specs.OnBytes.DropDone.{misfit, absent, gone}
 use Rattle.register.specs.View.{groupOf, rowsBy}
 use Rattle.register.specs.declared.store.Part.{Part}
 use Rattle.register.specs.declared.store.Rows.{Rows}
 use Rattle.register.proofs.States.{cases-held, events-held, stored-empty}
 use Rattle.register.proofs.Changes.{countAt, startOf}
-use Rattle.register.proofs.Storing.{put-done, drop-done, key-number}
+use Rattle.register.proofs.Storing.{drop-done, key-number}
 
 -- ---- room for n rows, as the code asks for it
 
@@ -64,22 +62,6 @@ module _ (g : Group) (a : List ℕ) (x : Rows) (hx : 4 ≤ length a → x ≡ ro
       go events d = d
 
   module _ (w k : ℕ) (row b : List ℕ) (ok : Bool) (len : length b ≡ length a) where
-    pub put-is : length row ≡ w → Fit (each 8 row) → PutDone w k (x .at) (x .lo) (x .hi) (x .n) row a b ok → Put g w k row a b ok
-    put-is er f done =
-        record {
-          holds = λ l lay ew ek s h.
-              put-done l lay g a s h row (er ∙ sym ew) f b ok len
-              (rw (ek, ew) (in-state (λ at lo hi n. PutDone w k at lo hi n row a b ok) l lay s h done));
-          refused = refuses done;
-          kept = len;
-        }
-      where
-        refuses : PutDone w k (x .at) (x .lo) (x .hi) (x .n) row a b ok → ok ≡ false → b ≡ a
-        refuses (unfit x q r) z = r
-        refuses (full i p t x q r) z = r
-        refuses (over i p t q r) z = absurd (true≢false (sym q ∙ z))
-        refuses (new i p t x y q r) z = absurd (true≢false (sym q ∙ z))
-
     pub drop-is : DropDone w k (x .at) (x .lo) (x .hi) (x .n) row a b ok → Dropped g w k row a b ok
     drop-is done =
         record {

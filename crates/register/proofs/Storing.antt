@@ -18,13 +18,23 @@ use Rattle.register.specs.Bytes.{rowNumber, split, room, rowAt, encode}
 use Rattle.register.specs.Stored.{Laid, Fits, Stored, Group, cases, events, rowsOf, keyBitsOf, restOf, withRows}
 use Rattle.register.specs.Search.{keyOf}
 use Rattle.register.specs.Moves.{inserted, replaced, removed, withCount}
-use Rattle.register.specs.OnBytes.{PutDone, DropDone}
-use Rattle.register.specs.OnBytes.PutDone.{unfit, full, over, new}
+use Rattle.register.specs.OnBytes.{standsAt, PlacedAt, DropDone}
 use Rattle.register.specs.OnBytes.DropDone.{misfit, absent, gone}
 use Rattle.register.proofs.RowBytes.{number-split, split-sizes, fits-append, fits-left, fits-right}
 use Rattle.register.proofs.States.{laid-case, laid-event, room-holds, stored-few, stored-end}
 use Rattle.register.proofs.Changes.{countAt, startOf, afterOf, insert-encode, remove-encode, replace-encode}
 use Rattle.register.proofs.Places.{Apart, Within, apart, within, good-rows, fits-rows}
+
+-- ---- a row put in, by what a search found
+
+-- the counts claim too much; there is no room for one more; the row is written over the one with its key; it is put in
+pub data PutDone (w k at lo hi n : ℕ) (row a b : List ℕ) (r : Bool) : Type 0 where
+  unfit : (n ≤ 4096 → 4 + w * n ≤ length a → ⊥) → r ≡ false → b ≡ a → PutDone w k at lo hi n row a b r
+  full : (i : ℕ) → PlacedAt w k lo hi row a i → standsAt w k hi row a i ≡ false → (n < 4096 → 4 + w * (n + 1) ≤ length a → ⊥) → r ≡ false → b ≡ a →
+      PutDone w k at lo hi n row a b r
+  over : (i : ℕ) → PlacedAt w k lo hi row a i → standsAt w k hi row a i ≡ true → r ≡ true → b ≡ replaced w i row a → PutDone w k at lo hi n row a b r
+  new : (i : ℕ) → PlacedAt w k lo hi row a i → standsAt w k hi row a i ≡ false → n < 4096 → 4 + w * (n + 1) ≤ length a → r ≡ true →
+      b ≡ withCount at (hi - lo + 1) (inserted w i n row a) → PutDone w k at lo hi n row a b r
 
 -- ---- the group's numbers
 

@@ -11,3 +11,4 @@ pub mod Search
 pub mod OnBytes
 pub mod Storing
 pub mod View
+pub mod Gap

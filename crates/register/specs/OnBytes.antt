@@ -1,11 +1,11 @@
--- Storing on bytes, by what a search found: the group is the rows from lo up to hi of n, and its count stands at `at`.
-use Prim.Native.Nat.{ℕ, _+_, _-_, _*_, _≤_, _<_}
+-- Taking a row out on bytes, by what a search found: the group is the rows from lo up to hi of n, and its count stands at `at`.
+use Prim.Native.Nat.{ℕ, _+_, _-_, _*_, _≤_}
 use mathlib.Core.Path.{_≡_}
 use mathlib.Core.Bool.{Bool, true, false, _&&_}
 use mathlib.Core.List.{List}
 use lib.Dec.{eqb, ltb}
 use lib.ListN.{length}
-use Rattle.register.specs.Moves.{inserted, replaced, removed, withCount}
+use Rattle.register.specs.Moves.{removed, withCount}
 use Rattle.register.specs.Search.{keyAt, keyOf, Placed}
 
 -- row i is of the group and has the row's key
@@ -15,15 +15,6 @@ standsAt w k hi row a i = ltb i hi && eqb (keyAt w k a i) (keyOf w k row)
 -- i is the row's place in the group
 abbrev pub PlacedAt : ℕ → ℕ → ℕ → ℕ → List ℕ → List ℕ → ℕ → Type 0
 PlacedAt w k lo hi row a i = Placed (keyAt w k a) (keyOf w k row) lo hi i
-
--- the counts claim too much; there is no room for one more; the row is written over the one with its key; it is put in
-pub data PutDone (w k at lo hi n : ℕ) (row a b : List ℕ) (r : Bool) : Type 0 where
-  unfit : (n ≤ 4096 → 4 + w * n ≤ length a → ⊥) → r ≡ false → b ≡ a → PutDone w k at lo hi n row a b r
-  full : (i : ℕ) → PlacedAt w k lo hi row a i → standsAt w k hi row a i ≡ false → (n < 4096 → 4 + w * (n + 1) ≤ length a → ⊥) → r ≡ false → b ≡ a →
-      PutDone w k at lo hi n row a b r
-  over : (i : ℕ) → PlacedAt w k lo hi row a i → standsAt w k hi row a i ≡ true → r ≡ true → b ≡ replaced w i row a → PutDone w k at lo hi n row a b r
-  new : (i : ℕ) → PlacedAt w k lo hi row a i → standsAt w k hi row a i ≡ false → n < 4096 → 4 + w * (n + 1) ≤ length a → r ≡ true →
-      b ≡ withCount at (hi - lo + 1) (inserted w i n row a) → PutDone w k at lo hi n row a b r
 
 -- the counts claim too much; no row has the key; the row is taken out
 pub data DropDone (w k at lo hi n : ℕ) (probe a b : List ℕ) (r : Bool) : Type 0 where

@@ -1,23 +1,14 @@
--- What storing a row and taking one out do to a register (document 01, "The register"): rows of w bytes, and keys of k bits in the group.
-use Prim.Native.Nat.{ℕ, _+_, _/_, _^_, _<_}
+-- What taking a row out does to a register (document 01, "The register"): rows of w bytes, and keys of k bits in the group.
+use Prim.Native.Nat.{ℕ, _/_, _^_}
 use mathlib.Core.Path.{_≡_}
 use mathlib.Core.Bool.{Bool, true, false}
 use mathlib.Core.List.{List}
 use lib.ListN.{length}
 use Rattle.rows.specs.Pack.{num}
-use Rattle.model.specs.Map.{has, put, del}
+use Rattle.model.specs.Map.{del}
 use Rattle.model.specs.Flow.{State}
 use Rattle.register.specs.Layout.{Layout}
-use Rattle.register.specs.Bytes.{room, split}
 use Rattle.register.specs.Stored.{Laid, Stored, Group, rowsOf, keyBitsOf, restOf, withRows}
-
--- "Varying replaces whole rows": the row stands in its place, where its key stood or there is room for one row more
-pub record Put (g : Group) (w k : ℕ) (row a b : List ℕ) (r : Bool) : Type 0 where
-  pub holds : (l : Layout) → Laid l → l .bytes ≡ w → keyBitsOf g l ≡ k → (s : State ℕ ℕ) → Stored l a s →
-      (has (num row / 2 ^ restOf g l) (rowsOf g s) ≡ false → length (s .cases) + length (s .events) < room l (length a)) →
-      (r ≡ true) × Stored l b (withRows g (put (split (restOf g l) (num row)) (rowsOf g s)) s)
-  pub refused : r ≡ false → b ≡ a
-  pub kept : length b ≡ length a
 
 -- the row with the probe's key is gone, if it stood
 pub record Dropped (g : Group) (w k : ℕ) (probe a b : List ℕ) (r : Bool) : Type 0 where

@@ -5,6 +5,16 @@ pub const CASE_KEY: usize = 662;
 
 pub const EVENT_KEY: usize = 681;
 
+// What an event's key has after its case's, kind and date; the event's other bits stand behind it; no own key is so large.
+pub const OWN_KEY: usize = 19;
+
+pub const PAST_OWN: usize = 33;
+
+pub const OWN_KEYS: u64 = 524288;
+
+// No register has more rows.
+pub const MOST: usize = 4096;
+
 pub const REGION: usize = 0;
 
 pub const ASL: usize = 8;

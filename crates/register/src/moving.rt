@@ -1,12 +1,12 @@
-// Rows of w bytes moved in, over and out. The register's part from a row on is lent to the moves: earlier rows are untouched by construction.
+// A part of the register moved on, moved back and cleared. It is lent from a row on: earlier rows are untouched by construction.
 ghost use mathlib.Core.Path.{_≡_};
 ghost use mathlib.Core.List.{_++_};
 ghost use Prim.Native.Nat.{_+_, _-_, _*_, _≤_, _<_};
 ghost use lib.ListN.{length, take, drop, replicate};
-ghost use Rattle.register.specs.Moves.{openedBy, closedUp, inserted, replaced, removed};
+ghost use Rattle.register.specs.Moves.{closedUp, removed};
 
 // Moves each byte of the part w places on; the last w go, and the first w stay.
-fn shift_right(part: &mut [u8], w: usize)
+pub fn shift_right(part: &mut [u8], w: usize)
     requires { ⌜ w ≤ length (now part) ⌝ }
     ensures { λ _. ⌜ now (part .exit) ≡ take w (now (part .entry)) ++ take (length (now (part .entry)) - w) (now (part .entry)) ⌝ }
 {
@@ -17,8 +17,20 @@ fn shift_right(part: &mut [u8], w: usize)
     }
 }
 
+// The same by j rows of w bytes. One row is a branch of its own: a move by a fixed distance is the C library's, at less than half the instructions.
+pub fn shift_rows(part: &mut [u8], w: usize, j: usize)
+    requires { ⌜ w * j ≤ length (now part) ⌝ }
+    ensures { λ _. ⌜ now (part .exit) ≡ take (w * j) (now (part .entry)) ++ take (length (now (part .entry)) - w * j) (now (part .entry)) ⌝ }
+{
+    if j == 1 {
+        shift_right(part, w);
+    } else {
+        shift_right(part, w * j);
+    }
+}
+
 // Writes the row over the part's first bytes.
-fn put_row(part: &mut [u8], row: &[u8])
+pub fn put_row(part: &mut [u8], row: &[u8])
     requires { ⌜ length (now row) ≤ length (now part) ⌝ }
     ensures { λ _. ⌜ now (part .exit) ≡ now (row .entry) ++ drop (length (now (row .entry))) (now (part .entry)) ⌝ }
 {
@@ -27,15 +39,6 @@ fn put_row(part: &mut [u8], row: &[u8])
         part[i] = row[i];
         i += 1;
     }
-}
-
-// The row, and then the part's own bytes without as many at the end. The shift's width is w, a constant where the caller's is.
-fn open_row(part: &mut [u8], w: usize, row: &[u8])
-    requires { ⌜ (w ≤ length (now part)) × (length (now row) ≡ w) ⌝ }
-    ensures { λ _. ⌜ now (part .exit) ≡ openedBy (now (row .entry)) (now (part .entry)) ⌝ }
-{
-    shift_right(part, w);
-    put_row(part, row);
 }
 
 // Moves each byte of the part w places back; the first w go, and the last w stay.
@@ -72,24 +75,16 @@ fn close_row(part: &mut [u8], w: usize)
     clear(&mut part[end..]);
 }
 
-// A row in front of row i of n. The header stays.
-pub fn insert_row(reg: &mut [u8], w: usize, i: usize, n: usize, row: &[u8])
-    requires { ⌜ (i ≤ n) × (n < 131072) × (4 + w * (n + 1) ≤ length (now reg)) × (length (now row) ≡ w) ⌝ }
-    ensures { λ _. ⌜ now (reg .exit) ≡ inserted w i n (now (row .entry)) (now (reg .entry)) ⌝ }
+// The same by j rows of w bytes, with a branch for one row as above.
+pub fn close_rows(part: &mut [u8], w: usize, j: usize)
+    requires { ⌜ w * j ≤ length (now part) ⌝ }
+    ensures { λ _. ⌜ now (part .exit) ≡ closedUp (w * j) (now (part .entry)) ⌝ }
 {
-    let from = 4 + w * i;
-    let to = 4 + w * (n + 1);
-    open_row(&mut reg[from..to], w, row);
-}
-
-// A row over row i.
-pub fn replace_row(reg: &mut [u8], w: usize, i: usize, row: &[u8])
-    requires { ⌜ (4 + w * (i + 1) ≤ length (now reg)) × (length (now row) ≡ w) ⌝ }
-    ensures { λ _. ⌜ now (reg .exit) ≡ replaced w i (now (row .entry)) (now (reg .entry)) ⌝ }
-{
-    let from = 4 + w * i;
-    let to = from + w;
-    put_row(&mut reg[from..to], row);
+    if j == 1 {
+        close_row(part, w);
+    } else {
+        close_row(part, w * j);
+    }
 }
 
 // Row i of n goes, and zeros come in behind the others. The header stays.

@@ -5,9 +5,11 @@ ghost use Prim.Native.Nat.{_+_, _*_, _≤_, _<_};
 ghost use lib.Dec.{ltb, eqb};
 ghost use lib.ListN.{length};
 ghost use Rattle.rows.specs.Ordering.{orderOf};
+ghost use Rattle.register.specs.Gap.{fieldIn};
 ghost use Rattle.register.specs.Search.{keyAt, keyOf, Placed, Ranged};
 use rows::reader::Order;
 use rows::reader::compare;
+use rows::reader::get;
 
 // How the key of row i stands to the probe's.
 pub fn compare_row(reg: &[u8], w: usize, i: usize, probe: &[u8], kbits: usize) -> Order
@@ -88,4 +90,32 @@ pub fn case_range(reg: &[u8], w: usize, lo: usize, hi: usize, probe: &[u8], kbit
     let a = place(reg, w, lo, hi, probe, kbits, 0);
     let e = place(reg, w, a, hi, probe, kbits, 1);
     Span { lo: a, hi: e }
+}
+
+// The `wide` bits after the first `at` of row i.
+pub fn field_in(reg: &[u8], w: usize, i: usize, at: usize, wide: usize) -> u64
+    requires { ⌜ (4 + w * (i + 1) ≤ length (now reg)) × (wide ≤ 56) × (at + wide ≤ 8 * w) ⌝ }
+    ensures { λ r. ⌜ r ≡ fieldIn w at wide (now (reg .entry)) i ⌝ }
+{
+    let from = 4 + w * i;
+    let to = from + w;
+    get(&reg[from..to], at, wide)
+}
+
+// The first row from lo up to hi whose `wide` bits after the first `at` are not below v, or hi.
+pub fn place_by(reg: &[u8], w: usize, lo: usize, hi: usize, at: usize, wide: usize, v: u64) -> usize
+    requires { ⌜ (lo ≤ hi) × (4 + w * hi ≤ length (now reg)) × (wide ≤ 56) × (at + wide ≤ 8 * w) ⌝ }
+    ensures { λ r. ⌜ Placed (fieldIn w at wide (now (reg .entry))) v lo hi r ⌝ }
+{
+    let mut a = lo;
+    let mut e = hi;
+    while a < e {
+        let mid = a + (e - a) / 2;
+        if field_in(reg, w, mid, at, wide) < v {
+            a = mid + 1;
+        } else {
+            e = mid;
+        }
+    }
+    a
 }

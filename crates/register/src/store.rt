@@ -1,4 +1,4 @@
-// Rows stored in a register and taken out again, over rows of w bytes whose keys are their first bits; the header is written with each.
+// Room for rows, a row taken out of its group, and a register emptied, over rows of w bytes whose keys are their first bits.
 ghost use mathlib.Core.Path.{_≡_};
 ghost use mathlib.Core.Bool.{_&&_};
 ghost use Prim.Native.Nat.{_+_, _*_, _≤_, _<_};
@@ -6,15 +6,14 @@ ghost use lib.Dec.{leb};
 ghost use lib.ListN.{length};
 ghost use Rattle.register.specs.Bytes.{casesHeld, eventsHeld};
 ghost use Rattle.register.specs.Calls.{emptied};
-ghost use Rattle.register.specs.OnBytes.{PutDone, DropDone};
-ghost use Rattle.register.specs.Storing.{Put, Dropped};
+ghost use Rattle.register.specs.OnBytes.{DropDone};
+ghost use Rattle.register.specs.Storing.{Dropped};
 ghost use Rattle.register.specs.View.{groupOf, rowsBy, InOrder};
 use crate::counts::count;
 use crate::counts::set_count;
+use crate::layout::MOST;
 use crate::moving::clear;
-use crate::moving::insert_row;
 use crate::moving::remove_row;
-use crate::moving::replace_row;
 use crate::search::place;
 use crate::search::stands;
 
@@ -63,35 +62,14 @@ fn rows_of(reg: &[u8], part: Part) -> Rows
 }
 
 // Whether n rows may stand: at most 4,096, and they end within the register.
-fn room_for(reg: &[u8], w: usize, n: usize) -> bool
+pub fn room_for(reg: &[u8], w: usize, n: usize) -> bool
     requires { ⌜ w ≤ 65536 ⌝ }
     ensures { λ r. ⌜ r ≡ leb n 4096 && leb (4 + w * n) (length (now (reg .entry))) ⌝ }
 {
-    if 4096 < n {
+    if MOST < n {
         return false;
     }
     4 + w * n <= reg.len()
-}
-
-// The row in its place among its group's rows.
-fn put_in(reg: &mut [u8], w: usize, kbits: usize, g: Rows, row: &[u8]) -> bool
-    requires { ⌜ (w ≤ 65536) × (kbits ≤ 8 * w) × (length (now row) ≡ w) × InOrder g ⌝ }
-    ensures { λ r. ⌜ PutDone w kbits (g .at) (g .lo) (g .hi) (g .n) (now (row .entry)) (now (reg .entry)) (now (reg .exit)) r ⌝ }
-{
-    if !room_for(reg, w, g.n) {
-        return false;
-    }
-    let i = place(reg, w, g.lo, g.hi, row, kbits, 0);
-    if stands(reg, w, i, g.hi, row, kbits) {
-        replace_row(reg, w, i, row);
-        return true;
-    }
-    if !room_for(reg, w, g.n + 1) {
-        return false;
-    }
-    insert_row(reg, w, i, g.n, row);
-    set_count(reg, g.at, g.hi - g.lo + 1);
-    true
 }
 
 // The row with the probe's key goes from its group's rows.
@@ -109,15 +87,6 @@ fn drop_in(reg: &mut [u8], w: usize, kbits: usize, g: Rows, probe: &[u8]) -> boo
         return true;
     }
     true
-}
-
-// A row in its place in its group. False, and every byte as it was, where the counts claim too much or there is no room.
-pub fn put(reg: &mut [u8], part: Part, w: usize, kbits: usize, row: &[u8]) -> bool
-    requires { ⌜ (w ≤ 65536) × (kbits ≤ 8 * w) × (length (now row) ≡ w) ⌝ }
-    ensures { λ r. ⌜ Put (groupOf part) w kbits (now (row .entry)) (now (reg .entry)) (now (reg .exit)) r ⌝ }
-{
-    let g = rows_of(reg, part);
-    put_in(reg, w, kbits, g, row)
 }
 
 // The row with the probe's key goes from its group, if it stands.

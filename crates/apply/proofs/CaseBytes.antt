@@ -1,0 +1,112 @@
+-- A case's row in bytes, and the case put in or taken out.
+use Prim.Native.Nat.{ℕ, _+_, _-_, _*_, _/_, _^_, _≤_, _<_}
+use mathlib.Core.Path.{_≡_, refl, sym, ap, ap₂, subst, _∙_}
+use mathlib.Core.Bool.{Bool, true, false, _&&_}
+use mathlib.Core.List.{List, _++_}
+use native.Mathlib.Nat.{zero-add}
+use native.Mathlib.Omega.{arith}
+use lib.Dec.{ltb, eqb, leb}
+use lib.ListN.{length}
+use lib.Pow.{shl-lt}
+use Rattle.rows.specs.Pack.{num, packs, width, each, Fit}
+use Rattle.rows.specs.Row.{Key, Case, rowBytes, keyBits, keyFields, caseFields, keyNumber, rowNumber, KeyFits, CaseFits}
+use Rattle.rows.proofs.Bytes.{digits-length, digits-fit, num-digits, bytes-are}
+use Rattle.rows.proofs.Packing.{width-append, fit-append, packs-lt}
+use Rattle.rows.proofs.Table.{key-width, case-width, key-fit, case-fit}
+use Rattle.model.specs.Map.{Row, del}
+use Rattle.register.specs.Layout.{siad, caseRest}
+use Rattle.register.specs.Bytes.{casesHeld, eventsHeld, split}
+use Rattle.register.specs.Moves.{inserted, replaced, withCount}
+use Rattle.register.specs.Search.{keyAt, keyOf, Placed}
+use Rattle.register.specs.Stored.{Stored, cases, withRows}
+use Rattle.register.specs.Storing.{Dropped}
+use Rattle.register.proofs.Halving.{at-key}
+use Rattle.register.proofs.States.{laid-siad, cases-held, events-held}
+use Rattle.register.proofs.Storing.{PutDone, put-done, key-number}
+use Rattle.register.proofs.Storing.PutDone.{unfit, full, over, new}
+use Rattle.register.proofs.Stores.{room-denied}
+use Rattle.checks.specs.Flow.{caseRow}
+use Rattle.apply.specs.Changes.{Changed}
+use Rattle.apply.specs.RowBytes.{caseBytes}
+use Rattle.apply.proofs.RowsPacked.{case-row}
+
+-- as long as a row
+pub case-length : (k : Key) (d : Case) → length (caseBytes k d) ≡ rowBytes
+case-length k d = digits-length rowBytes (rowNumber rowBytes (keyFields k ++ caseFields d))
+
+module _ (k : Key) (d : Case) (fk : KeyFits k) (fd : CaseFits d) where
+  abbrev row : List ℕ
+  row = caseBytes k d
+
+  whole : width (keyFields k ++ caseFields d) ≡ 721
+  whole = omega (arith, width-append (keyFields k) (caseFields d), key-width k fk, case-width d fd)
+
+  row-number : num row ≡ rowNumber rowBytes (keyFields k ++ caseFields d)
+  row-number =
+      let fs = keyFields k ++ caseFields d in
+      let h : packs fs 0 < 2 ^ 721 = rw whole at (packs-lt fs (fit-append (keyFields k) (caseFields d) (key-fit k fk) (case-fit d fd))) in
+      let p : 2 ^ 7 ≡ 2 ^ (728 - width fs) = ap (λ (z : ℕ). 2 ^ (728 - z)) (sym whole) in
+      num-digits rowBytes (rowNumber rowBytes fs) (subst (λ (z : ℕ). packs fs 0 * z < 2 ^ 728) p (shl-lt 721 7 h))
+
+  pub case-split : split (caseRest siad) (num row) ≡ caseRow k d
+  case-split = case-row k d row fk fd row-number
+
+  pub case-key : keyOf rowBytes keyBits row ≡ keyNumber k
+  case-key = key-number cases siad row ∙ ap (λ (r : Row ℕ). r .key) case-split
+
+  -- the bytes that were packed over a row
+  pub case-packed : (b : List ℕ) (n : ℕ) → Fit (each 8 b) → length b ≡ rowBytes → n ≡ rowBytes → num b ≡ rowNumber n (keyFields k ++ caseFields d) → b ≡ row
+  case-packed b n f l e x = bytes-are b rowBytes (rowNumber rowBytes (keyFields k ++ caseFields d)) f l (x ∙ ap (λ (z : ℕ). rowNumber z (keyFields k ++ caseFields d)) e)
+
+  module _ (probe : List ℕ) (ep : keyOf rowBytes keyBits probe ≡ keyNumber k) where
+    same-key : keyOf rowBytes keyBits probe ≡ keyOf rowBytes keyBits row
+    same-key = ep ∙ sym case-key
+
+    pub case-gone : (out : Bool) (a b : List ℕ) (r : Bool) → out ≡ true → Dropped cases rowBytes keyBits probe a b r → Changed cases keyBits out row a b
+    case-gone out a b r o x =
+        let e : num probe / 2 ^ caseRest siad ≡ num row / 2 ^ caseRest siad
+        = sym (key-number cases siad probe) ∙ same-key ∙ key-number cases siad row in
+        subst (λ (z : Bool). Changed cases keyBits z row a b) (sym o)
+        (record {
+          holds = λ q s h w. subst (λ (z : ℕ). Stored siad b (withRows cases (del z (s .cases)) s)) e (x .holds siad laid-siad refl q s h .1);
+          kept = x .kept;
+        })
+
+    module _ (a : List ℕ) (c v : ℕ) (hc : c ≡ casesHeld a) (hv : v ≡ eventsHeld a) where
+      done : (b : List ℕ) (r : Bool) → length b ≡ length a → PutDone 91 662 0 0 c (c + v) row a b r → Changed cases keyBits false row a b
+      done b r len x =
+          record {
+            holds = λ q s st ready.
+                let ec : c ≡ 0 + length (s .cases) = hc ∙ cases-held siad laid-siad a s st ∙ sym (zero-add (length (s .cases))) in
+                let en : c + v ≡ length (s .cases) + length (s .events) = ap₂ _+_ (hc ∙ cases-held siad laid-siad a s st) (hv ∙ events-held siad laid-siad a s st) in
+                put-done siad laid-siad cases a s st row (case-length k d) (digits-fit 91 (rowNumber rowBytes (keyFields k ++ caseFields d))) b r len
+                (subst (λ (z : ℕ). PutDone 91 662 0 0 z (length (s .cases) + length (s .events)) row a b r) ec
+                (subst (λ (z : ℕ). PutDone 91 662 0 0 c z row a b r) en x))
+                (ready refl) .1;
+            kept = len;
+          }
+
+      pub case-misfits : (t : Bool) → t ≡ (leb (c + v) 4096 && leb (4 + 91 * (c + v)) (length a)) → t ≡ false → Changed cases keyBits false row a a
+      case-misfits t x f = done a false refl (unfit (room-denied 91 (c + v) (length a) t x f) refl refl)
+
+      module _ (i : ℕ) (pl : Placed (keyAt 91 662 a) (keyOf 91 662 probe + 0) 0 c i) (st : Bool) (es : st ≡ (ltb i c && eqb (keyAt 91 662 a i) (keyOf 91 662 probe))) where
+        place : Placed (keyAt 91 662 a) (keyOf 91 662 row) 0 c i
+        place = subst (λ (z : ℕ). Placed (keyAt 91 662 a) z 0 c i) same-key (at-key (keyAt 91 662 a) (keyOf 91 662 probe) 0 c i pl)
+
+        stand : (t : Bool) → st ≡ t → (ltb i c && eqb (keyAt 91 662 a i) (keyOf 91 662 row)) ≡ t
+        stand t e = ap (λ (z : ℕ). ltb i c && eqb (keyAt 91 662 a i) z) (sym same-key) ∙ sym es ∙ e
+
+        pub case-over : st ≡ true → (b : List ℕ) → length b ≡ length a → b ≡ replaced 91 i row a → Changed cases keyBits false row a b
+        case-over e b len x = done b true len (over i place (stand true e) refl x)
+
+        pub case-full : st ≡ false → (t : Bool) → t ≡ (leb (c + v + 1) 4096 && leb (4 + 91 * (c + v + 1)) (length a)) → t ≡ false → Changed cases keyBits false row a a
+        case-full e t x f = done a false refl (full i place (stand false e) (λ p q. room-denied 91 (c + v + 1) (length a) t x f (omega arith) q) refl refl)
+
+        pub case-new : st ≡ false → (b : List ℕ) → length b ≡ length a → c + v + 1 ≤ 4096 → 4 + 91 * (c + v + 1) ≤ length a →
+            b ≡ withCount 0 (c + 1) (inserted 91 i (c + v) row a) → Changed cases keyBits false row a b
+        case-new e b len few fits x =
+            let z : c + 1 ≡ c - 0 + 1 = omega arith in
+            done b true len (new i place (stand false e) (omega arith) fits refl (x ∙ ap (λ (y : ℕ). withCount 0 y (inserted 91 i (c + v) row a)) z))
+
+pub case-short : (row a : List ℕ) → length a < 4 → Changed cases keyBits false row a a
+case-short row a h = record { holds = λ q s st o. absurd (omega (arith, st .long)); kept = refl }

@@ -1,0 +1,21 @@
+use mathlib.Core.Path.{_∙_}
+use Rattle.rows.proofs.Bytes.{fit-of}
+use Rattle.apply.proofs.EventRows.{event-packed}
+use borrow.Author.Needs.{needs}
+use Rattle.apply.proofs.event_row.pack_event.Statement.{statement}
+use Rattle.apply.proofs.event_row.pack_event.Tie as tie
+
+put-row-requires : tie.Need-put-row-requires
+put-row-requires c κs = search needs
+
+set-event-requires : tie.Need-set-event-requires
+set-event-requires c κs = search needs
+
+same-length : tie.Need-same-length
+same-length c = search needs
+
+returns : tie.Need-returns
+returns c = event-packed (c .before .before .before .before .before .before .before .before .before .before .args .probe .now) (c .before .before .before .before .before .before .before .before .before .before .args .out .now) (c .before .before .before .before .before .before .put-row .last .0) (c .before .before .set-event .last .0) (c .before .before .before .before .before .before .before .before .before .before .args .key) _ (c .before .before .before .before .before .before .before .before .before .before .args .e) (c .before .before .before .before .before .before .before .before .before .before .pre .1) (c .before .before .before .before .before .before .before .before .before .before .pre .0) (c .before .before .before .before .before .before .put-row .ensures) (c .before .before .set-event .ensures .0) (c .before .before .set-event .kept .0 ∙ c .before .before .before .before .before .before .put-row .kept .0 ∙ c .before .before .before .before .before .before .before .before .before .before .pre .0) (fit-of 8 (c .before .before .set-event .last .0) (λ i. c .slice-known3 .given i .fits))
+
+pub pack-event-spec : {M : Type 1} → statement M
+pack-event-spec = tie.close (tie.spec put-row-requires set-event-requires same-length returns)

@@ -1,0 +1,25 @@
+-- The rows that a record stores, in bytes (document 01, "The register", the table).
+use Prim.Native.Nat.{ℕ, _+_, _*_, _^_, _<_}
+use mathlib.Core.Path.{_≡_}
+use mathlib.Core.List.{List, _++_}
+use lib.ListN.{length}
+use Rattle.rows.specs.Pack.{digits}
+use Rattle.rows.specs.Row.{Key, Case, rowBytes, keyBits, eventBits, keyFields, caseFields, rowNumber}
+use Rattle.rows.specs.Writer.{soFar, count, Tidy}
+use Rattle.rows.specs.declared.writer.Bits.{Bits}
+
+-- an event's row: the case's key, the event's 52 bits, zero bits
+abbrev pub eventBytes : ℕ → ℕ → List ℕ
+eventBytes k e = digits rowBytes ((k * 2 ^ eventBits + e) * 2 ^ 14)
+
+-- a case's row: its key, its fields, zero bits
+abbrev pub caseBytes : Key → Case → List ℕ
+caseBytes k c = digits rowBytes (rowNumber rowBytes (keyFields k ++ caseFields c))
+
+-- the writer that has written the key k of the probe
+pub record Keyed (probe : List ℕ) (s : Bits) (k : ℕ) : Type 0 where
+  pub tidy : Tidy s
+  pub bits : count s ≡ keyBits
+  pub holds : soFar probe s ≡ k
+  pub small : k < 2 ^ keyBits
+  pub wide : length probe ≡ rowBytes

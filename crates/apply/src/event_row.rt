@@ -1,0 +1,42 @@
+// An event's row: the key that its case's probe holds, then the event.
+ghost use mathlib.Core.Path.{_≡_};
+ghost use Prim.Native.Nat.{_+_, _*_, _^_, _≤_, _<_};
+ghost use lib.ListN.{length};
+ghost use Rattle.rows.specs.Row.{rowBytes, keyBits, eventBits};
+ghost use Rattle.register.specs.Moves.{replaced};
+ghost use Rattle.register.specs.Search.{keyOf};
+ghost use Rattle.apply.specs.RowBytes.{eventBytes, Keyed};
+use register::layout::ROW;
+use register::moving::put_row;
+use rows::writer::Bits;
+
+// The writer behind the probe's key: 82 bytes and 6 bits.
+pub fn key_in(probe: &[u8]) -> Bits
+    requires { ⌜ length (now probe) ≡ rowBytes ⌝ }
+    ensures { λ r. ⌜ Keyed (now (probe .entry)) r (keyOf rowBytes keyBits (now (probe .entry))) ⌝ }
+{
+    Bits {
+        acc: rows::reader::get(probe, 656, 6),
+        have: 6,
+        at: 82,
+    }
+}
+
+// An event's row over a row: the probe's key, then the event.
+pub fn pack_event(out: &mut [u8], probe: &[u8], key: Bits, e: u64)
+    requires { ⌜ (length (now out) ≡ rowBytes) × Keyed (now probe) key (keyOf rowBytes keyBits (now probe)) × (e < 2 ^ eventBits) ⌝ }
+    ensures { λ _. ⌜ now (out .exit) ≡ eventBytes (keyOf rowBytes keyBits (now (probe .entry))) e ⌝ }
+{
+    put_row(out, probe);
+    rows::pack::set_event(out, key, e);
+}
+
+// An event's row over row i.
+pub fn set_row(reg: &mut [u8], i: usize, probe: &[u8], key: Bits, e: u64)
+    requires { ⌜ (4 + rowBytes * (i + 1) ≤ length (now reg)) × Keyed (now probe) key (keyOf rowBytes keyBits (now probe)) × (e < 2 ^ eventBits) ⌝ }
+    ensures { λ _. ⌜ now (reg .exit) ≡ replaced rowBytes i (eventBytes (keyOf rowBytes keyBits (now (probe .entry))) e) (now (reg .entry)) ⌝ }
+{
+    let from = 4 + ROW * i;
+    let to = from + ROW;
+    pack_event(&mut reg[from..to], probe, key, e);
+}

@@ -1,0 +1,47 @@
+// A record's events over those with their keys.
+ghost use mathlib.Core.Path.{_≡_};
+ghost use mathlib.Core.Bool.{true};
+ghost use Prim.Native.Nat.{_^_};
+ghost use lib.Dec.{ltb};
+ghost use lib.ListN.{length};
+ghost use Rattle.laws.specs.Lists.{all};
+ghost use Rattle.rows.specs.Row.{rowBytes, keyBits, eventBits};
+ghost use Rattle.register.specs.Search.{keyOf};
+ghost use Rattle.apply.specs.Events.{AllOver};
+use crate::event_row::key_in;
+use crate::event_row::set_row;
+use register::counts::count;
+use register::layout::CASE_KEY;
+use register::layout::OWN_KEY;
+use register::layout::PAST_OWN;
+use register::layout::ROW;
+use register::search::case_range;
+use register::search::place_by;
+use register::store::room_for;
+
+// The events of a record whose keys all stand (15): each is packed over the row with its key.
+pub fn vary_events(reg: &mut [u8], probe: &[u8], evs: &[u64])
+    requires { ⌜ (length (now probe) ≡ rowBytes) × (all (λ e. ltb e (2 ^ eventBits)) (now evs) ≡ true) ⌝ }
+    ensures { λ _. ⌜ AllOver (keyOf rowBytes keyBits (now (probe .entry))) (now (evs .entry)) (now (reg .entry)) (now (reg .exit)) ⌝ }
+{
+    if reg.len() < 4 {
+        return;
+    }
+    let c = count(reg, 0);
+    let n = c + count(reg, 2);
+    if !room_for(reg, ROW, n) {
+        return;
+    }
+    let key = key_in(probe);
+    let span = case_range(reg, ROW, c, n, probe, CASE_KEY);
+    let lo = span.lo;
+    let hi = span.hi;
+    let mut i = evs.len();
+    while 0 < i {
+        i -= 1;
+        let r = place_by(reg, ROW, lo, hi, CASE_KEY, OWN_KEY, evs[i] >> PAST_OWN);
+        if r < hi {
+            set_row(reg, r, probe, key, evs[i]);
+        }
+    }
+}
