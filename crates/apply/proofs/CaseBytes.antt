@@ -2,17 +2,16 @@
 use Prim.Native.Nat.{ℕ, _+_, _-_, _*_, _/_, _^_, _≤_, _<_}
 use mathlib.Core.Path.{_≡_, refl, sym, ap, ap₂, subst, _∙_}
 use mathlib.Core.Bool.{Bool, true, false, _&&_}
-use mathlib.Core.List.{List, _++_}
+use mathlib.Core.List.{List}
 use native.Mathlib.Nat.{zero-add}
 use native.Mathlib.Omega.{arith}
 use lib.Dec.{ltb, eqb, leb}
 use lib.ListN.{length}
 use lib.Pow.{shl-lt}
-use Rattle.rows.specs.Pack.{num, packs, width, each, Fit}
-use Rattle.rows.specs.Row.{Key, Case, rowBytes, keyBits, keyFields, caseFields, keyNumber, rowNumber, KeyFits, CaseFits}
-use Rattle.rows.proofs.Bytes.{digits-length, digits-fit, num-digits, bytes-are}
-use Rattle.rows.proofs.Packing.{width-append, fit-append, packs-lt}
-use Rattle.rows.proofs.Table.{key-width, case-width, key-fit, case-fit}
+use Rattle.rows.specs.Pack.{num}
+use Rattle.rows.specs.Row.{Case, rowBytes, keyBits, caseBits, caseNumber, CaseFits}
+use Rattle.rows.proofs.Bytes.{digits-length, digits-fit, num-digits}
+use Rattle.rows.proofs.Table.{case-lt}
 use Rattle.model.specs.Map.{Row, del}
 use Rattle.register.specs.Layout.{siad, caseRest}
 use Rattle.register.specs.Bytes.{casesHeld, eventsHeld, split}
@@ -21,44 +20,35 @@ use Rattle.register.specs.Search.{keyAt, keyOf, Placed}
 use Rattle.register.specs.Stored.{Stored, cases, withRows}
 use Rattle.register.specs.Storing.{Dropped}
 use Rattle.register.proofs.Halving.{at-key}
+use Rattle.register.proofs.RowBytes.{number-lt}
 use Rattle.register.proofs.States.{laid-siad, cases-held, events-held}
 use Rattle.register.proofs.Storing.{PutDone, put-done, key-number}
 use Rattle.register.proofs.Storing.PutDone.{unfit, full, over, new}
 use Rattle.register.proofs.Stores.{room-denied}
-use Rattle.checks.specs.Flow.{caseRow}
 use Rattle.apply.specs.Changes.{Changed}
 use Rattle.apply.specs.RowBytes.{caseBytes}
-use Rattle.apply.proofs.RowsPacked.{case-row}
+use Rattle.apply.proofs.RowsPacked.{case-split}
 
 -- as long as a row
-pub case-length : (k : Key) (d : Case) → length (caseBytes k d) ≡ rowBytes
-case-length k d = digits-length rowBytes (rowNumber rowBytes (keyFields k ++ caseFields d))
+pub case-length : (k : ℕ) (d : Case) → length (caseBytes k d) ≡ rowBytes
+case-length k d = digits-length rowBytes ((k * 2 ^ caseBits + caseNumber d) * 2 ^ 7)
 
-module _ (k : Key) (d : Case) (fk : KeyFits k) (fd : CaseFits d) where
+module _ (k : ℕ) (d : Case) (hk : k < 2 ^ keyBits) (fd : CaseFits d) where
   abbrev row : List ℕ
   row = caseBytes k d
 
-  whole : width (keyFields k ++ caseFields d) ≡ 721
-  whole = omega (arith, width-append (keyFields k) (caseFields d), key-width k fk, case-width d fd)
-
-  row-number : num row ≡ rowNumber rowBytes (keyFields k ++ caseFields d)
+  row-number : num row ≡ (k * 2 ^ caseBits + caseNumber d) * 2 ^ 7
   row-number =
-      let fs = keyFields k ++ caseFields d in
-      let h : packs fs 0 < 2 ^ 721 = rw whole at (packs-lt fs (fit-append (keyFields k) (caseFields d) (key-fit k fk) (case-fit d fd))) in
-      let p : 2 ^ 7 ≡ 2 ^ (728 - width fs) = ap (λ (z : ℕ). 2 ^ (728 - z)) (sym whole) in
-      num-digits rowBytes (rowNumber rowBytes fs) (subst (λ (z : ℕ). packs fs 0 * z < 2 ^ 728) p (shl-lt 721 7 h))
+      num-digits rowBytes ((k * 2 ^ caseBits + caseNumber d) * 2 ^ 7)
+      (shl-lt 721 7 (number-lt keyBits caseBits 721 (record { key = k; val = caseNumber d }) refl hk (case-lt d fd)))
 
-  pub case-split : split (caseRest siad) (num row) ≡ caseRow k d
-  case-split = case-row k d row fk fd row-number
+  pub case-is : split (caseRest siad) (num row) ≡ record { key = k; val = caseNumber d * 2 ^ 7 }
+  case-is = case-split k (caseNumber d) (num row) (case-lt d fd) row-number
 
-  pub case-key : keyOf rowBytes keyBits row ≡ keyNumber k
-  case-key = key-number cases siad row ∙ ap (λ (r : Row ℕ). r .key) case-split
+  case-key : keyOf rowBytes keyBits row ≡ k
+  case-key = key-number cases siad row ∙ ap (λ (r : Row ℕ). r .key) case-is
 
-  -- the bytes that were packed over a row
-  pub case-packed : (b : List ℕ) (n : ℕ) → Fit (each 8 b) → length b ≡ rowBytes → n ≡ rowBytes → num b ≡ rowNumber n (keyFields k ++ caseFields d) → b ≡ row
-  case-packed b n f l e x = bytes-are b rowBytes (rowNumber rowBytes (keyFields k ++ caseFields d)) f l (x ∙ ap (λ (z : ℕ). rowNumber z (keyFields k ++ caseFields d)) e)
-
-  module _ (probe : List ℕ) (ep : keyOf rowBytes keyBits probe ≡ keyNumber k) where
+  module _ (probe : List ℕ) (ep : keyOf rowBytes keyBits probe ≡ k) where
     same-key : keyOf rowBytes keyBits probe ≡ keyOf rowBytes keyBits row
     same-key = ep ∙ sym case-key
 
@@ -79,7 +69,7 @@ module _ (k : Key) (d : Case) (fk : KeyFits k) (fd : CaseFits d) where
             holds = λ q s st ready.
                 let ec : c ≡ 0 + length (s .cases) = hc ∙ cases-held siad laid-siad a s st ∙ sym (zero-add (length (s .cases))) in
                 let en : c + v ≡ length (s .cases) + length (s .events) = ap₂ _+_ (hc ∙ cases-held siad laid-siad a s st) (hv ∙ events-held siad laid-siad a s st) in
-                put-done siad laid-siad cases a s st row (case-length k d) (digits-fit 91 (rowNumber rowBytes (keyFields k ++ caseFields d))) b r len
+                put-done siad laid-siad cases a s st row (case-length k d) (digits-fit 91 ((k * 2 ^ caseBits + caseNumber d) * 2 ^ 7)) b r len
                 (subst (λ (z : ℕ). PutDone 91 662 0 0 z (length (s .cases) + length (s .events)) row a b r) ec
                 (subst (λ (z : ℕ). PutDone 91 662 0 0 c z row a b r) en x))
                 (ready refl) .1;

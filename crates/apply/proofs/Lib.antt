@@ -2,7 +2,7 @@ pub mod RowsPacked
 pub mod CaseBytes
 pub mod Merge
 pub mod Growing
-pub mod EventRows
+pub mod Packing
 pub mod Choosing
 pub mod Filling
 pub mod Spot

@@ -1,5 +1,5 @@
 -- What an accepted record leaves in a register: 14, 15, 17 and 22 give what the bytes ask.
-use Prim.Native.Nat.{ℕ, suc, _+_}
+use Prim.Native.Nat.{ℕ, _+_, _*_, _^_}
 use mathlib.Core.Path.{_≡_, refl, sym, ap, ap₂, _∙_, subst}
 use mathlib.Core.Bool.{Bool, true, false, not, _&&_, _||_, true≢false}
 use mathlib.Core.List.{List, [], _∷_}
@@ -10,7 +10,7 @@ use borrow.Author.Tests.{not-false, ltb-false}
 use Rattle.laws.specs.Lists.{all}
 use Rattle.laws.proofs.Truth.{or-right, and-left, and-right}
 use Rattle.rows.specs.Pack.{num}
-use Rattle.rows.specs.Row.{Key, Case, keyBits, keyNumber}
+use Rattle.rows.specs.Row.{Case, keyBits, keyNumber, caseNumber}
 use Rattle.model.specs.Map.{Row, Map, has, put, keep, del, putAll, delAll, anyIn, allIn, twice}
 use Rattle.model.specs.Checks.{first}
 use Rattle.model.specs.Flow.{State, applied}
@@ -53,15 +53,15 @@ case-by cancel r row a b s f x st n15 n17 =
     (subst (λ (z : Row ℕ). Stored siad b (withRows cases (del (z .key) (s .cases)) s)) x (f .holds refl s st (λ o. absurd (true≢false o))))
 
 -- the case's row put in or taken out is the accepted record's next state
-pub case-applied : (a b row : List ℕ) (tipo : ℕ) (k : Key) (d : Case) (out : Bool) → out ≡ isCancel (kindOf tipo) → Changed cases keyBits out row a b →
-    split (caseRest siad) (num row) ≡ caseRow k d →
-    (h : Head) (x : Admission) (s : State ℕ ℕ) (c : Context) → h .key ≡ k → tipo ≡ h .tipo → x .case ≡ d → c .room ≡ room siad (length a) →
+pub case-applied : (a b row : List ℕ) (tipo k : ℕ) (d : Case) (out : Bool) → out ≡ isCancel (kindOf tipo) → Changed cases keyBits out row a b →
+    split (caseRest siad) (num row) ≡ record { key = k; val = caseNumber d * 2 ^ 7 } →
+    (h : Head) (x : Admission) (s : State ℕ ℕ) (c : Context) → keyNumber (h .key) ≡ k → tipo ≡ h .tipo → x .case ≡ d → c .room ≡ room siad (length a) →
     Stored siad a s → first (checksOf c (admission h x)) s ≡ 0 → Stored siad b (next (admission h x) s)
 case-applied a b row tipo k d out o f is h x s c key t case m st e =
     let r : Record = admission h x in
     case-by (kindOf (h .tipo)) (caseRow (h .key) (x .case)) row a b s
     (subst (λ (z : Bool). Changed cases keyBits z row a b) (o ∙ ap (λ (z : ℕ). isCancel (kindOf z)) t) f)
-    (is ∙ ap₂ caseRow (sym key) (sym case)) st (lawful c .not15 s r e)
+    (is ∙ ap₂ (λ (p : ℕ) (q : Case). record { key = p; val = caseNumber q * 2 ^ 7 }) (sym key) (sym case)) st (lawful c .not15 s r e)
     (subst (λ (n : ℕ). isInsert (kindOf (h .tipo)) && ltb n (length (s .cases) + length (s .events) + 1) ≡ false) m (not17 c s r e))
 
 -- ---- Track 2: the events' rows
@@ -88,7 +88,6 @@ module _ (k : ℕ) (evs a b : List ℕ) where
   done-over insert i e f = absurd (true≢false i)
   done-over vary i e f = f
   done-over cancel i e f = absurd (true≢false e)
-
 
   -- 14, 17 and 22 give what an insertion asks, 15 what a variation does, 15 and 22 what a cancellation does
   events-by : (t : Kind) (s : State ℕ ℕ) (rs : Map ℕ) → rowsFor k evs ≡ rs → Done t k evs a b → Stored siad a s →

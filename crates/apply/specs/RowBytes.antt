@@ -1,10 +1,10 @@
 -- The rows that a record stores, in bytes (document 01, "The register", the table).
 use Prim.Native.Nat.{ℕ, _+_, _*_, _^_, _<_}
 use mathlib.Core.Path.{_≡_}
-use mathlib.Core.List.{List, _++_}
+use mathlib.Core.List.{List}
 use lib.ListN.{length}
 use Rattle.rows.specs.Pack.{digits}
-use Rattle.rows.specs.Row.{Key, Case, rowBytes, keyBits, eventBits, keyFields, caseFields, rowNumber}
+use Rattle.rows.specs.Row.{Case, rowBytes, keyBits, caseBits, eventBits, caseNumber}
 use Rattle.rows.specs.Writer.{soFar, count, Tidy}
 use Rattle.rows.specs.declared.writer.Bits.{Bits}
 
@@ -12,9 +12,9 @@ use Rattle.rows.specs.declared.writer.Bits.{Bits}
 abbrev pub eventBytes : ℕ → ℕ → List ℕ
 eventBytes k e = digits rowBytes ((k * 2 ^ eventBits + e) * 2 ^ 14)
 
--- a case's row: its key, its fields, zero bits
-abbrev pub caseBytes : Key → Case → List ℕ
-caseBytes k c = digits rowBytes (rowNumber rowBytes (keyFields k ++ caseFields c))
+-- a case's row: its key, the 59 bits of its fields, zero bits
+abbrev pub caseBytes : ℕ → Case → List ℕ
+caseBytes k c = digits rowBytes ((k * 2 ^ caseBits + caseNumber c) * 2 ^ 7)
 
 -- the writer that has written the key k of the probe
 pub record Keyed (probe : List ℕ) (s : Bits) (k : ℕ) : Type 0 where

@@ -10,18 +10,6 @@ use register::layout::ROW;
 use register::moving::put_row;
 use rows::writer::Bits;
 
-// The writer behind the probe's key: 82 bytes and 6 bits.
-pub fn key_in(probe: &[u8]) -> Bits
-    requires { ⌜ length (now probe) ≡ rowBytes ⌝ }
-    ensures { λ r. ⌜ Keyed (now (probe .entry)) r (keyOf rowBytes keyBits (now (probe .entry))) ⌝ }
-{
-    Bits {
-        acc: rows::reader::get(probe, 656, 6),
-        have: 6,
-        at: 82,
-    }
-}
-
 // An event's row over a row: the probe's key, then the event.
 pub fn pack_event(out: &mut [u8], probe: &[u8], key: Bits, e: u64)
     requires { ⌜ (length (now out) ≡ rowBytes) × Keyed (now probe) key (keyOf rowBytes keyBits (now probe)) × (e < 2 ^ eventBits) ⌝ }

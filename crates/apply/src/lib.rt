@@ -3,6 +3,7 @@ pub mod cancel;
 pub mod case;
 pub mod event_row;
 pub mod insert;
+pub mod key;
 pub mod order;
 pub mod vary;
 
@@ -13,12 +14,12 @@ ghost use Prim.Native.Nat.{ℕ, _*_, _^_, _≤_};
 ghost use lib.Dec.{ltb};
 ghost use lib.ListN.{length};
 ghost use Rattle.laws.specs.Lists.{all};
-ghost use Rattle.rows.specs.Row.{rowBytes, keyBits, eventBits, keyOf, caseOf, keyNumber, KeyFits, CaseFits};
+ghost use Rattle.rows.specs.Row.{rowBytes, keyBits, eventBits, caseOf, keyNumber, CaseFits};
 ghost use Rattle.model.specs.Checks.{first};
 ghost use Rattle.model.specs.Flow.{State};
 ghost use Rattle.register.specs.Bytes.{room};
 ghost use Rattle.register.specs.Layout.{siad};
-ghost use Rattle.register.specs.Search as search;
+ghost use Rattle.register.specs.Search.{keyOf};
 ghost use Rattle.register.specs.Stored.{Stored};
 ghost use Rattle.tracks.specs.Record.{Head, Admission, Said, admission, events};
 ghost use Rattle.checks.specs.Flow.{next};
@@ -34,22 +35,17 @@ use register::layout::CASE_KEY;
 use register::layout::ROW;
 use register::store::Part;
 
-// An accepted record of Track 1: its case's row.
+// An accepted record of Track 1: its case's row, with the key that the probe holds.
 pub fn apply_case(
     reg: &mut [u8],
     tipo: u8,
     probe: &[u8],
-    region: u64,
-    asl: &[u8],
-    day: u64,
-    id: &[u8],
     birth: u64,
     prevalente: &[u8],
     scales: &[u8],
 )
-    requires { ⌜ KeyFits (keyOf region (now asl) day (now id)) × CaseFits (caseOf birth (now prevalente) (now scales)) × (length (now probe) ≡ rowBytes)
-        × (search.keyOf rowBytes keyBits (now probe) ≡ keyNumber (keyOf region (now asl) day (now id))) ⌝ }
-    ensures { λ _. ⌜ ((h : Head) (a : Admission) (s : State ℕ ℕ) (c : Context) → h .key ≡ keyOf region (now (asl .entry)) day (now (id .entry)) → tipo ≡ h .tipo
+    requires { ⌜ (length (now probe) ≡ rowBytes) × CaseFits (caseOf birth (now prevalente) (now scales)) ⌝ }
+    ensures { λ _. ⌜ ((h : Head) (a : Admission) (s : State ℕ ℕ) (c : Context) → keyNumber (h .key) ≡ keyOf rowBytes keyBits (now (probe .entry)) → tipo ≡ h .tipo
         → a .case ≡ caseOf birth (now (prevalente .entry)) (now (scales .entry)) → c .room ≡ room siad (length (now (reg .entry)))
         → Stored siad (now (reg .entry)) s → first (checksOf c (admission h a)) s ≡ 0 → Stored siad (now (reg .exit)) (next (admission h a) s))
         × (length (now (reg .exit)) ≡ length (now (reg .entry))) ⌝ }
@@ -57,14 +53,14 @@ pub fn apply_case(
     if cancels(tipo) {
         register::store::remove(reg, Part::Cases, ROW, CASE_KEY, probe);
     } else {
-        put_case(reg, probe, region, asl, day, id, birth, prevalente, scales);
+        put_case(reg, probe, birth, prevalente, scales);
     }
 }
 
-// An accepted record of Track 2: its events' rows, of the case that the probe holds the key of.
+// An accepted record of Track 2: its events' rows, with the case's key that the probe holds.
 pub fn apply_events(reg: &mut [u8], tipo: u8, probe: &[u8], evs: &[u64])
     requires { ⌜ (length (now probe) ≡ rowBytes) × (all (λ e. ltb e (2 ^ eventBits)) (now evs) ≡ true) ⌝ }
-    ensures { λ _. ⌜ ((h : Head) (es : List Said) (s : State ℕ ℕ) (c : Context) → keyNumber (h .key) ≡ search.keyOf rowBytes keyBits (now (probe .entry))
+    ensures { λ _. ⌜ ((h : Head) (es : List Said) (s : State ℕ ℕ) (c : Context) → keyNumber (h .key) ≡ keyOf rowBytes keyBits (now (probe .entry))
         → tipo ≡ h .tipo → now (evs .entry) ≡ eventsIn es → c .room ≡ room siad (length (now (reg .entry)))
         → Stored siad (now (reg .entry)) s → first (checksOf c (events h es)) s ≡ 0 → Stored siad (now (reg .exit)) (next (events h es) s))
         × (length (now (reg .exit)) ≡ length (now (reg .entry))) ⌝ }

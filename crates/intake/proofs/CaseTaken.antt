@@ -5,7 +5,7 @@ use mathlib.Core.Bool.{true}
 use mathlib.Core.List.{List}
 use lib.ListN.{length, drop}
 use Rattle.rows.specs.Pack.{each, Fit}
-use Rattle.rows.specs.Row.{keyOf, caseOf, CaseFits}
+use Rattle.rows.specs.Row.{keyNumber, caseOf, CaseFits}
 use Rattle.model.specs.Checks.{first}
 use Rattle.model.specs.Flow.{State}
 use Rattle.model.proofs.ChecksLaws.{clear}
@@ -15,6 +15,7 @@ use Rattle.markup.specs.View.{part}
 use Rattle.reading.specs.Many.{belowRoot}
 use Rattle.register.specs.Bytes.{room, stateOf}
 use Rattle.register.specs.Layout.{siad}
+use Rattle.register.specs.Search.{keyOf}
 use Rattle.register.specs.Sound.{isSound}
 use Rattle.register.specs.Stored.{Stored}
 use Rattle.schema.specs.Shape.{faultOf}
@@ -35,7 +36,7 @@ use Rattle.judge.specs.View.{IsOf, IsAdmitted}
 use Rattle.nodes.specs.declared.Six.{Six}
 use Rattle.intake.specs.Taking.{Here, Took}
 use Rattle.intake.proofs.SoundBytes.{sound-stored}
-use Rattle.intake.proofs.RecordRead.{record-1, HeadHeld}
+use Rattle.intake.proofs.RecordRead.{record-1}
 use Rattle.intake.proofs.RecordTaken.{discarded, accepted}
 
 module _ (s : List ℕ) (top : Six) (r : AdmissionRead)
@@ -60,7 +61,7 @@ module _ (s : List ℕ) (top : Six) (r : AdmissionRead)
   abbrev said : Record
   said = admission (headOf a) (admissionOf a)
 
-  module _ (h : HeadRead) (asl id probe : List ℕ) (held : HeadHeld h asl id probe (headOf a))
+  module _ (h : HeadRead) (probe : List ℕ) (held : IsOf probe (h .tipo) (h .day) (headOf a))
       (region home comune stato : List ℕ) (er : region ≡ part s (r .region .start) (r .region .end)) (eh : home ≡ part s (r .asl .start) (r .asl .end))
       (ec : comune ≡ part s (r .comune .start) (r .comune .end)) (es : stato ≡ part s (r .stato .start) (r .stato .end))
       (reg : List ℕ) (f : Fit (each 8 reg)) (sound : isSound reg ≡ true) (c : Context) (n : ℕ)
@@ -78,7 +79,7 @@ module _ (s : List ℕ) (top : Six) (r : AdmissionRead)
         }
 
     judged : n ≡ first (checksOf c said) (stateOf siad reg)
-    judged = judge-told (headOf a) (admissionOf a) (held .is-of) is-admitted sound
+    judged = judge-told (headOf a) (admissionOf a) held is-admitted sound
 
     -- 11 bounds the birth year
     pub case-held : n ≡ 0 → CaseFits (caseOf (r .birth) (r .prevalente) (r .scales))
@@ -91,12 +92,12 @@ module _ (s : List ℕ) (top : Six) (r : AdmissionRead)
     case-discarded z = discarded 1 a said (record-1 a) c reg f sound n judged z
 
     pub case-accepted : n ≡ 0 → c .room ≡ room siad (length reg) → (later : List ℕ) →
-        ((g : Head) (b : Admission) (t : State ℕ ℕ) (d : Context) → g .key ≡ keyOf (h .region) asl (h .day) id → h .tipo ≡ g .tipo →
+        ((g : Head) (b : Admission) (t : State ℕ ℕ) (d : Context) → keyNumber (g .key) ≡ keyOf 91 662 probe → h .tipo ≡ g .tipo →
         b .case ≡ caseOf (r .birth) (r .prevalente) (r .scales) → d .room ≡ room siad (length reg) → Stored siad reg t →
         first (checksOf d (admission g b)) t ≡ 0 → Stored siad later (next (admission g b) t)) →
         length later ≡ length reg → Took 1 c reg a n later
     case-accepted z q later apply-told l =
         accepted 1 a said (record-1 a) c reg f sound n judged later z
-        (apply-told (headOf a) (admissionOf a) (stateOf siad reg) c (held .key) (held .is-of .tipo) case-is q
+        (apply-told (headOf a) (admissionOf a) (stateOf siad reg) c (sym (held .key)) (held .tipo) case-is q
         (sound-stored reg f sound) (sym judged ∙ z))
         l

@@ -18,7 +18,7 @@ use Rattle.markup.specs.Elements.{Tree, element}
 use Rattle.reading.specs.Many.{belowRoot}
 use Rattle.register.specs.Bytes.{room, stateOf}
 use Rattle.register.specs.Layout.{siad}
-use Rattle.register.specs.Search as search
+use Rattle.register.specs.Search.{keyOf}
 use Rattle.register.specs.Sound.{isSound}
 use Rattle.register.specs.Stored.{Stored}
 use Rattle.register.proofs.Every.{and-tell}
@@ -38,7 +38,7 @@ use Rattle.judge.specs.View.{IsOf, IsSaid}
 use Rattle.nodes.specs.declared.Six.{Six}
 use Rattle.intake.specs.Taking.{Here, Took}
 use Rattle.intake.proofs.SoundBytes.{sound-stored}
-use Rattle.intake.proofs.RecordRead.{record-2, HeadHeld}
+use Rattle.intake.proofs.RecordRead.{record-2}
 use Rattle.intake.proofs.RecordTaken.{discarded, accepted}
 
 events-map : (es : List Said) → map (λ e. e .event) es ≡ eventsIn es
@@ -98,23 +98,23 @@ module _ (s : List ℕ) (top : Six) (r : EventsRead) (buffer evs : List ℕ) (wi
   is-said : IsSaid (take (r .count) evs) (r .«bad_conferma») (r .«zero_prevalente») (eventsOf a)
   is-said = record { events = events-are; bad = is-events .bad; zero = is-events .zero }
 
-  module _ (h : HeadRead) (asl id probe : List ℕ) (held : HeadHeld h asl id probe (headOf a))
+  module _ (h : HeadRead) (probe : List ℕ) (held : IsOf probe (h .tipo) (h .day) (headOf a))
       (reg : List ℕ) (f : Fit (each 8 reg)) (sound : isSound reg ≡ true) (c : Context) (n : ℕ)
       (judge-told : (g : Head) (es : List Said) → IsOf probe (h .tipo) (h .day) g → IsSaid (take (r .count) evs) (r .«bad_conferma») (r .«zero_prevalente») es →
       Readable (events g es) → isSound reg ≡ true → n ≡ first (checksOf c (events g es)) (stateOf siad reg)) where
     judged : n ≡ first (checksOf c (events (headOf a) (eventsOf a))) (stateOf siad reg)
-    judged = judge-told (headOf a) (eventsOf a) (held .is-of) is-said readable-2 sound
+    judged = judge-told (headOf a) (eventsOf a) held is-said readable-2 sound
 
     pub events-discarded : (n ≡ 0 → ⊥) → Took 2 c reg a n reg
     events-discarded z = discarded 2 a (events (headOf a) (eventsOf a)) (record-2 a) c reg f sound n judged z
 
     pub events-accepted : n ≡ 0 → c .room ≡ room siad (length reg) → (later : List ℕ) →
-        ((g : Head) (es : List Said) (t : State ℕ ℕ) (d : Context) → keyNumber (g .key) ≡ search.keyOf 91 662 probe → h .tipo ≡ g .tipo →
+        ((g : Head) (es : List Said) (t : State ℕ ℕ) (d : Context) → keyNumber (g .key) ≡ keyOf 91 662 probe → h .tipo ≡ g .tipo →
         take (r .count) evs ≡ eventsIn es → d .room ≡ room siad (length reg) → Stored siad reg t → first (checksOf d (events g es)) t ≡ 0 →
         Stored siad later (next (events g es) t)) →
         length later ≡ length reg → Took 2 c reg a n later
     events-accepted z q later apply-told l =
         accepted 2 a (events (headOf a) (eventsOf a)) (record-2 a) c reg f sound n judged later z
-        (apply-told (headOf a) (eventsOf a) (stateOf siad reg) c (sym (held .is-of .key)) (held .is-of .tipo) events-are q
+        (apply-told (headOf a) (eventsOf a) (stateOf siad reg) c (sym (held .key)) (held .tipo) events-are q
         (sound-stored reg f sound) (sym judged ∙ z))
         l

@@ -76,13 +76,8 @@ head-is k a = go (eqb k 1)
     go false = refl
 
 -- a packed key is found again in the row's first bits
-pub probe-is : (k : Key) (row : List ℕ) → KeyFits k → length row ≡ 91 → num row ≡ rowNumber 91 (keyFields k) → search.keyOf 91 662 row ≡ keyNumber k
+probe-is : (k : Key) (row : List ℕ) → KeyFits k → length row ≡ 91 → num row ≡ rowNumber 91 (keyFields k) → search.keyOf 91 662 row ≡ keyNumber k
 probe-is k row f l e = sym (probe-key 91 662 row l) ∙ key-of row 91 k [] f tt l (omega arith) (e ∙ ap (rowNumber 91) (sym (append-nil (keyFields k))))
-
--- what the code holds of a head: the key's parts, and the type and the taking in with the probe
-pub record HeadHeld (r : HeadRead) (asl id probe : List ℕ) (h : Head) : Type 0 where
-  pub key : h .key ≡ keyOf (r .region) asl (r .day) id
-  pub is-of : IsOf probe (r .tipo) (r .day) h
 
 -- a part that is as long as it was asked for lies within
 within : (s : List ℕ) (at n : ℕ) → 0 < n → length (part s at (at + n)) ≡ n → at + n ≤ length s
@@ -116,9 +111,7 @@ module _ (s : List ℕ) (top : Six) (r : HeadRead)
     pub key-fits : KeyFits (keyOf (r .region) asl (r .day) id)
     key-fits = subst KeyFits key-is fits
 
-    pub head-held : (probe : List ℕ) → length probe ≡ 91 → num probe ≡ rowNumber 91 (keyFields (keyOf (r .region) asl (r .day) id)) → HeadHeld r asl id probe (headOf a)
-    head-held probe l e =
-        record {
-          key = key-is;
-          is-of = record { key = probe-is _ probe key-fits l e ∙ sym (ap keyNumber key-is); tipo = is-head .tipo; taken = is-head .taken };
-        }
+    -- the probe that the key was packed into, the type and the taking in are the record's
+    pub head-held : (probe : List ℕ) → length probe ≡ 91 → num probe ≡ rowNumber 91 (keyFields (keyOf (r .region) asl (r .day) id)) →
+        IsOf probe (r .tipo) (r .day) (headOf a)
+    head-held probe l e = record { key = probe-is _ probe key-fits l e ∙ sym (ap keyNumber key-is); tipo = is-head .tipo; taken = is-head .taken }

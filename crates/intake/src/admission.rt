@@ -47,18 +47,7 @@ pub fn take_admission(t: &[u32; 2400], l: Limits, s: &[u8], top: Six, reg: &mut 
         part(s, a.stato.start, a.stato.end),
     );
     if answer == 0 {
-        apply_case(
-            reg,
-            h.tipo,
-            &probe,
-            h.region,
-            asl,
-            h.day,
-            id,
-            a.birth,
-            &main,
-            &scales,
-        );
+        apply_case(reg, h.tipo, &probe, a.birth, &main, &scales);
     }
     answer
 }

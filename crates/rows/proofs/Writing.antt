@@ -7,11 +7,12 @@ use native.Mathlib.Omega.{arith}
 use lib.ListN.{length, take}
 use lib.Pow.{pow-add, pow-pos}
 use Rattle.rows.specs.Pack.{Field, bits, each, packs, width, Fit, num}
-use Rattle.rows.specs.Row.{eventBits, rowNumber}
+use Rattle.rows.specs.Row.{Case, caseBits, eventBits, caseFields, caseNumber, rowNumber, CaseFits}
 use Rattle.rows.specs.Writer.{soFar, count, Tidy, Wrote, start}
 use Rattle.rows.specs.declared.writer.Bits.{Bits}
-use Rattle.rows.proofs.Packing.{packs-append, packs-high, width-append}
+use Rattle.rows.proofs.Packing.{packs-append, packs-shift, packs-high, width-append}
 use Rattle.rows.proofs.Bytes.{prefix}
+use Rattle.rows.proofs.Table.{case-width}
 
 pub wrote-none : (a : List ℕ) (s : Bits) → Tidy s → Wrote a a s s []
 unfolding packs
@@ -61,6 +62,14 @@ unfolding packs
 event-set a b c s t e n w l f =
     let p : 8 * length b - count t ≡ 8 * n - (count s + eventBits) = omega (arith, w .bits) in
     f ∙ ap₂ (λ (u v : ℕ). u * 2 ^ v) (w .holds) p
+
+-- a case's fields behind what was written, and the rest filled up
+pub case-set : (a b c : List ℕ) (s t : Bits) (d : Case) (n : ℕ) → CaseFits d → Wrote a b s t (caseFields d) → length b ≡ n →
+    num c ≡ soFar b t * 2 ^ (8 * length b - count t) → num c ≡ (soFar a s * 2 ^ caseBits + caseNumber d) * 2 ^ (8 * n - (count s + caseBits))
+case-set a b c s t d n h w l f =
+    let p : 8 * length b - count t ≡ 8 * n - (count s + caseBits) = omega (arith, w .bits, case-width d h) in
+    f ∙ ap₂ (λ (u v : ℕ). u * 2 ^ v)
+    (w .holds ∙ packs-shift (caseFields d) (soFar a s) ∙ ap (λ (z : ℕ). soFar a s * 2 ^ z + caseNumber d) (case-width d h)) p
 
 -- the bytes before the writer's place are the row's high part, so they stay
 pub still-written : (a c : List ℕ) (s : Bits) (e n : ℕ) → Tidy s → e < 2 ^ eventBits → Fit (each 8 c) → length c ≡ n → count s + eventBits ≤ 8 * n →

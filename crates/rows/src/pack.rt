@@ -1,10 +1,9 @@
 // The rows of the table, packed: into a buffer of any length that has room for the fields.
 ghost use mathlib.Core.Path.{_≡_};
-ghost use mathlib.Core.List.{_++_};
 ghost use Prim.Native.Nat.{_+_, _-_, _*_, _^_, _≤_, _<_};
 ghost use lib.ListN.{length};
 ghost use Rattle.rows.specs.Pack.{num};
-ghost use Rattle.rows.specs.Row.{keyBits, caseBits, eventBits, keyOf, caseOf, eventOf, keyFields, caseFields, eventNumber, rowNumber, KeyFits, CaseFits, EventFits};
+ghost use Rattle.rows.specs.Row.{keyBits, caseBits, eventBits, keyOf, caseOf, eventOf, keyFields, caseFields, caseNumber, eventNumber, rowNumber, KeyFits, CaseFits, EventFits};
 ghost use Rattle.rows.specs.Writer.{soFar, count, Tidy, Wrote, start};
 use crate::writer::Bits;
 use crate::writer::finish;
@@ -52,25 +51,13 @@ pub fn pack_key(out: &mut [u8], region: u64, asl: &[u8], day: u64, id: &[u8])
     finish(out, s);
 }
 
-// The row of a case.
-pub fn pack_case(
-    out: &mut [u8],
-    region: u64,
-    asl: &[u8],
-    day: u64,
-    id: &[u8],
-    birth: u64,
-    prevalente: &[u8],
-    scales: &[u8],
-)
-    requires { ⌜ KeyFits (keyOf region (now asl) day (now id)) ⌝ }
-    requires { ⌜ CaseFits (caseOf birth (now prevalente) (now scales)) ⌝ }
-    requires { ⌜ keyBits + caseBits ≤ 8 * length (now out) ⌝ }
-    ensures { λ _. ⌜ num (now (out .exit)) ≡ rowNumber (length (now (out .entry))) (keyFields (keyOf region (now (asl .entry)) day (now (id .entry))) ++ caseFields (caseOf birth (now (prevalente .entry)) (now (scales .entry)))) ⌝ }
+// A case's row behind a key that a writer has written: the case's fields, then zero bits.
+pub fn set_case(out: &mut [u8], s: Bits, birth: u64, prevalente: &[u8], scales: &[u8])
+    requires { ⌜ Tidy s × CaseFits (caseOf birth (now prevalente) (now scales)) × (count s + caseBits ≤ 8 * length (now out)) ⌝ }
+    ensures { λ _. ⌜ num (now (out .exit)) ≡ (soFar (now (out .entry)) s * 2 ^ caseBits + caseNumber (caseOf birth (now (prevalente .entry)) (now (scales .entry)))) * 2 ^ (8 * length (now (out .entry)) - (count s + caseBits)) ⌝ }
 {
-    let s = put_key(out, region, asl, day, id);
-    let s = put_case(out, s, birth, prevalente, scales);
-    finish(out, s);
+    let t = put_case(out, s, birth, prevalente, scales);
+    finish(out, t);
 }
 
 // The number of an event's fields.

@@ -1,6 +1,7 @@
 use mathlib.Core.Path.{sym}
 use lib.Seq.{length-take-le}
-use Rattle.rows.specs.Row.{keyOf, caseOf}
+use Rattle.rows.specs.Row.{rowBytes, keyBits, caseOf}
+use Rattle.register.specs.Search.{keyOf}
 use Rattle.register.proofs.Seams.{shifts-opened}
 use Rattle.apply.specs.RowBytes.{caseBytes}
 use Rattle.apply.proofs.CaseBytes.{case-length}
@@ -12,33 +13,33 @@ use Rattle.apply.proofs.case.open_case.Tie as tie
 shift-right-requires : tie.Need-shift-right-requires
 shift-right-requires c κs = search needs
 
-slice-relend-prefix-pack-over : tie.Need-slice-relend-prefix-pack-over
-slice-relend-prefix-pack-over c = search needs
+slice-relend-prefix-pack-case : tie.Need-slice-relend-prefix-pack-case
+slice-relend-prefix-pack-case c = search needs
 
-slice-aggregate-pack-over : tie.Need-slice-aggregate-pack-over
-slice-aggregate-pack-over c = sym (length-take-le 91 (c .before .before .before .shift-right .last .0) (omega (arith, c .before .before .before .shift-right .kept .0, c .before .before .before .before .before .before .before .before .before .before .pre .0)))
+slice-aggregate-pack-case : tie.Need-slice-aggregate-pack-case
+slice-aggregate-pack-case c = sym (length-take-le 91 (c .before .before .before .shift-right .last .0) (omega (arith, c .before .before .before .shift-right .kept .0, c .before .before .before .before .before .before .before .before .before .pre .0)))
 
-pack-over-requires : tie.Need-pack-over-requires
-pack-over-requires c κs = (length-take-le 91 (c .before .before .before .shift-right .last .0) (omega (arith, c .before .before .before .shift-right .kept .0, c .before .before .before .before .before .before .before .before .before .before .pre .0)), c .before .before .before .before .before .before .before .before .before .before .pre .1, c .before .before .before .before .before .before .before .before .before .before .pre .2)
+pack-case-requires : tie.Need-pack-case-requires
+pack-case-requires c κs = (length-take-le 91 (c .before .before .before .shift-right .last .0) (omega (arith, c .before .before .before .shift-right .kept .0, c .before .before .before .before .before .before .before .before .before .pre .0)), c .before .before .before .before .before .before .before .before .before .pre .1, c .before .before .before .before .before .before .before .before .before .pre .2)
 
 same-length : tie.Need-same-length
 same-length c = search needs
 
 returns : tie.Need-returns
 returns c =
-    let a = c .before .before .before .before .before .before .before .before .before .before .before .before .before .args in
-    shifts-opened 91 (a .part .now) (c .before .before .before .before .before .before .shift-right .last .0) (c .before .before .pack-over .last .0)
-    (caseBytes (keyOf (a .region) (a .asl .now) (a .day) (a .id .now)) (caseOf (a .birth) (a .prevalente .now) (a .scales .now)))
-    (c .before .before .before .before .before .before .before .before .before .before .before .before .before .pre .0) (case-length (keyOf (a .region) (a .asl .now) (a .day) (a .id .now)) (caseOf (a .birth) (a .prevalente .now) (a .scales .now)))
-    (c .before .before .before .before .before .before .shift-right .ensures) (c .before .before .pack-over .ensures)
+    let a = c .before .before .before .before .before .before .before .before .before .before .before .before .args in
+    shifts-opened 91 (a .part .now) (c .before .before .before .before .before .before .shift-right .last .0) (c .before .before .pack-case .last .0)
+    (caseBytes (keyOf rowBytes keyBits (a .probe .now)) (caseOf (a .birth) (a .prevalente .now) (a .scales .now)))
+    (c .before .before .before .before .before .before .before .before .before .before .before .before .pre .0) (case-length (keyOf rowBytes keyBits (a .probe .now)) (caseOf (a .birth) (a .prevalente .now) (a .scales .now)))
+    (c .before .before .before .before .before .before .shift-right .ensures) (c .before .before .pack-case .ensures)
 
 pub open-case-spec : {M : Type 1} → statement M
 open-case-spec =
     tie.close
     (tie.spec
     shift-right-requires
-    slice-relend-prefix-pack-over
-    slice-aggregate-pack-over
-    pack-over-requires
+    slice-relend-prefix-pack-case
+    slice-aggregate-pack-case
+    pack-case-requires
     same-length
     returns)

@@ -1,8 +1,9 @@
 use Prim.Native.Nat.{_+_}
-use mathlib.Core.Path.{sym, ap, _∙_}
+use mathlib.Core.Path.{refl, sym, ap, _∙_}
 use borrow.Author.Tests.{not-true, not-false}
 use lib.ListN.{length}
-use Rattle.rows.specs.Row.{keyOf, caseOf}
+use Rattle.rows.specs.Row.{rowBytes, keyBits, caseOf}
+use Rattle.register.specs.Search.{keyOf}
 use Rattle.register.specs.Moves.{withCount}
 use Rattle.register.proofs.Keys.{stands-in}
 use Rattle.register.proofs.Stores.{room-few, room-end}
@@ -15,8 +16,11 @@ use Rattle.apply.proofs.case.put_case.Tie as tie
 
 returns : tie.Need-returns
 returns c =
-    let a = c .before .before .before .before .before .before .before .args in
-    case-short (caseBytes (keyOf (a .region) (a .asl .now) (a .day) (a .id .now)) (caseOf (a .birth) (a .prevalente .now) (a .scales .now))) (a .reg .now) (c .if1 .taken)
+    let a = c .before .before .before .before .before .args in
+    case-short (caseBytes (keyOf rowBytes keyBits (a .probe .now)) (caseOf (a .birth) (a .prevalente .now) (a .scales .now))) (a .reg .now) (c .if1 .taken)
+
+key-in-requires : tie.Need-key-in-requires
+key-in-requires c κs = search needs
 
 count-requires : tie.Need-count-requires
 count-requires c κs = search needs
@@ -35,28 +39,28 @@ same-length c = search needs
 
 returns-2 : tie.Need-returns-2
 returns-2 c =
-    let a = c .before .before .before .before .before .before .before .before .before .before .before .before .before .before .args in
-    case-misfits (keyOf (a .region) (a .asl .now) (a .day) (a .id .now)) (caseOf (a .birth) (a .prevalente .now) (a .scales .now)) (c .before .before .before .before .before .before .before .before .before .before .before .before .before .before .pre .0) (c .before .before .before .before .before .before .before .before .before .before .before .before .before .before .pre .1) (a .probe .now) (c .before .before .before .before .before .before .before .before .before .before .before .before .before .before .pre .3) (a .reg .now) (c .before .before .before .before .before .count .result) (c .before .before .before .count2 .result) (c .before .before .before .before .before .count .ensures .0) (c .before .before .before .count2 .ensures .0) (c .before .room-for .result) (c .before .room-for .ensures) (not-true _ (c .if2 .taken))
+    let a = c .before .before .before .before .before .before .before .before .before .before .before .before .before .args in
+    case-misfits (keyOf rowBytes keyBits (a .probe .now)) (caseOf (a .birth) (a .prevalente .now) (a .scales .now)) (c .before .before .before .before .before .before .before .key-in .ensures .small) (c .before .before .before .before .before .before .before .before .before .before .before .before .before .pre .1) (a .probe .now) refl (a .reg .now) (c .before .before .before .before .before .count .result) (c .before .before .before .count2 .result) (c .before .before .before .before .before .count .ensures .0) (c .before .before .before .count2 .ensures .0) (c .before .room-for .result) (c .before .room-for .ensures) (not-true _ (c .if2 .taken))
 
 place-requires : tie.Need-place-requires
-place-requires c κs = (search needs, room-end 91 (c .before .before .before .before .before .before .count .result + c .before .before .before .before .count2 .result) (length (c .before .before .before .before .before .before .before .before .before .before .before .before .before .before .before .args .reg .now)) (c .before .before .room-for .result) (c .before .before .room-for .ensures) (not-false _ (c .before .if2 .left)) (c .before .before .before .before .before .before .count .result) (omega arith), c .before .before .before .before .before .before .before .before .before .before .before .before .before .before .before .pre .2, search needs, search needs)
+place-requires c κs = (search needs, room-end 91 (c .before .before .before .before .before .before .count .result + c .before .before .before .before .count2 .result) (length (c .before .before .before .before .before .before .before .before .before .before .before .before .before .before .args .reg .now)) (c .before .before .room-for .result) (c .before .before .room-for .ensures) (not-false _ (c .before .if2 .left)) (c .before .before .before .before .before .before .count .result) (omega arith), c .before .before .before .before .before .before .before .before .before .before .before .before .before .before .pre .0, search needs, search needs)
 
 stands-requires : tie.Need-stands-requires
-stands-requires c κs = (room-end 91 (c .before .before .before .before .before .before .before .before .count .result + c .before .before .before .before .before .before .count2 .result) (length (c .before .before .before .before .before .before .before .before .before .before .before .before .before .before .before .before .before .args .reg .now)) (c .before .before .before .before .room-for .result) (c .before .before .before .before .room-for .ensures) (not-false _ (c .before .before .before .if2 .left)) (c .before .before .before .before .before .before .before .before .count .result) (omega arith), c .before .before .before .before .before .before .before .before .before .before .before .before .before .before .before .before .before .pre .2, search needs)
+stands-requires c κs = (room-end 91 (c .before .before .before .before .before .before .before .before .count .result + c .before .before .before .before .before .before .count2 .result) (length (c .before .before .before .before .before .before .before .before .before .before .before .before .before .before .before .before .args .reg .now)) (c .before .before .before .before .room-for .result) (c .before .before .before .before .room-for .ensures) (not-false _ (c .before .before .before .if2 .left)) (c .before .before .before .before .before .before .before .before .count .result) (omega arith), c .before .before .before .before .before .before .before .before .before .before .before .before .before .before .before .before .pre .0, search needs)
 
 set-case-requires : tie.Need-set-case-requires
 set-case-requires c κs =
-    let a = c .before .before .before .before .before .before .before .before .before .before .before .before .before .before .before .before .before .before .before .before .args in
+    let a = c .before .before .before .before .before .before .before .before .before .before .before .before .before .before .before .before .before .before .before .args in
     let h = stands-in 91 662 (c .before .before .before .before .before .before .before .before .before .before .before .count .result) (a .probe .now) (a .reg .now) (c .before .before .before .before .place .result) (sym (c .before .before .stands .ensures) ∙ c .before .if3 .taken) in
-    (room-end 91 (c .before .before .before .before .before .before .before .before .before .before .before .count .result + c .before .before .before .before .before .before .before .before .before .count2 .result) (length (a .reg .now)) (c .before .before .before .before .before .before .before .room-for .result) (c .before .before .before .before .before .before .before .room-for .ensures) (not-false _ (c .before .before .before .before .before .before .if2 .left)) (c .before .before .before .before .place .result + 1) (omega arith), c .before .before .before .before .before .before .before .before .before .before .before .before .before .before .before .before .before .before .before .before .pre .0, c .before .before .before .before .before .before .before .before .before .before .before .before .before .before .before .before .before .before .before .before .pre .1)
+    (room-end 91 (c .before .before .before .before .before .before .before .before .before .before .before .count .result + c .before .before .before .before .before .before .before .before .before .count2 .result) (length (a .reg .now)) (c .before .before .before .before .before .before .before .room-for .result) (c .before .before .before .before .before .before .before .room-for .ensures) (not-false _ (c .before .before .before .before .before .before .if2 .left)) (c .before .before .before .before .place .result + 1) (omega arith), c .before .before .before .before .before .before .before .before .before .before .before .before .before .key-in .ensures, c .before .before .before .before .before .before .before .before .before .before .before .before .before .before .before .before .before .before .before .pre .1)
 
 same-length-2 : tie.Need-same-length-2
 same-length-2 c = search needs
 
 returns-3 : tie.Need-returns-3
 returns-3 c =
-    let a = c .before .before .before .before .before .before .before .before .before .before .before .before .before .before .before .before .before .before .before .before .before .before .before .args in
-    case-over (keyOf (a .region) (a .asl .now) (a .day) (a .id .now)) (caseOf (a .birth) (a .prevalente .now) (a .scales .now)) (c .before .before .before .before .before .before .before .before .before .before .before .before .before .before .before .before .before .before .before .before .before .before .before .pre .0) (c .before .before .before .before .before .before .before .before .before .before .before .before .before .before .before .before .before .before .before .before .before .before .before .pre .1) (a .probe .now) (c .before .before .before .before .before .before .before .before .before .before .before .before .before .before .before .before .before .before .before .before .before .before .before .pre .3) (a .reg .now) (c .before .before .before .before .before .before .before .before .before .before .before .before .before .before .count .result) (c .before .before .before .before .before .before .before .before .before .before .before .before .count2 .result) (c .before .before .before .before .before .before .before .before .before .before .before .before .before .before .count .ensures .0) (c .before .before .before .before .before .before .before .before .before .before .before .before .count2 .ensures .0) (c .before .before .before .before .before .before .before .place .result) (c .before .before .before .before .before .before .before .place .ensures) (c .before .before .before .before .before .stands .result) (c .before .before .before .before .before .stands .ensures) (c .before .before .before .before .if3 .taken) (c .before .before .set-case .last .0) (c .before .before .set-case .kept .0) (c .before .before .set-case .ensures)
+    let a = c .before .before .before .before .before .before .before .before .before .before .before .before .before .before .before .before .before .before .before .before .before .before .args in
+    case-over (keyOf rowBytes keyBits (a .probe .now)) (caseOf (a .birth) (a .prevalente .now) (a .scales .now)) (c .before .before .before .before .before .before .before .before .before .before .before .before .before .before .before .before .key-in .ensures .small) (c .before .before .before .before .before .before .before .before .before .before .before .before .before .before .before .before .before .before .before .before .before .before .pre .1) (a .probe .now) refl (a .reg .now) (c .before .before .before .before .before .before .before .before .before .before .before .before .before .before .count .result) (c .before .before .before .before .before .before .before .before .before .before .before .before .count2 .result) (c .before .before .before .before .before .before .before .before .before .before .before .before .before .before .count .ensures .0) (c .before .before .before .before .before .before .before .before .before .before .before .before .count2 .ensures .0) (c .before .before .before .before .before .before .before .place .result) (c .before .before .before .before .before .before .before .place .ensures) (c .before .before .before .before .before .stands .result) (c .before .before .before .before .before .stands .ensures) (c .before .before .before .before .if3 .taken) (c .before .before .set-case .last .0) (c .before .before .set-case .kept .0) (c .before .before .set-case .ensures)
 
 add-room-for : tie.Need-add-room-for
 add-room-for c = search needs
@@ -69,21 +73,21 @@ same-length-3 c = search needs
 
 returns-4 : tie.Need-returns-4
 returns-4 c =
-    let a = c .before .before .before .before .before .before .before .before .before .before .before .before .before .before .before .before .before .before .before .before .before .before .args in
-    case-full (keyOf (a .region) (a .asl .now) (a .day) (a .id .now)) (caseOf (a .birth) (a .prevalente .now) (a .scales .now)) (c .before .before .before .before .before .before .before .before .before .before .before .before .before .before .before .before .before .before .before .before .before .before .pre .0) (c .before .before .before .before .before .before .before .before .before .before .before .before .before .before .before .before .before .before .before .before .before .before .pre .1) (a .probe .now) (c .before .before .before .before .before .before .before .before .before .before .before .before .before .before .before .before .before .before .before .before .before .before .pre .3) (a .reg .now) (c .before .before .before .before .before .before .before .before .before .before .before .before .before .count .result) (c .before .before .before .before .before .before .before .before .before .before .before .count2 .result) (c .before .before .before .before .before .before .before .before .before .before .before .before .before .count .ensures .0) (c .before .before .before .before .before .before .before .before .before .before .before .count2 .ensures .0) (c .before .before .before .before .before .before .place .result) (c .before .before .before .before .before .before .place .ensures) (c .before .before .before .before .stands .result) (c .before .before .before .before .stands .ensures) (c .before .before .before .if3 .left) (c .before .room-for2 .result) (c .before .room-for2 .ensures) (not-true _ (c .if4 .taken))
+    let a = c .before .before .before .before .before .before .before .before .before .before .before .before .before .before .before .before .before .before .before .before .before .args in
+    case-full (keyOf rowBytes keyBits (a .probe .now)) (caseOf (a .birth) (a .prevalente .now) (a .scales .now)) (c .before .before .before .before .before .before .before .before .before .before .before .before .before .before .before .key-in .ensures .small) (c .before .before .before .before .before .before .before .before .before .before .before .before .before .before .before .before .before .before .before .before .before .pre .1) (a .probe .now) refl (a .reg .now) (c .before .before .before .before .before .before .before .before .before .before .before .before .before .count .result) (c .before .before .before .before .before .before .before .before .before .before .before .count2 .result) (c .before .before .before .before .before .before .before .before .before .before .before .before .before .count .ensures .0) (c .before .before .before .before .before .before .before .before .before .before .before .count2 .ensures .0) (c .before .before .before .before .before .before .place .result) (c .before .before .before .before .before .before .place .ensures) (c .before .before .before .before .stands .result) (c .before .before .before .before .stands .ensures) (c .before .before .before .if3 .left) (c .before .room-for2 .result) (c .before .room-for2 .ensures) (not-true _ (c .if4 .taken))
 
 insert-case-requires : tie.Need-insert-case-requires
 insert-case-requires c κs =
-    let a = c .before .before .before .before .before .before .before .before .before .before .before .before .before .before .before .before .before .before .before .before .before .before .before .args in
+    let a = c .before .before .before .before .before .before .before .before .before .before .before .before .before .before .before .before .before .before .before .before .before .before .args in
     let n = c .before .before .before .before .before .before .before .before .before .before .before .before .before .before .count .result + c .before .before .before .before .before .before .before .before .before .before .before .before .count2 .result in
     let few = room-few 91 (n + 1) (length (a .reg .now)) (c .before .before .room-for2 .result) (c .before .before .room-for2 .ensures) (not-false _ (c .before .if4 .left)) in
-    (omega (arith, c .before .before .before .before .before .before .before .place .ensures .high), omega arith, room-end 91 (n + 1) (length (a .reg .now)) (c .before .before .room-for2 .result) (c .before .before .room-for2 .ensures) (not-false _ (c .before .if4 .left)) (n + 1) (omega arith), c .before .before .before .before .before .before .before .before .before .before .before .before .before .before .before .before .before .before .before .before .before .before .before .pre .0, c .before .before .before .before .before .before .before .before .before .before .before .before .before .before .before .before .before .before .before .before .before .before .before .pre .1)
+    (omega (arith, c .before .before .before .before .before .before .before .place .ensures .high), omega arith, room-end 91 (n + 1) (length (a .reg .now)) (c .before .before .room-for2 .result) (c .before .before .room-for2 .ensures) (not-false _ (c .before .if4 .left)) (n + 1) (omega arith), c .before .before .before .before .before .before .before .before .before .before .before .before .before .before .before .before .key-in .ensures, c .before .before .before .before .before .before .before .before .before .before .before .before .before .before .before .before .before .before .before .before .before .before .pre .1)
 
 add-set-count : tie.Need-add-set-count
 add-set-count c = omega (arith, c .before .before .before .before .before .before .before .before .before .before .before .before .before .before .before .before .before .before .count .ensures .1)
 
 set-count-requires : tie.Need-set-count-requires
-set-count-requires c κs = omega (arith, c .before .before .before .before .before .before .before .before .before .before .before .before .before .before .before .before .before .before .before .before .if1 .left, c .before .before .before .insert-case .kept .0)
+set-count-requires c κs = omega (arith, c .before .before .before .before .before .before .before .before .before .before .before .before .before .before .before .before .before .before .before .before .before .if1 .left, c .before .before .before .insert-case .kept .0)
 
 same-length-4 : tie.Need-same-length-4
 same-length-4 c = search needs
@@ -91,8 +95,8 @@ same-length-4 c = search needs
 returns-5 : tie.Need-returns-5
 returns-5 c =
     let n = c .before .before .before .before .before .before .before .before .before .before .before .before .before .before .before .before .before .before .before .before .before .count .result + c .before .before .before .before .before .before .before .before .before .before .before .before .before .before .before .before .before .before .before .count2 .result in
-    let a = c .before .before .before .before .before .before .before .before .before .before .before .before .before .before .before .before .before .before .before .before .before .before .before .before .before .before .before .before .before .before .args in
-    case-new (keyOf (a .region) (a .asl .now) (a .day) (a .id .now)) (caseOf (a .birth) (a .prevalente .now) (a .scales .now)) (c .before .before .before .before .before .before .before .before .before .before .before .before .before .before .before .before .before .before .before .before .before .before .before .before .before .before .before .before .before .before .pre .0) (c .before .before .before .before .before .before .before .before .before .before .before .before .before .before .before .before .before .before .before .before .before .before .before .before .before .before .before .before .before .before .pre .1) (a .probe .now) (c .before .before .before .before .before .before .before .before .before .before .before .before .before .before .before .before .before .before .before .before .before .before .before .before .before .before .before .before .before .before .pre .3) (a .reg .now) (c .before .before .before .before .before .before .before .before .before .before .before .before .before .before .before .before .before .before .before .before .before .count .result) (c .before .before .before .before .before .before .before .before .before .before .before .before .before .before .before .before .before .before .before .count2 .result) (c .before .before .before .before .before .before .before .before .before .before .before .before .before .before .before .before .before .before .before .before .before .count .ensures .0) (c .before .before .before .before .before .before .before .before .before .before .before .before .before .before .before .before .before .before .before .count2 .ensures .0) (c .before .before .before .before .before .before .before .before .before .before .before .before .before .before .place .result) (c .before .before .before .before .before .before .before .before .before .before .before .before .before .before .place .ensures) (c .before .before .before .before .before .before .before .before .before .before .before .before .stands .result) (c .before .before .before .before .before .before .before .before .before .before .before .before .stands .ensures) (c .before .before .before .before .before .before .before .before .before .before .before .if3 .left) (c .before .before .set-count .last .0) (c .before .before .set-count .kept .0 ∙ c .before .before .before .before .before .before .insert-case .kept .0)
+    let a = c .before .before .before .before .before .before .before .before .before .before .before .before .before .before .before .before .before .before .before .before .before .before .before .before .before .before .before .before .before .args in
+    case-new (keyOf rowBytes keyBits (a .probe .now)) (caseOf (a .birth) (a .prevalente .now) (a .scales .now)) (c .before .before .before .before .before .before .before .before .before .before .before .before .before .before .before .before .before .before .before .before .before .before .before .key-in .ensures .small) (c .before .before .before .before .before .before .before .before .before .before .before .before .before .before .before .before .before .before .before .before .before .before .before .before .before .before .before .before .before .pre .1) (a .probe .now) refl (a .reg .now) (c .before .before .before .before .before .before .before .before .before .before .before .before .before .before .before .before .before .before .before .before .before .count .result) (c .before .before .before .before .before .before .before .before .before .before .before .before .before .before .before .before .before .before .before .count2 .result) (c .before .before .before .before .before .before .before .before .before .before .before .before .before .before .before .before .before .before .before .before .before .count .ensures .0) (c .before .before .before .before .before .before .before .before .before .before .before .before .before .before .before .before .before .before .before .count2 .ensures .0) (c .before .before .before .before .before .before .before .before .before .before .before .before .before .before .place .result) (c .before .before .before .before .before .before .before .before .before .before .before .before .before .before .place .ensures) (c .before .before .before .before .before .before .before .before .before .before .before .before .stands .result) (c .before .before .before .before .before .before .before .before .before .before .before .before .stands .ensures) (c .before .before .before .before .before .before .before .before .before .before .before .if3 .left) (c .before .before .set-count .last .0) (c .before .before .set-count .kept .0 ∙ c .before .before .before .before .before .before .insert-case .kept .0)
     (room-few 91 (n + 1) (length (a .reg .now)) (c .before .before .before .before .before .before .before .before .before .room-for2 .result) (c .before .before .before .before .before .before .before .before .before .room-for2 .ensures) (not-false _ (c .before .before .before .before .before .before .before .before .if4 .left)))
     (room-end 91 (n + 1) (length (a .reg .now)) (c .before .before .before .before .before .before .before .before .before .room-for2 .result) (c .before .before .before .before .before .before .before .before .before .room-for2 .ensures) (not-false _ (c .before .before .before .before .before .before .before .before .if4 .left)) (n + 1) (omega arith))
     (c .before .before .set-count .ensures ∙ ap (withCount 0 (c .before .before .before .before .before .before .before .before .before .before .before .before .before .before .before .before .before .before .before .before .before .count .result + 1)) (c .before .before .before .before .before .before .insert-case .ensures))
@@ -102,6 +106,7 @@ put-case-spec =
     tie.close
     (tie.spec
     returns
+    key-in-requires
     count-requires
     count-requires-2
     add-n

@@ -1,5 +1,5 @@
 use Prim.Native.Nat.{_+_, _*_}
-use Rattle.apply.proofs.EventRows.{row-set, cut-length}
+use Rattle.apply.proofs.Packing.{row-set, cut-length}
 use borrow.Author.Needs.{needs}
 use Rattle.apply.proofs.case.set_case.Statement.{statement}
 use Rattle.apply.proofs.case.set_case.Tie as tie
@@ -13,23 +13,23 @@ add-from c = search needs
 add-to : tie.Need-add-to
 add-to c = search needs
 
-sub-pack-over : tie.Need-sub-pack-over
-sub-pack-over c = search needs
+sub-pack-case : tie.Need-sub-pack-case
+sub-pack-case c = search needs
 
-part-pack-over-start : tie.Need-part-pack-over-start
-part-pack-over-start c = search needs
+part-pack-case-start : tie.Need-part-pack-case-start
+part-pack-case-start c = search needs
 
-part-pack-over-end : tie.Need-part-pack-over-end
-part-pack-over-end c = search needs
+part-pack-case-end : tie.Need-part-pack-case-end
+part-pack-case-end c = search needs
 
-pack-over-requires : tie.Need-pack-over-requires
-pack-over-requires c κs = (cut-length (c .before .before .before .before .before .before .args .i) (c .before .before .before .before .before .before .args .reg .now) (c .before .before .before .before .before .before .pre .0), c .before .before .before .before .before .before .pre .1, c .before .before .before .before .before .before .pre .2)
+pack-case-requires : tie.Need-pack-case-requires
+pack-case-requires c κs = (cut-length (c .before .before .before .before .before .args .i) (c .before .before .before .before .before .args .reg .now) (c .before .before .before .before .before .pre .0), c .before .before .before .before .before .pre .1, c .before .before .before .before .before .pre .2)
 
 same-length : tie.Need-same-length
 same-length c = search needs
 
 returns : tie.Need-returns
-returns c = row-set (4 + 91 * c .before .before .before .before .before .before .before .before .before .args .i) (c .before .before .before .before .before .before .before .before .before .args .reg .now) _ (c .before .before .pack-over .last .0) (c .before .before .pack-over .ensures)
+returns c = row-set (4 + 91 * c .before .before .before .before .before .before .before .before .args .i) (c .before .before .before .before .before .before .before .before .args .reg .now) _ (c .before .before .pack-case .last .0) (c .before .before .pack-case .ensures)
 
 pub set-case-spec : {M : Type 1} → statement M
 set-case-spec =
@@ -38,9 +38,9 @@ set-case-spec =
     mul-from
     add-from
     add-to
-    sub-pack-over
-    part-pack-over-start
-    part-pack-over-end
-    pack-over-requires
+    sub-pack-case
+    part-pack-case-start
+    part-pack-case-end
+    pack-case-requires
     same-length
     returns)

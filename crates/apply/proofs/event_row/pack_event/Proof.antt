@@ -1,6 +1,7 @@
-use mathlib.Core.Path.{_∙_}
+use mathlib.Core.Path.{refl, _∙_}
+use Rattle.rows.specs.Row.{eventBits}
 use Rattle.rows.proofs.Bytes.{fit-of}
-use Rattle.apply.proofs.EventRows.{event-packed}
+use Rattle.apply.proofs.Packing.{row-packed}
 use borrow.Author.Needs.{needs}
 use Rattle.apply.proofs.event_row.pack_event.Statement.{statement}
 use Rattle.apply.proofs.event_row.pack_event.Tie as tie
@@ -15,7 +16,9 @@ same-length : tie.Need-same-length
 same-length c = search needs
 
 returns : tie.Need-returns
-returns c = event-packed (c .before .before .before .before .before .before .before .before .before .before .args .probe .now) (c .before .before .before .before .before .before .before .before .before .before .args .out .now) (c .before .before .before .before .before .before .put-row .last .0) (c .before .before .set-event .last .0) (c .before .before .before .before .before .before .before .before .before .before .args .key) _ (c .before .before .before .before .before .before .before .before .before .before .args .e) (c .before .before .before .before .before .before .before .before .before .before .pre .1) (c .before .before .before .before .before .before .before .before .before .before .pre .0) (c .before .before .before .before .before .before .put-row .ensures) (c .before .before .set-event .ensures .0) (c .before .before .set-event .kept .0 ∙ c .before .before .before .before .before .before .put-row .kept .0 ∙ c .before .before .before .before .before .before .before .before .before .before .pre .0) (fit-of 8 (c .before .before .set-event .last .0) (λ i. c .slice-known3 .given i .fits))
+returns c =
+    row-packed eventBits 14 (c .before .before .before .before .before .before .before .before .before .before .args .e) (c .before .before .before .before .before .before .before .before .before .before .args .probe .now) (c .before .before .before .before .before .before .before .before .before .before .args .out .now) (c .before .before .before .before .before .before .put-row .last .0) (c .before .before .set-event .last .0) (c .before .before .before .before .before .before .before .before .before .before .args .key) _ refl (c .before .before .before .before .before .before .before .before .before .before .pre .1) (c .before .before .before .before .before .before .before .before .before .before .pre .0) (c .before .before .before .before .before .before .put-row .ensures) (c .before .before .set-event .ensures .0)
+    (c .before .before .set-event .kept .0 ∙ c .before .before .before .before .before .before .put-row .kept .0 ∙ c .before .before .before .before .before .before .before .before .before .before .pre .0) (fit-of 8 (c .before .before .set-event .last .0) (λ i. c .slice-known3 .given i .fits))
 
 pub pack-event-spec : {M : Type 1} → statement M
 pack-event-spec = tie.close (tie.spec put-row-requires set-event-requires same-length returns)

@@ -1,5 +1,5 @@
 use Prim.Native.Nat.{_+_, _*_}
-use Rattle.apply.proofs.EventRows.{row-set}
+use Rattle.apply.proofs.Packing.{row-set}
 use borrow.Author.Needs.{needs}
 use Rattle.apply.proofs.event_row.set_row.Statement.{statement}
 use Rattle.apply.proofs.event_row.set_row.Tie as tie

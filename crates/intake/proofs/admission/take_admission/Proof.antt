@@ -2,7 +2,7 @@ use mathlib.Core.Path.{sym}
 use native.Mathlib.Omega.{arith}
 use Rattle.rows.proofs.Bytes.{fit-of}
 use Rattle.judge.specs.View.{contextIn}
-use Rattle.intake.proofs.RecordRead.{asl-within, id-within, probe-is, key-fits, head-held}
+use Rattle.intake.proofs.RecordRead.{asl-within, id-within, key-fits, head-held}
 use Rattle.intake.proofs.RecordTaken.{rows-within}
 use Rattle.intake.proofs.CaseTaken.{five, six, case-held, case-discarded, case-accepted}
 use borrow.Author.Needs.{needs}
@@ -88,15 +88,12 @@ apply-case-requires c κs =
     let i = c .before .before .before .before .before .before .before .before .before .before .before .before .before .before .before .before .before .before .before .before .before .before .before .before .before .before .args in
     let p = c .before .before .before .before .before .before .before .before .before .before .before .before .before .before .before .before .before .before .before .before .before .before .before .before .before .before .pre in
     let h = c .before .before .before .before .before .before .before .before .before .before .before .before .before .before .before .before .before .before .before .before .before .before .before .head in
-    let m = c .before .before .before .before .before .before .before .before .before .before .before .before .before .before .before .before .before .before .before .before .before .before .admission in
-    let f = key-fits (i .s .now) (i .top) (h .result) (h .ensures .0) 1 (p .1 .0) (p .1 .1) _ _ (c .before .before .before .before .before .before .before .before .before .before .before .before .before .before .before .before .before .before .before .before .part .ensures) (c .before .before .before .before .before .before .before .before .before .before .before .before .before .before .before .before .before .before .part2 .ensures) in (
-      f,
+    let m = c .before .before .before .before .before .before .before .before .before .before .before .before .before .before .before .before .before .before .before .before .before .before .admission in (
+      c .before .before .before .before .before .before .before .before .before .before .before .before .before .before .before .before .pack-key .kept .0,
       case-held (i .s .now) (i .top) (m .result) (m .ensures .0) (p .1 .0) (p .1 .1)
-          _ _ _ _ (head-held (i .s .now) (i .top) (h .result) (h .ensures .0) 1 (p .1 .0) (p .1 .1) _ _ (c .before .before .before .before .before .before .before .before .before .before .before .before .before .before .before .before .before .before .before .before .part .ensures) (c .before .before .before .before .before .before .before .before .before .before .before .before .before .before .before .before .before .before .part2 .ensures) _ (c .before .before .before .before .before .before .before .before .before .before .before .before .before .before .before .before .pack-key .kept .0) (c .before .before .before .before .before .before .before .before .before .before .before .before .before .before .before .before .pack-key .ensures))
+          (h .result) _ (head-held (i .s .now) (i .top) (h .result) (h .ensures .0) 1 (p .1 .0) (p .1 .1) _ _ (c .before .before .before .before .before .before .before .before .before .before .before .before .before .before .before .before .before .before .before .before .part .ensures) (c .before .before .before .before .before .before .before .before .before .before .before .before .before .before .before .before .before .before .part2 .ensures) _ (c .before .before .before .before .before .before .before .before .before .before .before .before .before .before .before .before .pack-key .kept .0) (c .before .before .before .before .before .before .before .before .before .before .before .before .before .before .before .before .pack-key .ensures))
           _ _ _ _ (c .before .before .before .before .before .before .before .before .before .part3 .ensures) (c .before .before .before .before .before .before .before .before .part4 .ensures) (c .before .before .before .before .before .before .before .part5 .ensures) (c .before .before .before .before .before .before .part6 .ensures)
           (i .reg .now) (fit-of 8 (i .reg .now) (λ j. c .before .before .before .before .before .before .before .before .before .before .before .before .before .before .before .before .before .before .before .before .before .before .before .before .slice-known .given j .fits)) (p .2) (contextIn (i .l)) _ (c .before .before .before .before .before .judge-admission .ensures) (c .before .before .before .before .if1 .taken),
-      c .before .before .before .before .before .before .before .before .before .before .before .before .before .before .before .before .pack-key .kept .0,
-      probe-is _ _ f (c .before .before .before .before .before .before .before .before .before .before .before .before .before .before .before .before .pack-key .kept .0) (c .before .before .before .before .before .before .before .before .before .before .before .before .before .before .before .before .pack-key .ensures),
     )
 
 same-length : tie.Need-same-length
@@ -110,7 +107,7 @@ returns c =
     let m = c .before .before .before .before .before .before .before .before .before .before .before .before .before .before .before .before .before .before .before .before .before .before .before .before .before .admission in
     λ a x.
     case-accepted (i .s .now) (i .top) (m .result) (m .ensures .0) a x
-    _ _ _ _ (head-held (i .s .now) (i .top) (h .result) (h .ensures .0) 1 a x _ _ (c .before .before .before .before .before .before .before .before .before .before .before .before .before .before .before .before .before .before .before .before .before .before .before .part .ensures) (c .before .before .before .before .before .before .before .before .before .before .before .before .before .before .before .before .before .before .before .before .before .part2 .ensures) _ (c .before .before .before .before .before .before .before .before .before .before .before .before .before .before .before .before .before .before .before .pack-key .kept .0) (c .before .before .before .before .before .before .before .before .before .before .before .before .before .before .before .before .before .before .before .pack-key .ensures))
+    (h .result) _ (head-held (i .s .now) (i .top) (h .result) (h .ensures .0) 1 a x _ _ (c .before .before .before .before .before .before .before .before .before .before .before .before .before .before .before .before .before .before .before .before .before .before .before .part .ensures) (c .before .before .before .before .before .before .before .before .before .before .before .before .before .before .before .before .before .before .before .before .before .part2 .ensures) _ (c .before .before .before .before .before .before .before .before .before .before .before .before .before .before .before .before .before .before .before .pack-key .kept .0) (c .before .before .before .before .before .before .before .before .before .before .before .before .before .before .before .before .before .before .before .pack-key .ensures))
     _ _ _ _ (c .before .before .before .before .before .before .before .before .before .before .before .before .part3 .ensures) (c .before .before .before .before .before .before .before .before .before .before .before .part4 .ensures) (c .before .before .before .before .before .before .before .before .before .before .part5 .ensures) (c .before .before .before .before .before .before .before .before .before .part6 .ensures)
     (i .reg .now) (fit-of 8 (i .reg .now) (λ j. c .before .before .before .before .before .before .before .before .before .before .before .before .before .before .before .before .before .before .before .before .before .before .before .before .before .before .before .slice-known .given j .fits)) (p .2) (contextIn (i .l)) _ (c .before .before .before .before .before .before .before .before .judge-admission .ensures)
     (c .before .before .before .before .before .before .before .if1 .taken) (p .3) _ (c .before .before .apply-case .ensures .0) (c .before .before .apply-case .ensures .1)
@@ -126,7 +123,7 @@ returns-2 c =
     let m = c .before .before .before .before .before .before .before .before .before .before .before .before .before .before .before .before .before .before .admission in
     λ a x.
     case-discarded (i .s .now) (i .top) (m .result) (m .ensures .0) a x
-    _ _ _ _ (head-held (i .s .now) (i .top) (h .result) (h .ensures .0) 1 a x _ _ (c .before .before .before .before .before .before .before .before .before .before .before .before .before .before .before .before .part .ensures) (c .before .before .before .before .before .before .before .before .before .before .before .before .before .before .part2 .ensures) _ (c .before .before .before .before .before .before .before .before .before .before .before .before .pack-key .kept .0) (c .before .before .before .before .before .before .before .before .before .before .before .before .pack-key .ensures))
+    (h .result) _ (head-held (i .s .now) (i .top) (h .result) (h .ensures .0) 1 a x _ _ (c .before .before .before .before .before .before .before .before .before .before .before .before .before .before .before .before .part .ensures) (c .before .before .before .before .before .before .before .before .before .before .before .before .before .before .part2 .ensures) _ (c .before .before .before .before .before .before .before .before .before .before .before .before .pack-key .kept .0) (c .before .before .before .before .before .before .before .before .before .before .before .before .pack-key .ensures))
     _ _ _ _ (c .before .before .before .before .before .part3 .ensures) (c .before .before .before .before .part4 .ensures) (c .before .before .before .part5 .ensures) (c .before .before .part6 .ensures)
     (i .reg .now) (fit-of 8 (i .reg .now) (λ j. c .before .before .before .before .before .before .before .before .before .before .before .before .before .before .before .before .before .before .before .before .slice-known .given j .fits)) (p .2) (contextIn (i .l)) _ (c .before .judge-admission .ensures)
     (c .if1 .left)

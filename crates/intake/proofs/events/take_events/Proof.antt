@@ -100,7 +100,7 @@ returns c =
     let e = c .before .before .before .before .before .before .before .before .before .before .before .before .before .before .before .before .before .before .before .events in
     λ a x.
     events-accepted (i .s .now) (i .top) (e .result) _ _ refl (e .ensures) a x
-    _ _ _ _ (head-held (i .s .now) (i .top) (h .result) (h .ensures .0) 2 a x _ _ (c .before .before .before .before .before .before .before .before .before .before .before .before .before .before .before .before .part .ensures) (c .before .before .before .before .before .before .before .before .before .before .before .before .before .before .part2 .ensures) _ (c .before .before .before .before .before .before .before .before .before .before .before .before .pack-key .kept .0) (c .before .before .before .before .before .before .before .before .before .before .before .before .pack-key .ensures))
+    (h .result) _ (head-held (i .s .now) (i .top) (h .result) (h .ensures .0) 2 a x _ _ (c .before .before .before .before .before .before .before .before .before .before .before .before .before .before .before .before .part .ensures) (c .before .before .before .before .before .before .before .before .before .before .before .before .before .before .part2 .ensures) _ (c .before .before .before .before .before .before .before .before .before .before .before .before .pack-key .kept .0) (c .before .before .before .before .before .before .before .before .before .before .before .before .pack-key .ensures))
     (i .reg .now) (fit-of 8 (i .reg .now) (λ j. c .before .before .before .before .before .before .before .before .before .before .before .before .before .before .before .before .before .before .before .before .before .before .slice-known .given j .fits)) (p .2) (contextIn (i .l)) _ (c .before .before .before .before .before .before .before .judge-events .ensures)
     (c .before .before .before .before .before .before .if1 .taken) (p .3) _ (c .before .before .apply-events .ensures .0) (c .before .before .apply-events .ensures .1)
 
@@ -115,7 +115,7 @@ returns-2 c =
     let e = c .before .before .before .before .before .before .before .before .before .before .before .before .before .events in
     λ a x.
     events-discarded (i .s .now) (i .top) (e .result) _ _ refl (e .ensures) a x
-    _ _ _ _ (head-held (i .s .now) (i .top) (h .result) (h .ensures .0) 2 a x _ _ (c .before .before .before .before .before .before .before .before .before .before .part .ensures) (c .before .before .before .before .before .before .before .before .part2 .ensures) _ (c .before .before .before .before .before .before .pack-key .kept .0) (c .before .before .before .before .before .before .pack-key .ensures))
+    (h .result) _ (head-held (i .s .now) (i .top) (h .result) (h .ensures .0) 2 a x _ _ (c .before .before .before .before .before .before .before .before .before .before .part .ensures) (c .before .before .before .before .before .before .before .before .part2 .ensures) _ (c .before .before .before .before .before .before .pack-key .kept .0) (c .before .before .before .before .before .before .pack-key .ensures))
     (i .reg .now) (fit-of 8 (i .reg .now) (λ j. c .before .before .before .before .before .before .before .before .before .before .before .before .before .before .before .before .slice-known .given j .fits)) (p .2) (contextIn (i .l)) _ (c .before .judge-events .ensures)
     (c .if1 .left)
 

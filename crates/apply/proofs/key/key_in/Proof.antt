@@ -1,8 +1,8 @@
 use Rattle.rows.proofs.Bytes.{fit-of}
-use Rattle.apply.proofs.EventRows.{key-held}
+use Rattle.apply.proofs.Packing.{key-held}
 use borrow.Author.Needs.{needs}
-use Rattle.apply.proofs.event_row.key_in.Statement.{statement}
-use Rattle.apply.proofs.event_row.key_in.Tie as tie
+use Rattle.apply.proofs.key.key_in.Statement.{statement}
+use Rattle.apply.proofs.key.key_in.Tie as tie
 
 get-requires : tie.Need-get-requires
 get-requires c κs = search needs

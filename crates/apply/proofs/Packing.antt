@@ -1,4 +1,4 @@
--- What the code does to the bytes of an event's row.
+-- A row packed behind the probe's key, and the bytes that the code cuts out for it.
 use Prim.Native.Nat.{ℕ, _+_, _-_, _*_, _/_, _%_, _^_, _≤_, _<_}
 use mathlib.Core.Path.{_≡_, refl, sym, ap, ap₂, subst, _∙_}
 use mathlib.Core.List.{List, _++_, append-nil}
@@ -7,8 +7,8 @@ use lib.ListN.{length, take, drop, length-drop, drop-of-length-le}
 use lib.Seq.{length-take-le}
 use lib.Pow.{shr-shr, shr-lt}
 use borrow.Rule.Slice.PartMut.{putMid}
-use Rattle.rows.specs.Pack.{num, each, Fit, Held}
-use Rattle.rows.specs.Row.{rowBytes, keyBits, eventBits}
+use Rattle.rows.specs.Pack.{num, digits, each, Fit, Held}
+use Rattle.rows.specs.Row.{rowBytes, keyBits}
 use Rattle.rows.specs.Writer.{soFar, count}
 use Rattle.rows.specs.declared.writer.Bits.{Bits}
 use Rattle.rows.proofs.Bytes.{prefix, bytes-are, num-lt}
@@ -16,7 +16,7 @@ use Rattle.register.specs.Gap.{Gap, openedWide}
 use Rattle.register.specs.Moves.{onPart, inserted, withCount}
 use Rattle.register.specs.Search.{keyOf}
 use Rattle.register.proofs.Gaps.{gap-opened, gap-count}
-use Rattle.apply.specs.RowBytes.{eventBytes, Keyed}
+use Rattle.apply.specs.RowBytes.{Keyed}
 
 high-part : (n : ℕ) → n / 2 ^ 72 * 2 ^ 6 + n / 2 ^ 66 % 2 ^ 6 ≡ n / 2 ^ 66
 high-part n =
@@ -24,6 +24,12 @@ high-part n =
     let e : n / 2 ^ 66 / 2 ^ 6 ≡ n / 2 ^ 72 = shr-shr n 66 6 in
     omega arith
 
+-- a probe's key has its bits
+pub probe-small : (probe : List ℕ) → Fit (each 8 probe) → length probe ≡ rowBytes → keyOf rowBytes keyBits probe < 2 ^ keyBits
+unfolding keyOf
+probe-small probe f l = shr-lt keyBits 66 (rw l at (num-lt probe f))
+
+-- the writer that has written it
 pub key-held : (probe : List ℕ) (r : ℕ) → Fit (each 8 probe) → length probe ≡ rowBytes → Held probe 656 6 r →
     Keyed probe (record { acc = r; have = 6; at = 82 }) (keyOf rowBytes keyBits probe)
 unfolding keyOf
@@ -34,19 +40,21 @@ key-held probe r f l h =
       tidy = record { few = omega arith; small = h .small };
       bits = refl;
       holds = ap₂ (λ (x y : ℕ). x * 2 ^ 6 + y) p v ∙ high-part (num probe);
-      small = shr-lt keyBits 66 (rw l at (num-lt probe f));
+      small = probe-small probe f l;
       wide = l;
     }
 
-pub event-packed : (probe out a b : List ℕ) (s : Bits) (k e : ℕ) → Keyed probe s k → length out ≡ rowBytes → a ≡ probe ++ drop (length probe) out →
-    num b ≡ (soFar a s * 2 ^ eventBits + e) * 2 ^ (8 * length a - (count s + eventBits)) → length b ≡ rowBytes → Fit (each 8 b) → b ≡ eventBytes k e
-event-packed probe out a b s k e w l ea eb lb f =
-    let h : length out ≤ length probe = omega (arith, w .wide) in
+-- behind the probe's key a row has the w bits of v, and then zero bits
+pub row-packed : (w pad v : ℕ) (probe out a b : List ℕ) (s : Bits) (k : ℕ) → keyBits + w + pad ≡ 8 * rowBytes → Keyed probe s k → length out ≡ rowBytes →
+    a ≡ probe ++ drop (length probe) out → num b ≡ (soFar a s * 2 ^ w + v) * 2 ^ (8 * length a - (count s + w)) → length b ≡ rowBytes → Fit (each 8 b) →
+    b ≡ digits rowBytes ((k * 2 ^ w + v) * 2 ^ pad)
+row-packed w pad v probe out a b s k all y l ea eb lb f =
+    let h : length out ≤ length probe = omega (arith, y .wide) in
     let z : a ≡ probe = ea ∙ ap (λ (x : List ℕ). probe ++ x) (drop-of-length-le out h) ∙ append-nil probe in
-    let so : soFar a s ≡ k = ap (λ (x : List ℕ). soFar x s) z ∙ w .holds in
-    let la : length a ≡ 91 = ap length z ∙ w .wide in
-    let q : 8 * length a - (count s + eventBits) ≡ 14 = omega (arith, w .bits) in
-    bytes-are b rowBytes ((k * 2 ^ eventBits + e) * 2 ^ 14) f lb (eb ∙ ap₂ (λ (x y : ℕ). (x * 2 ^ eventBits + e) * 2 ^ y) so q)
+    let so : soFar a s ≡ k = ap (λ (x : List ℕ). soFar x s) z ∙ y .holds in
+    let la : length a ≡ 91 = ap length z ∙ y .wide in
+    let q : 8 * length a - (count s + w) ≡ pad = omega (arith, y .bits) in
+    bytes-are b rowBytes ((k * 2 ^ w + v) * 2 ^ pad) f lb (eb ∙ ap₂ (λ (x n : ℕ). (x * 2 ^ w + v) * 2 ^ n) so q)
 
 -- a gap of j rows moved to row r, an event's row in its last place, and the events' count
 pub event-opened : (r i j m v : ℕ) (x a q b row : List ℕ) → 0 < j → r ≤ i → length row ≡ 91 → Gap 91 i j m x a →

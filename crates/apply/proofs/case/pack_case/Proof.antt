@@ -1,0 +1,24 @@
+use mathlib.Core.Path.{refl, _∙_}
+use Rattle.rows.specs.Row.{caseBits, caseNumber, caseOf}
+use Rattle.rows.proofs.Bytes.{fit-of}
+use Rattle.apply.proofs.Packing.{row-packed}
+use borrow.Author.Needs.{needs}
+use Rattle.apply.proofs.case.pack_case.Statement.{statement}
+use Rattle.apply.proofs.case.pack_case.Tie as tie
+
+put-row-requires : tie.Need-put-row-requires
+put-row-requires c κs = search needs
+
+set-case-requires : tie.Need-set-case-requires
+set-case-requires c κs = search needs
+
+same-length : tie.Need-same-length
+same-length c = search needs
+
+returns : tie.Need-returns
+returns c =
+    row-packed caseBits 7 (caseNumber (caseOf (c .before .before .before .before .before .before .before .before .before .before .before .before .args .birth) (c .before .before .before .before .before .before .before .before .before .before .before .before .args .prevalente .now) (c .before .before .before .before .before .before .before .before .before .before .before .before .args .scales .now))) (c .before .before .before .before .before .before .before .before .before .before .before .before .args .probe .now) (c .before .before .before .before .before .before .before .before .before .before .before .before .args .out .now) (c .before .before .before .before .before .before .put-row .last .0) (c .before .before .set-case .last .0) (c .before .before .before .before .before .before .before .before .before .before .before .before .args .key) _ refl (c .before .before .before .before .before .before .before .before .before .before .before .before .pre .1) (c .before .before .before .before .before .before .before .before .before .before .before .before .pre .0)
+    (c .before .before .before .before .before .before .put-row .ensures) (c .before .before .set-case .ensures) (c .before .before .set-case .kept .0 ∙ c .before .before .before .before .before .before .put-row .kept .0 ∙ c .before .before .before .before .before .before .before .before .before .before .before .before .pre .0) (fit-of 8 (c .before .before .set-case .last .0) (λ i. c .slice-known3 .given i .fits))
+
+pub pack-case-spec : {M : Type 1} → statement M
+pack-case-spec = tie.close (tie.spec put-row-requires set-case-requires same-length returns)
