@@ -1,4 +1,4 @@
--- A case's row in bytes, and the case put in or taken out.
+-- A case's row in bytes, and the case put in.
 use Prim.Native.Nat.{ℕ, _+_, _-_, _*_, _/_, _^_, _≤_, _<_}
 use mathlib.Core.Path.{_≡_, refl, sym, ap, ap₂, subst, _∙_}
 use mathlib.Core.Bool.{Bool, true, false, _&&_}
@@ -12,20 +12,19 @@ use Rattle.rows.specs.Pack.{num}
 use Rattle.rows.specs.Row.{Case, rowBytes, keyBits, caseBits, caseNumber, CaseFits}
 use Rattle.rows.proofs.Bytes.{digits-length, digits-fit, num-digits}
 use Rattle.rows.proofs.Table.{case-lt}
-use Rattle.model.specs.Map.{Row, del}
+use Rattle.model.specs.Map.{Row, has, put}
 use Rattle.register.specs.Layout.{siad, caseRest}
 use Rattle.register.specs.Bytes.{casesHeld, eventsHeld, split}
 use Rattle.register.specs.Moves.{inserted, replaced, withCount}
 use Rattle.register.specs.Search.{keyAt, keyOf, Placed}
 use Rattle.register.specs.Stored.{Stored, cases, withRows}
-use Rattle.register.specs.Storing.{Dropped}
 use Rattle.register.proofs.Halving.{at-key}
 use Rattle.register.proofs.RowBytes.{number-lt}
 use Rattle.register.proofs.States.{laid-siad, cases-held, events-held}
 use Rattle.register.proofs.Storing.{PutDone, put-done, key-number}
 use Rattle.register.proofs.Storing.PutDone.{unfit, full, over, new}
 use Rattle.register.proofs.Stores.{room-denied}
-use Rattle.apply.specs.Changes.{Changed}
+use Rattle.apply.specs.Cases.{rowFor, CaseIn}
 use Rattle.apply.specs.RowBytes.{caseBytes}
 use Rattle.apply.proofs.RowsPacked.{case-split}
 
@@ -42,7 +41,7 @@ module _ (k : ℕ) (d : Case) (hk : k < 2 ^ keyBits) (fd : CaseFits d) where
       num-digits rowBytes ((k * 2 ^ caseBits + caseNumber d) * 2 ^ 7)
       (shl-lt 721 7 (number-lt keyBits caseBits 721 (record { key = k; val = caseNumber d }) refl hk (case-lt d fd)))
 
-  pub case-is : split (caseRest siad) (num row) ≡ record { key = k; val = caseNumber d * 2 ^ 7 }
+  case-is : split (caseRest siad) (num row) ≡ rowFor k d
   case-is = case-split k (caseNumber d) (num row) (case-lt d fd) row-number
 
   case-key : keyOf rowBytes keyBits row ≡ k
@@ -52,31 +51,18 @@ module _ (k : ℕ) (d : Case) (hk : k < 2 ^ keyBits) (fd : CaseFits d) where
     same-key : keyOf rowBytes keyBits probe ≡ keyOf rowBytes keyBits row
     same-key = ep ∙ sym case-key
 
-    pub case-gone : (out : Bool) (a b : List ℕ) (r : Bool) → out ≡ true → Dropped cases rowBytes keyBits probe a b r → Changed cases keyBits out row a b
-    case-gone out a b r o x =
-        let e : num probe / 2 ^ caseRest siad ≡ num row / 2 ^ caseRest siad
-        = sym (key-number cases siad probe) ∙ same-key ∙ key-number cases siad row in
-        subst (λ (z : Bool). Changed cases keyBits z row a b) (sym o)
-        (record {
-          holds = λ q s h w. subst (λ (z : ℕ). Stored siad b (withRows cases (del z (s .cases)) s)) e (x .holds siad laid-siad refl q s h .1);
-          kept = x .kept;
-        })
-
     module _ (a : List ℕ) (c v : ℕ) (hc : c ≡ casesHeld a) (hv : v ≡ eventsHeld a) where
-      done : (b : List ℕ) (r : Bool) → length b ≡ length a → PutDone 91 662 0 0 c (c + v) row a b r → Changed cases keyBits false row a b
-      done b r len x =
-          record {
-            holds = λ q s st ready.
-                let ec : c ≡ 0 + length (s .cases) = hc ∙ cases-held siad laid-siad a s st ∙ sym (zero-add (length (s .cases))) in
-                let en : c + v ≡ length (s .cases) + length (s .events) = ap₂ _+_ (hc ∙ cases-held siad laid-siad a s st) (hv ∙ events-held siad laid-siad a s st) in
-                put-done siad laid-siad cases a s st row (case-length k d) (digits-fit 91 ((k * 2 ^ caseBits + caseNumber d) * 2 ^ 7)) b r len
-                (subst (λ (z : ℕ). PutDone 91 662 0 0 z (length (s .cases) + length (s .events)) row a b r) ec
-                (subst (λ (z : ℕ). PutDone 91 662 0 0 c z row a b r) en x))
-                (ready refl) .1;
-            kept = len;
-          }
+      done : (b : List ℕ) (r : Bool) → length b ≡ length a → PutDone 91 662 0 0 c (c + v) row a b r → CaseIn k d a b
+      done b r len x s st ready =
+          let ec : c ≡ 0 + length (s .cases) = hc ∙ cases-held siad laid-siad a s st ∙ sym (zero-add (length (s .cases))) in
+          let en : c + v ≡ length (s .cases) + length (s .events) = ap₂ _+_ (hc ∙ cases-held siad laid-siad a s st) (hv ∙ events-held siad laid-siad a s st) in
+          subst (λ (z : Row ℕ). Stored siad b (withRows cases (put z (s .cases)) s)) case-is
+          (put-done siad laid-siad cases a s st row (case-length k d) (digits-fit 91 ((k * 2 ^ caseBits + caseNumber d) * 2 ^ 7)) b r len
+          (subst (λ (z : ℕ). PutDone 91 662 0 0 z (length (s .cases) + length (s .events)) row a b r) ec
+          (subst (λ (z : ℕ). PutDone 91 662 0 0 c z row a b r) en x))
+          (λ o. ready (ap (λ (z : Row ℕ). has (z .key) (s .cases)) (sym case-is) ∙ o)) .1)
 
-      pub case-misfits : (t : Bool) → t ≡ (leb (c + v) 4096 && leb (4 + 91 * (c + v)) (length a)) → t ≡ false → Changed cases keyBits false row a a
+      pub case-misfits : (t : Bool) → t ≡ (leb (c + v) 4096 && leb (4 + 91 * (c + v)) (length a)) → t ≡ false → CaseIn k d a a
       case-misfits t x f = done a false refl (unfit (room-denied 91 (c + v) (length a) t x f) refl refl)
 
       module _ (i : ℕ) (pl : Placed (keyAt 91 662 a) (keyOf 91 662 probe + 0) 0 c i) (st : Bool) (es : st ≡ (ltb i c && eqb (keyAt 91 662 a i) (keyOf 91 662 probe))) where
@@ -86,17 +72,17 @@ module _ (k : ℕ) (d : Case) (hk : k < 2 ^ keyBits) (fd : CaseFits d) where
         stand : (t : Bool) → st ≡ t → (ltb i c && eqb (keyAt 91 662 a i) (keyOf 91 662 row)) ≡ t
         stand t e = ap (λ (z : ℕ). ltb i c && eqb (keyAt 91 662 a i) z) (sym same-key) ∙ sym es ∙ e
 
-        pub case-over : st ≡ true → (b : List ℕ) → length b ≡ length a → b ≡ replaced 91 i row a → Changed cases keyBits false row a b
+        pub case-over : st ≡ true → (b : List ℕ) → length b ≡ length a → b ≡ replaced 91 i row a → CaseIn k d a b
         case-over e b len x = done b true len (over i place (stand true e) refl x)
 
-        pub case-full : st ≡ false → (t : Bool) → t ≡ (leb (c + v + 1) 4096 && leb (4 + 91 * (c + v + 1)) (length a)) → t ≡ false → Changed cases keyBits false row a a
+        pub case-full : st ≡ false → (t : Bool) → t ≡ (leb (c + v + 1) 4096 && leb (4 + 91 * (c + v + 1)) (length a)) → t ≡ false → CaseIn k d a a
         case-full e t x f = done a false refl (full i place (stand false e) (λ p q. room-denied 91 (c + v + 1) (length a) t x f (omega arith) q) refl refl)
 
         pub case-new : st ≡ false → (b : List ℕ) → length b ≡ length a → c + v + 1 ≤ 4096 → 4 + 91 * (c + v + 1) ≤ length a →
-            b ≡ withCount 0 (c + 1) (inserted 91 i (c + v) row a) → Changed cases keyBits false row a b
+            b ≡ withCount 0 (c + 1) (inserted 91 i (c + v) row a) → CaseIn k d a b
         case-new e b len few fits x =
             let z : c + 1 ≡ c - 0 + 1 = omega arith in
             done b true len (new i place (stand false e) (omega arith) fits refl (x ∙ ap (λ (y : ℕ). withCount 0 y (inserted 91 i (c + v) row a)) z))
 
-pub case-short : (row a : List ℕ) → length a < 4 → Changed cases keyBits false row a a
-case-short row a h = record { holds = λ q s st o. absurd (omega (arith, st .long)); kept = refl }
+pub case-short : (k : ℕ) (d : Case) (a : List ℕ) → length a < 4 → CaseIn k d a a
+case-short k d a h s st ready = absurd (omega (arith, st .long))

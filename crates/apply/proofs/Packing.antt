@@ -25,7 +25,7 @@ high-part n =
     omega arith
 
 -- a probe's key has its bits
-pub probe-small : (probe : List ℕ) → Fit (each 8 probe) → length probe ≡ rowBytes → keyOf rowBytes keyBits probe < 2 ^ keyBits
+probe-small : (probe : List ℕ) → Fit (each 8 probe) → length probe ≡ rowBytes → keyOf rowBytes keyBits probe < 2 ^ keyBits
 unfolding keyOf
 probe-small probe f l = shr-lt keyBits 66 (rw l at (num-lt probe f))
 

@@ -9,25 +9,28 @@ use lib.ListN.{length}
 use borrow.Author.Tests.{not-false, ltb-false}
 use Rattle.laws.specs.Lists.{all}
 use Rattle.laws.proofs.Truth.{or-right, and-left, and-right}
-use Rattle.rows.specs.Pack.{num}
-use Rattle.rows.specs.Row.{Case, keyBits, keyNumber, caseNumber}
+use Rattle.rows.specs.Row.{Case, rowBytes, keyBits, keyNumber}
 use Rattle.model.specs.Map.{Row, Map, has, put, keep, del, putAll, delAll, anyIn, allIn, twice}
 use Rattle.model.specs.Checks.{first}
 use Rattle.model.specs.Flow.{State, applied}
 use Rattle.model.specs.Transmission.{Kind, insert, vary, cancel, isInsert, isCancel}
 use Rattle.model.proofs.MapLaws.{keep-true}
-use Rattle.register.specs.Layout.{siad, caseRest}
-use Rattle.register.specs.Bytes.{room, split}
+use Rattle.register.specs.Layout.{siad}
+use Rattle.register.specs.Bytes.{room}
 use Rattle.register.specs.Fields.{eventRow}
+use Rattle.register.specs.Search.{keyOf}
 use Rattle.register.specs.Stored.{Stored, cases, withRows}
 use Rattle.register.specs.Stored as group
+use Rattle.register.specs.Storing.{Dropped}
+use Rattle.register.proofs.States.{laid-siad}
+use Rattle.register.proofs.Storing.{key-number}
 use Rattle.tracks.specs.Record.{Head, Admission, Said, Record, admission, events}
 use Rattle.checks.specs.Flow.{kindOf, next, caseRow, eventRows}
 use Rattle.checks.specs.Tests.{Context, eventsIn}
 use Rattle.checks.specs.Checks.{checksOf}
 use Rattle.checks.proofs.Accepted.{lawful, not17}
 use Rattle.apply.proofs.Merge.{map-length}
-use Rattle.apply.specs.Changes.{Changed}
+use Rattle.apply.specs.Cases.{rowFor, CaseIn}
 use Rattle.apply.specs.Events.{rowsFor, AllIn, AllOver, AllOut}
 
 -- a cancellation carries no other event away
@@ -36,33 +39,54 @@ none-away m es b = subst (λ (z : Map ℕ). Stored siad b (record { cases = m; e
 
 -- ---- Track 1: the case's row
 
--- the row put in has its room: 17 gives it to a new key, and by 15 the key of a variation stands
-case-by : (t : Kind) (r : Row ℕ) (row a b : List ℕ) (s : State ℕ ℕ) → Changed cases keyBits (isCancel t) row a b → split (caseRest siad) (num row) ≡ r →
-    Stored siad a s → not (isInsert t) && not (allIn (r ∷ []) (s .cases) && allIn [] (s .events)) ≡ false →
-    isInsert t && ltb (room siad (length a)) (length (s .cases) + length (s .events) + 1) ≡ false → Stored siad b (applied t (r ∷ []) [] (λ k. false) s)
-unfolding putAll delAll allIn all
-case-by insert r row a b s f x st n15 n17 =
-    subst (λ (z : Row ℕ). Stored siad b (withRows cases (put z (s .cases)) s)) x
-    (f .holds refl s st (λ o q. omega (arith, ltb-false (room siad (length a)) (length (s .cases) + length (s .events) + 1) n17)))
-case-by vary r row a b s f x st n15 n17 =
-    let h : has (r .key) (s .cases) ≡ true = and-left (has (r .key) (s .cases)) true (and-left (has (r .key) (s .cases) && true) true (not-false _ n15)) in
-    subst (λ (z : Row ℕ). Stored siad b (withRows cases (put z (s .cases)) s)) x
-    (f .holds refl s st (λ o q. absurd (true≢false (sym h ∙ ap (λ (z : Row ℕ). has (z .key) (s .cases)) (sym x) ∙ q))))
-case-by cancel r row a b s f x st n15 n17 =
-    none-away (del (r .key) (s .cases)) (s .events) b
-    (subst (λ (z : Row ℕ). Stored siad b (withRows cases (del (z .key) (s .cases)) s)) x (f .holds refl s st (λ o. absurd (true≢false o))))
+-- the register b is a without the case with the key k, if it stood
+abbrev pub CaseOut : ℕ → List ℕ → List ℕ → Type 0
+CaseOut k a b = (s : State ℕ ℕ) → Stored siad a s → Stored siad b (withRows cases (del k (s .cases)) s)
 
--- the case's row put in or taken out is the accepted record's next state
-pub case-applied : (a b row : List ℕ) (tipo k : ℕ) (d : Case) (out : Bool) → out ≡ isCancel (kindOf tipo) → Changed cases keyBits out row a b →
-    split (caseRest siad) (num row) ≡ record { key = k; val = caseNumber d * 2 ^ 7 } →
-    (h : Head) (x : Admission) (s : State ℕ ℕ) (c : Context) → keyNumber (h .key) ≡ k → tipo ≡ h .tipo → x .case ≡ d → c .room ≡ room siad (length a) →
-    Stored siad a s → first (checksOf c (admission h x)) s ≡ 0 → Stored siad b (next (admission h x) s)
-case-applied a b row tipo k d out o f is h x s c key t case m st e =
-    let r : Record = admission h x in
-    case-by (kindOf (h .tipo)) (caseRow (h .key) (x .case)) row a b s
-    (subst (λ (z : Bool). Changed cases keyBits z row a b) (o ∙ ap (λ (z : ℕ). isCancel (kindOf z)) t) f)
-    (is ∙ ap₂ (λ (p : ℕ) (q : Case). record { key = p; val = caseNumber q * 2 ^ 7 }) (sym key) (sym case)) st (lawful c .not15 s r e)
-    (subst (λ (n : ℕ). isInsert (kindOf (h .tipo)) && ltb n (length (s .cases) + length (s .events) + 1) ≡ false) m (not17 c s r e))
+pub case-gone : (probe a b : List ℕ) (r : Bool) → Dropped cases rowBytes keyBits probe a b r → CaseOut (keyOf rowBytes keyBits probe) a b
+case-gone probe a b r x s st =
+    subst (λ (z : ℕ). Stored siad b (withRows cases (del z (s .cases)) s)) (sym (key-number cases siad probe)) (x .holds siad laid-siad refl refl s st .1)
+
+-- what a record of each kind does with its case
+abbrev CaseDone : Kind → ℕ → Case → List ℕ → List ℕ → Type 0
+CaseDone insert k d a b = CaseIn k d a b
+CaseDone vary k d a b = CaseIn k d a b
+CaseDone cancel k d a b = CaseOut k a b
+
+module _ (k : ℕ) (d : Case) (a b : List ℕ) where
+  pub case-out : (t : Kind) → isCancel t ≡ true → CaseOut k a b → CaseDone t k d a b
+  case-out insert e f = absurd (true≢false (sym e))
+  case-out vary e f = absurd (true≢false (sym e))
+  case-out cancel e f = f
+
+  pub case-in : (t : Kind) → isCancel t ≡ false → CaseIn k d a b → CaseDone t k d a b
+  case-in insert e f = f
+  case-in vary e f = f
+  case-in cancel e f = absurd (true≢false e)
+
+  -- the row put in has its room: 17 gives it to a new key, and by 15 the key of a variation stands
+  case-by : (t : Kind) (s : State ℕ ℕ) → CaseDone t k d a b → Stored siad a s →
+      not (isInsert t) && not (allIn (rowFor k d ∷ []) (s .cases) && allIn [] (s .events)) ≡ false →
+      isInsert t && ltb (room siad (length a)) (length (s .cases) + length (s .events) + 1) ≡ false →
+      Stored siad b (applied t (rowFor k d ∷ []) [] (λ k. false) s)
+  unfolding putAll delAll allIn all
+  case-by insert s f st n15 n17 = f s st (λ q. omega (arith, ltb-false (room siad (length a)) (length (s .cases) + length (s .events) + 1) n17))
+  case-by vary s f st n15 n17 =
+      let h : has k (s .cases) ≡ true = and-left (has k (s .cases)) true (and-left (has k (s .cases) && true) true (not-false _ n15)) in
+      f s st (λ q. absurd (true≢false (sym h ∙ q)))
+  case-by cancel s f st n15 n17 = none-away (del k (s .cases)) (s .events) b (f s st)
+
+  -- the case's row put in or taken out is the accepted record's next state
+  pub case-applied : (tipo : ℕ) → CaseDone (kindOf tipo) k d a b →
+      (h : Head) (x : Admission) (s : State ℕ ℕ) (c : Context) → keyNumber (h .key) ≡ k → tipo ≡ h .tipo → x .case ≡ d → c .room ≡ room siad (length a) →
+      Stored siad a s → first (checksOf c (admission h x)) s ≡ 0 → Stored siad b (next (admission h x) s)
+  case-applied tipo f h x s c key t case m st e =
+      let r : Record = admission h x in
+      let is : rowFor k d ≡ caseRow (h .key) (x .case) = ap₂ rowFor (sym key) (sym case) in
+      subst (λ (z : Row ℕ). Stored siad b (applied (kindOf (h .tipo)) (z ∷ []) [] (λ k. false) s)) is
+      (case-by (kindOf (h .tipo)) s (subst (λ (z : ℕ). CaseDone (kindOf z) k d a b) t f) st
+      (subst (λ (z : Row ℕ). not (isInsert (kindOf (h .tipo))) && not (allIn (z ∷ []) (s .cases) && allIn [] (s .events)) ≡ false) (sym is) (lawful c .not15 s r e))
+      (subst (λ (n : ℕ). isInsert (kindOf (h .tipo)) && ltb n (length (s .cases) + length (s .events) + 1) ≡ false) m (not17 c s r e)))
 
 -- ---- Track 2: the events' rows
 

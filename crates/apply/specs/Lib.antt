@@ -1,3 +1,3 @@
-pub mod Changes
 pub mod RowBytes
+pub mod Cases
 pub mod Events

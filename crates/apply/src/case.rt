@@ -1,13 +1,11 @@
 // A case's row: the key that its probe holds, then its fields; packed straight into its place.
 ghost use mathlib.Core.Path.{_≡_};
-ghost use mathlib.Core.Bool.{false};
 ghost use Prim.Native.Nat.{_+_, _*_, _≤_, _<_};
 ghost use lib.ListN.{length};
 ghost use Rattle.rows.specs.Row.{rowBytes, keyBits, caseOf, CaseFits};
 ghost use Rattle.register.specs.Moves.{openedBy, inserted, replaced};
 ghost use Rattle.register.specs.Search.{keyOf};
-ghost use Rattle.register.specs.Stored.{cases};
-ghost use Rattle.apply.specs.Changes.{Changed};
+ghost use Rattle.apply.specs.Cases.{CaseIn};
 ghost use Rattle.apply.specs.RowBytes.{caseBytes, Keyed};
 use crate::key::key_in;
 use register::counts::count;
@@ -79,7 +77,7 @@ fn insert_case(
 // A case put in: over the row with its key, or into its place among the cases.
 pub fn put_case(reg: &mut [u8], probe: &[u8], birth: u64, prevalente: &[u8], scales: &[u8])
     requires { ⌜ (length (now probe) ≡ rowBytes) × CaseFits (caseOf birth (now prevalente) (now scales)) ⌝ }
-    ensures { λ _. ⌜ Changed cases keyBits false (caseBytes (keyOf rowBytes keyBits (now (probe .entry))) (caseOf birth (now (prevalente .entry)) (now (scales .entry)))) (now (reg .entry)) (now (reg .exit)) ⌝ }
+    ensures { λ _. ⌜ CaseIn (keyOf rowBytes keyBits (now (probe .entry))) (caseOf birth (now (prevalente .entry)) (now (scales .entry))) (now (reg .entry)) (now (reg .exit)) ⌝ }
 {
     if reg.len() < 4 {
         return;

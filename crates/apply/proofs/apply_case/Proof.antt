@@ -1,14 +1,8 @@
-use mathlib.Core.Path.{refl, sym, subst}
-use mathlib.Core.Bool.{Bool}
+use mathlib.Core.Path.{sym, _∙_}
 use Rattle.rows.specs.Row.{rowBytes, keyBits, caseOf}
 use Rattle.register.specs.Search.{keyOf}
-use Rattle.rows.proofs.Bytes.{fit-of}
-use Rattle.register.specs.Stored.{cases}
-use Rattle.apply.specs.Changes.{Changed}
-use Rattle.apply.specs.RowBytes.{caseBytes}
-use Rattle.apply.proofs.CaseBytes.{case-is, case-gone}
-use Rattle.apply.proofs.Packing.{probe-small}
-use Rattle.apply.proofs.Records.{case-applied}
+use Rattle.checks.specs.Flow.{kindOf}
+use Rattle.apply.proofs.Records.{case-gone, case-out, case-in, case-applied}
 use borrow.Author.Needs.{needs}
 use Rattle.apply.proofs.apply_case.Statement.{statement}
 use Rattle.apply.proofs.apply_case.Tie as tie
@@ -28,16 +22,11 @@ same-length c = search needs
 returns : tie.Need-returns
 returns c =
     let a = c .before .before .before .before .before .before .before .before .before .before .args in
-    let p = c .before .before .before .before .before .before .before .before .before .before .pre in
     let k = keyOf rowBytes keyBits (a .probe .now) in
-    let small = probe-small (a .probe .now) (fit-of 8 (a .probe .now) (λ i. c .before .before .before .before .before .before .before .before .shared-slice-known .given i .fits)) (p .0) in
     let d = caseOf (a .birth) (a .prevalente .now) (a .scales .now) in
-    let b = c .before .before .remove .last .0 in
-    let out : Bool = c .before .before .before .before .before .cancels .result in
-    let x : Changed cases keyBits out (caseBytes k d) (a .reg .now) b = case-gone k d small (p .1) (a .probe .now) refl out (a .reg .now) b (c .before .before .remove .result) (c .before .before .before .before .if1 .taken) (c .before .before .remove .ensures) in (
-      case-applied (a .reg .now) b (caseBytes k d) (a .tipo) k d out (c .before .before .before .before .before .cancels .ensures) x
-          (case-is k d small (p .1)),
-      x .kept,
+    let b = c .before .before .remove .last .0 in (
+      case-applied k d (a .reg .now) b (a .tipo) (case-out k d (a .reg .now) b (kindOf (a .tipo)) (sym (c .before .before .before .before .before .cancels .ensures) ∙ c .before .before .before .before .if1 .taken) (case-gone (a .probe .now) (a .reg .now) b (c .before .before .remove .result) (c .before .before .remove .ensures))),
+      c .before .before .remove .kept .0,
     )
 
 same-length-2 : tie.Need-same-length-2
@@ -46,16 +35,11 @@ same-length-2 c = search needs
 returns-2 : tie.Need-returns-2
 returns-2 c =
     let a = c .before .before .before .before .before .before .before .before .before .before .args in
-    let p = c .before .before .before .before .before .before .before .before .before .before .pre in
     let k = keyOf rowBytes keyBits (a .probe .now) in
-    let small = probe-small (a .probe .now) (fit-of 8 (a .probe .now) (λ i. c .before .before .before .before .before .before .before .before .shared-slice-known .given i .fits)) (p .0) in
     let d = caseOf (a .birth) (a .prevalente .now) (a .scales .now) in
-    let b = c .before .before .put-case .last .0 in
-    let out : Bool = c .before .before .before .before .before .cancels .result in
-    let x : Changed cases keyBits out (caseBytes k d) (a .reg .now) b = subst (λ (z : Bool). Changed cases keyBits z (caseBytes k d) (a .reg .now) b) (sym (c .before .before .before .before .if1 .left)) (c .before .before .put-case .ensures) in (
-      case-applied (a .reg .now) b (caseBytes k d) (a .tipo) k d out (c .before .before .before .before .before .cancels .ensures) x
-          (case-is k d small (p .1)),
-      x .kept,
+    let b = c .before .before .put-case .last .0 in (
+      case-applied k d (a .reg .now) b (a .tipo) (case-in k d (a .reg .now) b (kindOf (a .tipo)) (sym (c .before .before .before .before .before .cancels .ensures) ∙ c .before .before .before .before .if1 .left) (c .before .before .put-case .ensures)),
+      c .before .before .put-case .kept .0,
     )
 
 pub apply-case-spec : {M : Type 1} → statement M

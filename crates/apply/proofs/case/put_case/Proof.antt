@@ -7,7 +7,6 @@ use Rattle.register.specs.Search.{keyOf}
 use Rattle.register.specs.Moves.{withCount}
 use Rattle.register.proofs.Keys.{stands-in}
 use Rattle.register.proofs.Stores.{room-few, room-end}
-use Rattle.apply.specs.RowBytes.{caseBytes}
 use Rattle.apply.proofs.CaseBytes.{case-short, case-misfits, case-over, case-full, case-new}
 use native.Mathlib.Omega.{arith}
 use borrow.Author.Needs.{needs}
@@ -17,7 +16,7 @@ use Rattle.apply.proofs.case.put_case.Tie as tie
 returns : tie.Need-returns
 returns c =
     let a = c .before .before .before .before .before .args in
-    case-short (caseBytes (keyOf rowBytes keyBits (a .probe .now)) (caseOf (a .birth) (a .prevalente .now) (a .scales .now))) (a .reg .now) (c .if1 .taken)
+    case-short (keyOf rowBytes keyBits (a .probe .now)) (caseOf (a .birth) (a .prevalente .now) (a .scales .now)) (a .reg .now) (c .if1 .taken)
 
 key-in-requires : tie.Need-key-in-requires
 key-in-requires c κs = search needs
