@@ -1,5 +1,6 @@
 pub mod RowsPacked
 pub mod CaseBytes
+pub mod OwnKey
 pub mod Merge
 pub mod Growing
 pub mod Packing

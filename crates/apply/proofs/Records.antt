@@ -1,5 +1,5 @@
 -- What an accepted record leaves in a register: 14, 15, 17 and 22 give what the bytes ask.
-use Prim.Native.Nat.{ℕ, _+_, _*_, _^_}
+use Prim.Native.Nat.{ℕ, _+_}
 use mathlib.Core.Path.{_≡_, refl, sym, ap, ap₂, _∙_, subst}
 use mathlib.Core.Bool.{Bool, true, false, not, _&&_, _||_, true≢false}
 use mathlib.Core.List.{List, [], _∷_}
@@ -10,7 +10,7 @@ use borrow.Author.Tests.{not-false, ltb-false}
 use Rattle.laws.specs.Lists.{all}
 use Rattle.laws.proofs.Truth.{or-right, and-left, and-right}
 use Rattle.rows.specs.Row.{Case, rowBytes, keyBits, keyNumber}
-use Rattle.model.specs.Map.{Row, Map, has, put, keep, del, putAll, delAll, anyIn, allIn, twice}
+use Rattle.model.specs.Map.{Row, Map, has, keep, del, putAll, delAll, anyIn, allIn, twice}
 use Rattle.model.specs.Checks.{first}
 use Rattle.model.specs.Flow.{State, applied}
 use Rattle.model.specs.Transmission.{Kind, insert, vary, cancel, isInsert, isCancel}

@@ -28,7 +28,8 @@ use Rattle.register.proofs.Places.{keys-rise}
 use Rattle.register.proofs.States.{laid-siad}
 use Rattle.apply.specs.Events.{rowsFor, NextBelow}
 use Rattle.apply.proofs.Merge.{none-past}
-use Rattle.apply.proofs.Growing.{key-parts, keepFrom, either}
+use Rattle.apply.proofs.OwnKey.{whole-placed, key-parts, either}
+use Rattle.apply.proofs.Growing.{keepFrom}
 use Rattle.apply.proofs.Without.{all-shrunk, next-stands, next-shrunk}
 
 -- the state once the keys from the bound on are out
@@ -87,33 +88,10 @@ module _ (k : ℕ) (evs : List ℕ) (s : State ℕ ℕ) (once : twice (rowsFor k
     rise : Rises (keyAt 91 681 a) c m
     rise = rw (g .start, g .total) (keys-rise siad laid-siad events a now (g .stored))
 
-    field-rise : Rises (fieldIn 91 662 19 b) lo i
-    field-rise x y h l u =
-        let z = rise x y (omega arith) l (omega arith) in
-        let kx = key-parts a x in
-        let ky = key-parts a y in
-        let ox = field-is x (omega arith) in
-        let oy = field-is y (omega arith) in
-        let ix = g .inside x h (omega arith) in
-        let iy = g .inside y (omega arith) u in
-        omega arith
-
     placed : Placed (keyAt 91 681 a) key c m r
     placed =
-        record {
-          low = omega (arith, pl .low);
-          high = omega (arith, pl .high);
-          under = λ z p x y.
-              ⊎-elim
-              (λ w. let u = pl .under field-rise p w y in let o = field-is p (omega (arith, pl .high)) in let d = key-parts a p in let v = g .inside p w (omega (arith, pl .high)) in omega arith)
-              (λ w. let v = g .early p x w in omega arith)
-              (either lo p);
-          over = λ z p x y.
-              ⊎-elim
-              (λ w. let v = g .late p w y in let d = nb .below hq in omega arith)
-              (λ w. let u = pl .over field-rise p x w in let o = field-is p (omega arith) in let d = key-parts a p in let v = g .inside p (omega (arith, pl .low)) w in omega arith)
-              (either i p);
-        }
+        whole-placed k own a (fieldIn 91 662 19 b) c lo i m r rise lc im field-is (λ p x y. let w = g .early p x y in omega arith)
+        (g .inside) (λ p x y. let w = g .late p x y in let d = nb .below hq in omega arith) pl
 
     below-bound : key < k * 2 ^ 19 + bound
     below-bound = omega (arith, nb .below hq)

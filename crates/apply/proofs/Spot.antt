@@ -1,5 +1,5 @@
 -- An event's place among its case's rows is its place among all events.
-use Prim.Native.Nat.{ℕ, _+_, _*_, _/_, _^_, _≤_, _<_}
+use Prim.Native.Nat.{ℕ, _+_, _*_, _/_, _^_, _<_}
 use mathlib.Core.Path.{_≡_, refl, sym, ap, subst, _∙_}
 use mathlib.Core.Logic.{⊎-elim}
 use mathlib.Core.Bool.{true, _&&_, true≢false}
@@ -25,7 +25,8 @@ use Rattle.register.proofs.Places.{keys-rise}
 use Rattle.register.proofs.States.{laid-siad}
 use Rattle.register.proofs.Storing.{put-done}
 use Rattle.apply.specs.RowBytes.{eventBytes}
-use Rattle.apply.proofs.Growing.{key-parts, row-key, row-split, either}
+use Rattle.apply.proofs.OwnKey.{whole-placed, key-parts, either}
+use Rattle.apply.proofs.Growing.{row-key, row-split}
 
 module _ (k e : ℕ) (hk : k < 2 ^ keyBits) (he : e < 2 ^ eventBits) (a : List ℕ) (s : State ℕ ℕ) (st : Stored siad a s) (c n : ℕ) (ec : c ≡ length (s .cases))
     (en : n ≡ length (s .cases) + length (s .events)) (lo hi r : ℕ) (rg : Ranged (keyAt 91 662 a) k c n lo hi)
@@ -39,36 +40,20 @@ module _ (k e : ℕ) (hk : k < 2 ^ keyBits) (he : e < 2 ^ eventBits) (a : List �
   rise : Rises (keyAt 91 662 a) c n
   rise p q x y z = cases-rise siad laid-siad a s st p q (omega arith) y (omega arith)
 
-  in-case : (p : ℕ) → lo ≤ p → p < hi → keyAt 91 681 a p ≡ k * 2 ^ 19 + fieldIn 91 662 19 a p
-  in-case p x y = let i = rg .inside rise p x y in let d = key-parts a p in omega arith
-
-  field-rise : Rises (fieldIn 91 662 19 a) lo hi
-  field-rise p q x y z =
-      let t = keys-rise siad laid-siad events a s st p q (omega (arith, rg .low)) y (omega (arith, rg .high)) in
-      let i = in-case p x (omega arith) in
-      let j = in-case q (omega arith) z in
-      omega arith
-
   key-is : keyOf 91 681 row ≡ k * 2 ^ 19 + e / 2 ^ 33
   key-is = row-key k e hk he
 
   -- the place found by the event's own part of the key is that of the whole key
   pub placed : Placed (keyAt 91 681 a) (keyOf 91 681 row) (length (s .cases)) end r
   placed =
-      record {
-        low = omega (arith, rg .low, pl .low);
-        high = omega (arith, rg .high, pl .high);
-        under = λ z p x y.
-            ⊎-elim
-            (λ w. let u = pl .under field-rise p w y in let i = in-case p w (omega (arith, pl .high)) in omega (arith, key-is))
-            (λ w. let u = rg .before rise p (omega arith) w in let d = key-parts a p in omega (arith, key-is))
-            (either lo p);
-        over = λ z p x y.
-            ⊎-elim
-            (λ w. let u = rg .after rise p w (omega arith) in let d = key-parts a p in omega (arith, key-is))
-            (λ w. let u = pl .over field-rise p x w in let i = in-case p (omega (arith, pl .low)) w in omega (arith, key-is))
-            (either hi p);
-      }
+      let z : e / 2 ^ 33 < 2 ^ 19 = omega arith in
+      let y : Placed (keyAt 91 681 a) (k * 2 ^ 19 + e / 2 ^ 33) c n r
+      = whole-placed k (e / 2 ^ 33) a (fieldIn 91 662 19 a) c lo hi n r (λ p q x y z. keys-rise siad laid-siad events a s st p q (omega arith) y (omega arith)) (rg .low) (rg .high)
+      (λ p h. refl) (λ p x y. let u = rg .before rise p x y in let d = key-parts a p in omega arith) (rg .inside rise)
+      (λ p x y. let u = rg .after rise p x y in let d = key-parts a p in omega arith) pl in
+      subst (λ (x : ℕ). Placed (keyAt 91 681 a) x (length (s .cases)) end r) (sym key-is)
+      (subst (λ (x : ℕ). Placed (keyAt 91 681 a) (k * 2 ^ 19 + e / 2 ^ 33) (length (s .cases)) x r) en
+      (subst (λ (x : ℕ). Placed (keyAt 91 681 a) (k * 2 ^ 19 + e / 2 ^ 33) x n r) ec y))
 
   -- where the event's key stands
   module _ (h : has (eventRow k e .key) (s .events) ≡ true) where

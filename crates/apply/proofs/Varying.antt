@@ -29,7 +29,7 @@ use Rattle.register.proofs.Stores.{room-denied}
 use Rattle.apply.specs.RowBytes.{eventBytes}
 use Rattle.apply.specs.Events.{rowsFor, AllOver}
 use Rattle.apply.proofs.Filling.{standing}
-use Rattle.apply.proofs.Growing.{key-parts}
+use Rattle.apply.proofs.OwnKey.{key-parts}
 use Rattle.apply.proofs.Spot.{found, written-over}
 
 -- ---- rows over those with their keys: the keys stay

@@ -65,6 +65,7 @@ pub fn cancel_events(reg: &mut [u8], probe: &[u8], evs: &[u64])
     let mut j = 0;
     let mut bound = OWN_KEYS;
     while j < k {
+        // There is one, and its row stands in front of the gap.
         let p = next_below(evs, bound);
         if k <= p {
             return;

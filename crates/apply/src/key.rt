@@ -4,16 +4,22 @@ ghost use lib.ListN.{length};
 ghost use Rattle.rows.specs.Row.{rowBytes, keyBits};
 ghost use Rattle.register.specs.Search.{keyOf};
 ghost use Rattle.apply.specs.RowBytes.{Keyed};
+use rows::reader::get;
 use rows::writer::Bits;
 
-// The writer behind the probe's key: 82 bytes and 6 bits.
+// A key's 662 bits are so many whole bytes, and so many bits more.
+const BYTES: usize = 82;
+
+const MORE: u32 = 6;
+
+// The writer behind the probe's key.
 pub fn key_in(probe: &[u8]) -> Bits
     requires { ⌜ length (now probe) ≡ rowBytes ⌝ }
     ensures { λ r. ⌜ Keyed (now (probe .entry)) r (keyOf rowBytes keyBits (now (probe .entry))) ⌝ }
 {
     Bits {
-        acc: rows::reader::get(probe, 656, 6),
-        have: 6,
-        at: 82,
+        acc: get(probe, 8 * BYTES, MORE as usize),
+        have: MORE,
+        at: BYTES,
     }
 }

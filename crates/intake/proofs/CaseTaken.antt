@@ -3,16 +3,14 @@ use Prim.Native.Nat.{ℕ}
 use mathlib.Core.Path.{_≡_, sym, ap, _∙_, subst}
 use mathlib.Core.Bool.{true}
 use mathlib.Core.List.{List}
-use lib.ListN.{length, drop}
+use lib.ListN.{length}
 use Rattle.rows.specs.Pack.{each, Fit}
 use Rattle.rows.specs.Row.{keyNumber, caseOf, CaseFits}
 use Rattle.model.specs.Checks.{first}
 use Rattle.model.specs.Flow.{State}
 use Rattle.model.proofs.ChecksLaws.{clear}
-use Rattle.markup.specs.Reading.Read.{read}
-use Rattle.markup.specs.Elements.{Tree, element}
+use Rattle.markup.specs.Elements.{Tree}
 use Rattle.markup.specs.View.{part}
-use Rattle.reading.specs.Many.{belowRoot}
 use Rattle.register.specs.Bytes.{room, stateOf}
 use Rattle.register.specs.Layout.{siad}
 use Rattle.register.specs.Search.{keyOf}

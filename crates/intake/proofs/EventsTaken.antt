@@ -13,9 +13,7 @@ use Rattle.rows.specs.Pack.{each, Fit}
 use Rattle.rows.specs.Row.{eventBits, keyNumber}
 use Rattle.model.specs.Checks.{first}
 use Rattle.model.specs.Flow.{State}
-use Rattle.markup.specs.Reading.Read.{read}
-use Rattle.markup.specs.Elements.{Tree, element}
-use Rattle.reading.specs.Many.{belowRoot}
+use Rattle.markup.specs.Elements.{Tree}
 use Rattle.register.specs.Bytes.{room, stateOf}
 use Rattle.register.specs.Layout.{siad}
 use Rattle.register.specs.Search.{keyOf}

@@ -5,20 +5,18 @@ use mathlib.Core.Bool.{Bool, true, false, cond}
 use mathlib.Core.List.{List, [], append-nil}
 use native.Mathlib.Omega.{arith}
 use lib.Dec.{eqb}
-use lib.ListN.{length, drop, length-take, length-drop}
+use lib.ListN.{length, length-take, length-drop}
 use Rattle.rows.specs.Pack.{num}
 use Rattle.rows.specs.Row.{Key, keyFields, keyOf, keyNumber, rowNumber, KeyFits}
 use Rattle.rows.proofs.Table.{key-of}
-use Rattle.markup.specs.Reading.Read.{read}
-use Rattle.markup.specs.Elements.{Tree, element}
+use Rattle.markup.specs.Elements.{Tree}
 use Rattle.markup.specs.View.{part}
-use Rattle.reading.specs.Many.{belowRoot}
 use Rattle.register.specs.Search as search
 use Rattle.register.proofs.Keys.{probe-key}
 use Rattle.schema.specs.Shape.{faultOf}
 use Rattle.tracks.specs.Track1.{track1}
 use Rattle.tracks.specs.Track2.{track2}
-use Rattle.tracks.specs.Record.{Head, Record, admission, events, headOf, admissionOf, eventsOf, recordOf}
+use Rattle.tracks.specs.Record.{Record, admission, events, headOf, admissionOf, eventsOf, recordOf}
 use Rattle.tracks.specs.View.{eachOf, IsHead}
 use Rattle.tracks.specs.Top.{TopOf}
 use Rattle.tracks.specs.WellRead.{WellRead}
