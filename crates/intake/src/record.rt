@@ -2,7 +2,6 @@
 ghost use mathlib.Core.Path.{_≡_};
 ghost use mathlib.Core.Bool.{true};
 ghost use lib.ListN.{length};
-ghost use Rattle.days.specs.Table.{Firsts};
 ghost use Rattle.markup.specs.Elements.{Tree};
 ghost use Rattle.register.specs.Bytes.{room};
 ghost use Rattle.register.specs.Layout.{siad};
@@ -11,17 +10,20 @@ ghost use Rattle.judge.specs.View.{contextIn};
 ghost use Rattle.intake.specs.Taking.{Here, Took};
 use crate::admission::take_admission;
 use crate::events::take_events;
+use days::table::make;
 use judge::Limits;
 use nodes::Six;
 
-// The record whose children are at hand: its answer.
-pub fn take_record(t: &[u32; 2400], l: Limits, track: u64, s: &[u8], top: Six, reg: &mut [u8]) -> u8
-    requires { ⌜ Firsts (now t) × ((a : Tree) × Here track (now s) top a) × (isSound (now reg) ≡ true) × (l .room ≡ room siad (length (now reg))) ⌝ }
+// The record whose children are at hand: its answer. The table of days is made here and not above: the passes over the file before this one need none, and
+// have the stack to themselves.
+pub fn take_record(l: Limits, track: u64, s: &[u8], top: Six, reg: &mut [u8]) -> u8
+    requires { ⌜ ((a : Tree) × Here track (now s) top a) × (isSound (now reg) ≡ true) × (l .room ≡ room siad (length (now reg))) ⌝ }
     ensures { λ r. ⌜ ((a : Tree) → Here track (now (s .entry)) top a → Took track (contextIn l) (now (reg .entry)) a r (now (reg .exit))) ⌝ }
 {
+    let t = make();
     if track == 1 {
-        take_admission(t, l, s, top, reg)
+        take_admission(&t, l, s, top, reg)
     } else {
-        take_events(t, l, s, top, reg)
+        take_events(&t, l, s, top, reg)
     }
 }

@@ -2,7 +2,6 @@
 ghost use mathlib.Core.Path.{_≡_};
 ghost use mathlib.Core.Bool.{true};
 ghost use lib.ListN.{length, drop};
-ghost use Rattle.days.specs.Table.{Firsts};
 ghost use Rattle.markup.specs.Elements.{Inside, Tree};
 ghost use Rattle.markup.specs.View.{part};
 ghost use Rattle.reading.specs.Many.{belowRoot};
@@ -17,7 +16,6 @@ ghost use Rattle.judge.specs.View.{contextIn};
 ghost use Rattle.intake.specs.Taking.{TookAll};
 ghost use Rattle.intake.specs.Kids.{assistenza, Next, TookKid, Stretch, Whole};
 use crate::record::take_record;
-use days::table::make;
 use judge::Limits;
 use markup::Ending;
 use markup::Got;
@@ -38,7 +36,6 @@ pub struct Tally {
 
 // The root's child at a place, with its children at hand: a record is judged and stored, and its answer written.
 fn take_kid(
-    t: &[u32; 2400],
     l: Limits,
     track: u64,
     s: &[u8],
@@ -48,13 +45,13 @@ fn take_kid(
     reg: &mut [u8],
     answers: &mut [u8],
 ) -> Tally
-    requires { ⌜ Firsts (now t) × ((a : Tree) × Next track (now s) at top before (length (now answers)) a) × (isSound (now reg) ≡ true) × (l .room ≡ room siad (length (now reg))) ⌝ }
+    requires { ⌜ ((a : Tree) × Next track (now s) at top before (length (now answers)) a) × (isSound (now reg) ≡ true) × (l .room ≡ room siad (length (now reg))) ⌝ }
     ensures { λ r. ⌜ ((a : Tree) → Next track (now (s .entry)) at top before (length (now (answers .entry))) a → TookKid track (contextIn l) before (now (reg .entry)) (now (answers .entry)) a r (now (reg .exit)) (now (answers .exit))) ⌝ }
 {
     if !is_named(s, at, b"Assistenza") {
         return before;
     }
-    let answer = take_record(t, l, track, s, top, reg);
+    let answer = take_record(l, track, s, top, reg);
     let n = before.records;
     answers[n] = answer;
     if answer == 0 {
@@ -69,8 +66,7 @@ fn take_kid(
     }
 }
 
-// The records among the children from a place inside the root on: how many were accepted. The table of days is made here and not above: the passes over the
-// file before this one need none, and have the stack to themselves.
+// The records among the children from a place inside the root on: how many were accepted.
 fn take_all(
     l: Limits,
     track: u64,
@@ -84,7 +80,6 @@ fn take_all(
     requires { ⌜ ((i : Inside) × Stretch track (part (now s) name «name_end») (drop from (now s)) (length (now answers)) i) × (isSound (now reg) ≡ true) × (l .room ≡ room siad (length (now reg))) ⌝ }
     ensures { λ r. ⌜ ((i : Inside) → Holds belowRoot (part (now (s .entry)) name «name_end») (drop from (now (s .entry))) i → TookAll track (contextIn l) (now (reg .entry)) (now (answers .entry)) (namedIn assistenza (kids i)) r (now (reg .exit)) (now (answers .exit))) ⌝ }
 {
-    let t = make();
     let mut at = from;
     let mut tally = Tally {
         records: 0,
@@ -98,7 +93,7 @@ fn take_all(
         let Move::To(done) = record_end(s, q, top.rest) else {
             return tally.accepted;
         };
-        tally = take_kid(&t, l, track, s, q, top.found, tally, reg, answers);
+        tally = take_kid(l, track, s, q, top.found, tally, reg, answers);
         at = done.at;
     }
 }

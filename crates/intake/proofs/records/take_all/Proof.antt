@@ -2,7 +2,6 @@
 use Prim.Native.Nat.{_-_}
 use Rattle.intake.proofs.Along.{ends, ends-all}
 use Rattle.intake.proofs.Going.{Going, Kind, going-start, going-end, going-stuck, going-next, going-long, going-on}
-use Rattle.days.specs.Table.{Firsts}
 use Rattle.judge.specs.View.{contextIn}
 use Rattle.markup.specs.Elements.{Inside}
 use Rattle.markup.specs.View.{part}
@@ -19,21 +18,17 @@ use Rattle.intake.proofs.records.take_all.Statement.{statement}
 use Rattle.intake.proofs.records.take_all.Tie as tie
 
 abbrev Inv-loop : tie.InvT-loop
-Inv-loop l track s from name name-end reg₀ answers₀ t at₀ tally₀ reg answers at tally =
+Inv-loop l track s from name name-end reg₀ answers₀ at₀ tally₀ reg answers at tally =
     (length reg ≡ length reg₀) × (length answers ≡ length answers₀) × ((i : Inside) → Holds belowRoot (part s name name-end) (drop from s) i → Going track (contextIn l) tally reg answers (ends track (contextIn l) tally₀ reg₀ answers₀ (kids i)) (part s name name-end) (drop at s))
-    × Firsts t
 
 abbrev μ-loop : tie.MeasureT-loop
-μ-loop l track s from name name-end reg₀ answers₀ t at₀ tally₀ reg answers at tally =
+μ-loop l track s from name name-end reg₀ answers₀ at₀ tally₀ reg answers at tally =
     length s - at
-
-make-requires : tie.Need-make-requires Inv-loop μ-loop
-make-requires c κs = search needs
 
 loop-holds : tie.Need-loop-holds Inv-loop μ-loop
 loop-holds c =
-    let k : Kind (contextIn (c .before .before .before .before .args .l)) (now (c .before .before .before .before .args .reg)) = record { fit = fit-of 8 (now (c .before .before .before .before .args .reg)) (λ i. c .before .before .slice-known .given i .fits); sound = c .before .before .before .before .pre .1; room-is = c .before .before .before .before .pre .2 } in
-    (refl, refl, λ i w. going-start (c .before .before .before .before .args .track) (contextIn (c .before .before .before .before .args .l)) (now (c .before .before .before .before .args .reg)) (now (c .before .before .before .before .args .answers)) k (c .before .before .before .before .pre .0 .1) w, c .make .ensures)
+    let k : Kind (contextIn (c .before .before .before .args .l)) (now (c .before .before .before .args .reg)) = record { fit = fit-of 8 (now (c .before .before .before .args .reg)) (λ i. c .before .slice-known .given i .fits); sound = c .before .before .before .pre .1; room-is = c .before .before .before .pre .2 } in
+    (refl, refl, λ i w. going-start (c .before .before .before .args .track) (contextIn (c .before .before .before .args .l)) (now (c .before .before .before .args .reg)) (now (c .before .before .before .args .answers)) k (c .before .before .before .pre .0 .1) w)
 
 next-kid-requires : tie.Need-next-kid-requires Inv-loop μ-loop
 next-kid-requires c κs = search needs
@@ -54,7 +49,7 @@ returns : tie.Need-returns Inv-loop μ-loop
 returns c =
     let k = rw (c .enum-told .given .1) at (c .before .before .next-kid .ensures) in
     λ i w. let g = c .before .before .before .loop .inv .2 i w in
-    ends-all (c .before .before .before .before .before .before .before .before .args .track) (contextIn (c .before .before .before .before .before .before .before .before .args .l)) (now (c .before .before .before .before .before .before .before .before .args .reg)) (now (c .before .before .before .before .before .before .before .before .args .answers)) (kids i) (going-end (c .before .before .before .before .before .before .before .before .args .track) (contextIn (c .before .before .before .before .before .before .before .before .args .l)) g (k .0 _ _ (g .holds)))
+    ends-all (c .before .before .before .before .before .before .before .args .track) (contextIn (c .before .before .before .before .before .before .before .args .l)) (now (c .before .before .before .before .before .before .before .args .reg)) (now (c .before .before .before .before .before .before .before .args .answers)) (kids i) (going-end (c .before .before .before .before .before .before .before .args .track) (contextIn (c .before .before .before .before .before .before .before .args .l)) g (k .0 _ _ (g .holds)))
 
 top-of-requires : tie.Need-top-of-requires Inv-loop μ-loop
 top-of-requires c κs = search needs
@@ -78,32 +73,31 @@ returns-2 : tie.Need-returns-2 Inv-loop μ-loop
 returns-2 c =
     let k = rw (c .before .before .before .before .before .q .given .1) at (c .before .before .before .before .before .before .before .next-kid .ensures) in
     let y = rw (c .enum-told2 .given .1) at (c .before .before .record-end .ensures) in
-    λ i w. let g = c .before .before .before .before .before .before .before .before .loop .inv .2 i w in going-stuck (c .before .before .before .before .before .before .before .before .before .before .before .before .before .args .track) (contextIn (c .before .before .before .before .before .before .before .before .before .before .before .before .before .args .l)) g (k .0 _ _ (g .holds)) (let a = k .0 _ _ (g .holds) in y .0 (a .tree) (a .after) (a .reads) (c .before .before .before .top-of .ensures .0 (a .tree) (a .after) (a .reads) .1))
+    λ i w. let g = c .before .before .before .before .before .before .before .before .loop .inv .2 i w in going-stuck (c .before .before .before .before .before .before .before .before .before .before .before .before .args .track) (contextIn (c .before .before .before .before .before .before .before .before .before .before .before .before .args .l)) g (k .0 _ _ (g .holds)) (let a = k .0 _ _ (g .holds) in y .0 (a .tree) (a .after) (a .reads) (c .before .before .before .top-of .ensures .0 (a .tree) (a .after) (a .reads) .1))
 
 take-kid-requires : tie.Need-take-kid-requires Inv-loop μ-loop
 take-kid-requires c κs =
-    let k = rw (c .before .before .before .before .before .before .before .before .before .q .given .1) at (c .before .before .before .before .before .before .before .before .before .before .before .next-kid .ensures) in
-    let g = c .before .before .before .before .before .before .before .before .before .before .before .before .loop .inv .2 (c .before .before .before .before .before .before .before .before .before .before .before .before .before .before .before .before .before .pre .0 .0) (c .before .before .before .before .before .before .before .before .before .before .before .before .before .before .before .before .before .pre .0 .1 .holds) in
+    let k = rw (c .before .before .before .before .before .before .before .before .q .given .1) at (c .before .before .before .before .before .before .before .before .before .before .next-kid .ensures) in
+    let g = c .before .before .before .before .before .before .before .before .before .before .before .loop .inv .2 (c .before .before .before .before .before .before .before .before .before .before .before .before .before .before .before .pre .0 .0) (c .before .before .before .before .before .before .before .before .before .before .before .before .before .before .before .pre .0 .1 .holds) in
     let a = k .0 _ _ (g .holds) in
-    (c .before .before .before .before .before .before .before .before .before .before .before .before .loop .inv .3, (a .tree, going-next (c .before .before .before .before .before .before .before .before .before .before .before .before .before .before .before .before .before .args .track) (contextIn (c .before .before .before .before .before .before .before .before .before .before .before .before .before .before .before .before .before .args .l)) g a (c .before .before .before .before .before .before .before .top-of .ensures .0 (a .tree) (a .after) (a .reads) .0)), g .kind .sound, g .kind .room-is)
+    ((a .tree, going-next (c .before .before .before .before .before .before .before .before .before .before .before .before .before .before .before .args .track) (contextIn (c .before .before .before .before .before .before .before .before .before .before .before .before .before .before .before .args .l)) g a (c .before .before .before .before .before .before .top-of .ensures .0 (a .tree) (a .after) (a .reads) .0)), g .kind .sound, g .kind .room-is)
 
 loop-less : tie.Need-loop-less Inv-loop μ-loop
 loop-less c =
-    let k = rw (c .before .before .before .before .before .before .before .before .before .before .before .before .before .before .q .given .1) at (c .before .before .before .before .before .before .before .before .before .before .before .before .before .before .before .before .next-kid .ensures) in
-    let y = rw (c .before .before .before .before .before .before .before .before .before .done .given .1) at (c .before .before .before .before .before .before .before .before .before .before .before .record-end .ensures) in
+    let k = rw (c .before .before .before .before .before .before .before .before .before .before .before .before .before .q .given .1) at (c .before .before .before .before .before .before .before .before .before .before .before .before .before .before .before .next-kid .ensures) in
+    let y = rw (c .before .before .before .before .before .before .before .before .done .given .1) at (c .before .before .before .before .before .before .before .before .before .before .record-end .ensures) in
     omega arith
 
 loop-again : tie.Need-loop-again Inv-loop μ-loop
 loop-again c =
-    let k = rw (c .before .before .before .before .before .before .before .before .before .before .before .before .before .before .q .given .1) at (c .before .before .before .before .before .before .before .before .before .before .before .before .before .before .before .before .next-kid .ensures) in
-    let y = rw (c .before .before .before .before .before .before .before .before .before .done .given .1) at (c .before .before .before .before .before .before .before .before .before .before .before .record-end .ensures) in
-    let g = c .before .before .before .before .before .before .before .before .before .before .before .before .before .before .before .before .before .loop .inv .2 (c .before .before .before .before .before .before .before .before .before .before .before .before .before .before .before .before .before .before .before .before .before .before .pre .0 .0) (c .before .before .before .before .before .before .before .before .before .before .before .before .before .before .before .before .before .before .before .before .before .before .pre .0 .1 .holds) in
+    let k = rw (c .before .before .before .before .before .before .before .before .before .before .before .before .before .q .given .1) at (c .before .before .before .before .before .before .before .before .before .before .before .before .before .before .before .next-kid .ensures) in
+    let y = rw (c .before .before .before .before .before .before .before .before .done .given .1) at (c .before .before .before .before .before .before .before .before .before .before .record-end .ensures) in
+    let g = c .before .before .before .before .before .before .before .before .before .before .before .before .before .before .before .before .loop .inv .2 (c .before .before .before .before .before .before .before .before .before .before .before .before .before .before .before .before .before .before .before .before .pre .0 .0) (c .before .before .before .before .before .before .before .before .before .before .before .before .before .before .before .before .before .before .before .before .pre .0 .1 .holds) in
     let a = k .0 _ _ (g .holds) in
-    let z = going-long (c .before .before .before .before .before .before .before .before .before .before .before .before .before .before .before .before .before .before .before .before .before .before .args .track) (contextIn (c .before .before .before .before .before .before .before .before .before .before .before .before .before .before .before .before .before .before .before .before .before .before .args .l)) g a (c .before .before .before .before .take-kid .ensures (a .tree) (going-next (c .before .before .before .before .before .before .before .before .before .before .before .before .before .before .before .before .before .before .before .before .before .before .args .track) (contextIn (c .before .before .before .before .before .before .before .before .before .before .before .before .before .before .before .before .before .before .before .before .before .before .args .l)) g a (c .before .before .before .before .before .before .before .before .before .before .before .before .top-of .ensures .0 (a .tree) (a .after) (a .reads) .0))) in (
-      z .0 ∙ c .before .before .before .before .before .before .before .before .before .before .before .before .before .before .before .before .before .loop .inv .0,
-      z .1 ∙ c .before .before .before .before .before .before .before .before .before .before .before .before .before .before .before .before .before .loop .inv .1,
-      λ i w. let g = c .before .before .before .before .before .before .before .before .before .before .before .before .before .before .before .before .before .loop .inv .2 i w in let a = k .0 _ _ (g .holds) in going-on (c .before .before .before .before .before .before .before .before .before .before .before .before .before .before .before .before .before .before .before .before .before .before .args .track) (contextIn (c .before .before .before .before .before .before .before .before .before .before .before .before .before .before .before .before .before .before .before .before .before .before .args .l)) g a (c .before .before .before .before .take-kid .ensures (a .tree) (going-next (c .before .before .before .before .before .before .before .before .before .before .before .before .before .before .before .before .before .before .before .before .before .before .args .track) (contextIn (c .before .before .before .before .before .before .before .before .before .before .before .before .before .before .before .before .before .before .before .before .before .before .args .l)) g a (c .before .before .before .before .before .before .before .before .before .before .before .before .top-of .ensures .0 (a .tree) (a .after) (a .reads) .0))) (y .0 (a .tree) (a .after) (a .reads) (c .before .before .before .before .before .before .before .before .before .before .before .before .top-of .ensures .0 (a .tree) (a .after) (a .reads) .1)),
-      c .before .before .before .before .before .before .before .before .before .before .before .before .before .before .before .before .before .loop .inv .3,
+    let z = going-long (c .before .before .before .before .before .before .before .before .before .before .before .before .before .before .before .before .before .before .before .before .args .track) (contextIn (c .before .before .before .before .before .before .before .before .before .before .before .before .before .before .before .before .before .before .before .before .args .l)) g a (c .before .before .before .before .take-kid .ensures (a .tree) (going-next (c .before .before .before .before .before .before .before .before .before .before .before .before .before .before .before .before .before .before .before .before .args .track) (contextIn (c .before .before .before .before .before .before .before .before .before .before .before .before .before .before .before .before .before .before .before .before .args .l)) g a (c .before .before .before .before .before .before .before .before .before .before .before .top-of .ensures .0 (a .tree) (a .after) (a .reads) .0))) in (
+      z .0 ∙ c .before .before .before .before .before .before .before .before .before .before .before .before .before .before .before .before .loop .inv .0,
+      z .1 ∙ c .before .before .before .before .before .before .before .before .before .before .before .before .before .before .before .before .loop .inv .1,
+      λ i w. let g = c .before .before .before .before .before .before .before .before .before .before .before .before .before .before .before .before .loop .inv .2 i w in let a = k .0 _ _ (g .holds) in going-on (c .before .before .before .before .before .before .before .before .before .before .before .before .before .before .before .before .before .before .before .before .args .track) (contextIn (c .before .before .before .before .before .before .before .before .before .before .before .before .before .before .before .before .before .before .before .before .args .l)) g a (c .before .before .before .before .take-kid .ensures (a .tree) (going-next (c .before .before .before .before .before .before .before .before .before .before .before .before .before .before .before .before .before .before .before .before .args .track) (contextIn (c .before .before .before .before .before .before .before .before .before .before .before .before .before .before .before .before .before .before .before .before .args .l)) g a (c .before .before .before .before .before .before .before .before .before .before .before .top-of .ensures .0 (a .tree) (a .after) (a .reads) .0))) (y .0 (a .tree) (a .after) (a .reads) (c .before .before .before .before .before .before .before .before .before .before .before .top-of .ensures .0 (a .tree) (a .after) (a .reads) .1)),
     )
 
 pub take-all-spec : {M : Type 1} → statement M
@@ -112,7 +106,6 @@ take-all-spec =
     (tie.spec
     Inv-loop
     μ-loop
-    make-requires
     loop-holds
     next-kid-requires
     enum-known-q

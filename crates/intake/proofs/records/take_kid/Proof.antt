@@ -22,25 +22,25 @@ returns c =
 
 take-record-requires : tie.Need-take-record-requires
 take-record-requires c κs =
-    let p = c .before .before .before .before .before .before .before .pre .1 in
+    let p = c .before .before .before .before .before .before .before .pre .0 in
     let y : c .before .before .is-named .result ≡ true = not-false _ (c .before .if1 .left) in
-    (c .before .before .before .before .before .before .before .pre .0, (p .0, next-here (c .before .before .before .before .before .before .before .args .track) (contextIn (c .before .before .before .before .before .before .before .args .l)) (c .before .before .before .before .before .before .before .args .before) (now (c .before .before .before .before .before .before .before .args .reg)) (now (c .before .before .before .before .before .before .before .args .answers)) (p .0) (c .before .before .is-named .ensures belowRoot (p .0) ((p .1) .tops .after) ((p .1) .tops .reads)) (p .1) y), c .before .before .before .before .before .before .before .pre .2, c .before .before .before .before .before .before .before .pre .3)
+    ((p .0, next-here (c .before .before .before .before .before .before .before .args .track) (contextIn (c .before .before .before .before .before .before .before .args .l)) (c .before .before .before .before .before .before .before .args .before) (now (c .before .before .before .before .before .before .before .args .reg)) (now (c .before .before .before .before .before .before .before .args .answers)) (p .0) (c .before .before .is-named .ensures belowRoot (p .0) ((p .1) .tops .after) ((p .1) .tops .reads)) (p .1) y), c .before .before .before .before .before .before .before .pre .1, c .before .before .before .before .before .before .before .pre .2)
 
 slice-write-answers : tie.Need-slice-write-answers
 slice-write-answers c =
-    let p = c .before .before .before .before .before .before .before .before .before .before .pre .1 in
+    let p = c .before .before .before .before .before .before .before .before .before .before .pre .0 in
     let y : c .before .before .before .before .before .is-named .result ≡ true = not-false _ (c .before .before .before .before .if1 .left) in
     omega (arith, next-fits (c .before .before .before .before .before .before .before .before .before .before .args .track) (contextIn (c .before .before .before .before .before .before .before .before .before .before .args .l)) (c .before .before .before .before .before .before .before .before .before .before .args .before) (now (c .before .before .before .before .before .before .before .before .before .before .args .reg)) (now (c .before .before .before .before .before .before .before .before .before .before .args .answers)) (p .0) (c .before .before .before .before .before .is-named .ensures belowRoot (p .0) ((p .1) .tops .after) ((p .1) .tops .reads)) (p .1) y, p .1 .counts)
 
-add-t20 : tie.Need-add-t20
-add-t20 c =
-    let p = c .before .before .before .before .before .before .before .before .before .before .before .pre .1 in
+add-t19 : tie.Need-add-t19
+add-t19 c =
+    let p = c .before .before .before .before .before .before .before .before .before .before .before .pre .0 in
     let y : c .before .before .before .before .before .before .is-named .result ≡ true = not-false _ (c .before .before .before .before .before .if1 .left) in
     omega (arith, next-fits (c .before .before .before .before .before .before .before .before .before .before .before .args .track) (contextIn (c .before .before .before .before .before .before .before .before .before .before .before .args .l)) (c .before .before .before .before .before .before .before .before .before .before .before .args .before) (now (c .before .before .before .before .before .before .before .before .before .before .before .args .reg)) (now (c .before .before .before .before .before .before .before .before .before .before .before .args .answers)) (p .0) (c .before .before .before .before .before .before .is-named .ensures belowRoot (p .0) ((p .1) .tops .after) ((p .1) .tops .reads)) (p .1) y, p .1 .counts)
 
-add-t21 : tie.Need-add-t21
-add-t21 c =
-    let p = c .before .before .before .before .before .before .before .before .before .before .before .before .pre .1 in
+add-t20 : tie.Need-add-t20
+add-t20 c =
+    let p = c .before .before .before .before .before .before .before .before .before .before .before .before .pre .0 in
     let y : c .before .before .before .before .before .before .before .is-named .result ≡ true = not-false _ (c .before .before .before .before .before .before .if1 .left) in
     omega (arith, next-fits (c .before .before .before .before .before .before .before .before .before .before .before .before .args .track) (contextIn (c .before .before .before .before .before .before .before .before .before .before .before .before .args .l)) (c .before .before .before .before .before .before .before .before .before .before .before .before .args .before) (now (c .before .before .before .before .before .before .before .before .before .before .before .before .args .reg)) (now (c .before .before .before .before .before .before .before .before .before .before .before .before .args .answers)) (p .0) (c .before .before .before .before .before .before .before .is-named .ensures belowRoot (p .0) ((p .1) .tops .after) ((p .1) .tops .reads)) (p .1) y, p .1 .counts)
 
@@ -55,9 +55,9 @@ returns-2 c =
     let y : c .before .before .before .before .before .before .before .is-named .result ≡ true = not-false _ (c .before .before .before .before .before .before .if1 .left) in
     λ a k. kid-accepted (c .before .before .before .before .before .before .before .before .before .before .before .before .args .track) (contextIn (c .before .before .before .before .before .before .before .before .before .before .before .before .args .l)) (c .before .before .before .before .before .before .before .before .before .before .before .before .args .before) (now (c .before .before .before .before .before .before .before .before .before .before .before .before .args .reg)) (now (c .before .before .before .before .before .before .before .before .before .before .before .before .args .answers)) a (c .before .before .before .before .before .before .before .is-named .ensures belowRoot a (k .tops .after) (k .tops .reads)) y (c .before .before .before .before .take-record .result) (c .before .before .before .before .take-record .ensures a (next-here (c .before .before .before .before .before .before .before .before .before .before .before .before .args .track) (contextIn (c .before .before .before .before .before .before .before .before .before .before .before .before .args .l)) (c .before .before .before .before .before .before .before .before .before .before .before .before .args .before) (now (c .before .before .before .before .before .before .before .before .before .before .before .before .args .reg)) (now (c .before .before .before .before .before .before .before .before .before .before .before .before .args .answers)) a (c .before .before .before .before .before .before .before .is-named .ensures belowRoot a (k .tops .after) (k .tops .reads)) k y)) (c .before .if2 .taken)
 
-add-t22 : tie.Need-add-t22
-add-t22 c =
-    let p = c .before .before .before .before .before .before .before .before .before .before .before .pre .1 in
+add-t21 : tie.Need-add-t21
+add-t21 c =
+    let p = c .before .before .before .before .before .before .before .before .before .before .before .pre .0 in
     let y : c .before .before .before .before .before .before .is-named .result ≡ true = not-false _ (c .before .before .before .before .before .if1 .left) in
     omega (arith, next-fits (c .before .before .before .before .before .before .before .before .before .before .before .args .track) (contextIn (c .before .before .before .before .before .before .before .before .before .before .before .args .l)) (c .before .before .before .before .before .before .before .before .before .before .before .args .before) (now (c .before .before .before .before .before .before .before .before .before .before .before .args .reg)) (now (c .before .before .before .before .before .before .before .before .before .before .before .args .answers)) (p .0) (c .before .before .before .before .before .before .is-named .ensures belowRoot (p .0) ((p .1) .tops .after) ((p .1) .tops .reads)) (p .1) y, p .1 .counts)
 
@@ -81,12 +81,12 @@ take-kid-spec =
     returns
     take-record-requires
     slice-write-answers
+    add-t19
     add-t20
-    add-t21
     same-length
     same-length-2
     returns-2
-    add-t22
+    add-t21
     same-length-3
     same-length-4
     returns-3)
