@@ -1,9 +1,12 @@
 -- Binary search over numbers that do not fall.
 use Prim.Native.Nat.{ℕ, _+_, _≤_, _<_}
-use mathlib.Core.Path.{_≡_, ap}
+use mathlib.Core.Path.{_≡_, sym, ap, ap₂, _∙_}
+use mathlib.Core.Bool.{false, _&&_, true≢false}
 use mathlib.Core.Logic.{⊎-elim}
 use native.Mathlib.Nat.{add-zero, eq-or-lt-of-le}
 use native.Mathlib.Omega.{arith}
+use lib.Dec.{ltb, eqb}
+use borrow.Author.Tests.{lt-ltb, eq-eqb}
 use Rattle.register.specs.Search.{Rises, Placed, Ranged}
 
 -- what stands from lo up to a is below v, and what stands from e up to hi is not
@@ -67,3 +70,24 @@ between f v lo hi a e p q =
           omega (arith, q .under (λ x y l. r x y (omega (arith, p .low))) k h g, p .over r k h (omega (arith, q .high)));
       after = λ r k h g. omega (arith, q .over (λ x y l. r x y (omega (arith, p .low))) k h g);
     }
+
+-- the first place that is not below v is not v's: none is
+pub nowhere : (f : ℕ → ℕ) (v lo hi a : ℕ) → Placed f (v + 0) lo hi a → ltb a hi && eqb (f a) v ≡ false → Ranged f v lo hi a a
+nowhere f v lo hi a p n =
+    record {
+      low = p .low;
+      mid = omega arith;
+      high = p .high;
+      before = λ r k h g. omega (arith, p .under r k h g);
+      inside = λ r k h g. absurd (omega arith);
+      after = λ r k h g. let z = past r (omega arith) in ⊎-elim (λ w. let e : f a ≡ f k = ap f w in omega arith) (λ w. omega (arith, r a k (p .low) w g)) (eq-or-lt-of-le h);
+    }
+  where
+    other : a < hi → f a ≡ v → ⊥
+    other h e = true≢false (sym (ap₂ _&&_ (lt-ltb a hi h) (eq-eqb (f a) v e)) ∙ n)
+
+    past : Rises f lo hi → a < hi → v < f a
+    past r h = let z = p .over r a (omega arith) h in ne-lt (f a) v (omega arith) (other h)
+      where
+        ne-lt : (x y : ℕ) → y ≤ x → (x ≡ y → ⊥) → y < x
+        ne-lt x y l g = omega arith

@@ -88,6 +88,10 @@ pub fn case_range(reg: &[u8], w: usize, lo: usize, hi: usize, probe: &[u8], kbit
     ensures { λ r. ⌜ Ranged (keyAt w kbits (now (reg .entry))) (keyOf w kbits (now (probe .entry))) lo hi (r .lo) (r .hi) ⌝ }
 {
     let a = place(reg, w, lo, hi, probe, kbits, 0);
+    // None has the key: one comparison tells, in place of a second search.
+    if !stands(reg, w, a, hi, probe, kbits) {
+        return Span { lo: a, hi: a };
+    }
     let e = place(reg, w, a, hi, probe, kbits, 1);
     Span { lo: a, hi: e }
 }
