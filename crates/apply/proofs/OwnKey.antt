@@ -6,15 +6,16 @@ use mathlib.Core.List.{List}
 use native.Mathlib.Omega.{arith}
 use lib.Pow.{shr-shr}
 use Rattle.laws.proofs.Order.{Tri, below, equal, above, tri}
-use Rattle.rows.specs.Pack.{num}
+use Rattle.rows.specs.Packing.{num}
 use Rattle.register.specs.Gap.{bytesAt, fieldIn}
 use Rattle.register.specs.Search.{keyAt, Rises, Placed}
+use Rattle.home_care.specs.Row.{rowBytes, keyBits, eventKeyBits, ownBits}
 
-pub key-parts : (reg : List ℕ) (p : ℕ) → (keyAt 91 681 reg p ≡ keyAt 91 662 reg p * 2 ^ 19 + fieldIn 91 662 19 reg p) × (fieldIn 91 662 19 reg p < 2 ^ 19)
+pub key-parts : (reg : List ℕ) (p : ℕ) → (keyAt rowBytes eventKeyBits reg p ≡ keyAt rowBytes keyBits reg p * 2 ^ ownBits + fieldIn rowBytes keyBits ownBits reg p) × (fieldIn rowBytes keyBits ownBits reg p < 2 ^ ownBits)
 unfolding keyAt fieldIn
 key-parts reg p =
-    let n : ℕ = num (bytesAt 91 reg p) in
-    let e : n / 2 ^ 47 / 2 ^ 19 ≡ n / 2 ^ 66 = shr-shr n 47 19 in
+    let n : ℕ = num (bytesAt rowBytes reg p) in
+    let e : n / 2 ^ 47 / 2 ^ ownBits ≡ n / 2 ^ 66 = shr-shr n 47 ownBits in
     (omega arith, omega arith)
 
 pub either : (i p : ℕ) → (i ≤ p) ⊎ (p < i)
@@ -27,18 +28,18 @@ either i p = go (tri p i)
 
 -- m rows stand in a, the events from c on: those from lo up to t are the case k's, and those in front of and behind them have smaller and larger keys. The place
 -- of v among the own parts f of the case's rows is the place of the whole key among all events.
-module _ (k v : ℕ) (a : List ℕ) (f : ℕ → ℕ) (c lo t m r : ℕ) (rise : Rises (keyAt 91 681 a) c m) (lc : c ≤ lo) (tm : t ≤ m)
-    (own : (p : ℕ) → p < t → f p ≡ fieldIn 91 662 19 a p) (early : (p : ℕ) → c ≤ p → p < lo → keyAt 91 681 a p < k * 2 ^ 19 + v)
-    (inside : (p : ℕ) → lo ≤ p → p < t → keyAt 91 662 a p ≡ k) (late : (p : ℕ) → t ≤ p → p < m → k * 2 ^ 19 + v ≤ keyAt 91 681 a p)
+module _ (k v : ℕ) (a : List ℕ) (f : ℕ → ℕ) (c lo t m r : ℕ) (rise : Rises (keyAt rowBytes eventKeyBits a) c m) (lc : c ≤ lo) (tm : t ≤ m)
+    (own : (p : ℕ) → p < t → f p ≡ fieldIn rowBytes keyBits ownBits a p) (early : (p : ℕ) → c ≤ p → p < lo → keyAt rowBytes eventKeyBits a p < k * 2 ^ ownBits + v)
+    (inside : (p : ℕ) → lo ≤ p → p < t → keyAt rowBytes keyBits a p ≡ k) (late : (p : ℕ) → t ≤ p → p < m → k * 2 ^ ownBits + v ≤ keyAt rowBytes eventKeyBits a p)
     (pl : Placed f v lo t r) where
-  key-is : (p : ℕ) → lo ≤ p → p < t → keyAt 91 681 a p ≡ k * 2 ^ 19 + f p
+  key-is : (p : ℕ) → lo ≤ p → p < t → keyAt rowBytes eventKeyBits a p ≡ k * 2 ^ ownBits + f p
   key-is p h l = let d = key-parts a p in let i = inside p h l in let o = own p l in omega arith
 
   own-rise : Rises f lo t
   own-rise x y h l u =
       let z = rise x y (omega arith) l (omega arith) in let kx = key-is x h (omega arith) in let ky = key-is y (omega arith) u in omega arith
 
-  pub whole-placed : Placed (keyAt 91 681 a) (k * 2 ^ 19 + v) c m r
+  pub whole-placed : Placed (keyAt rowBytes eventKeyBits a) (k * 2 ^ ownBits + v) c m r
   whole-placed =
       record {
         low = omega (arith, pl .low);

@@ -7,15 +7,15 @@ use lib.ListN.{length, take, drop, length-drop, drop-of-length-le}
 use lib.Seq.{length-take-le}
 use lib.Pow.{shr-shr, shr-lt}
 use borrow.Rule.Slice.PartMut.{putMid}
-use Rattle.rows.specs.Pack.{num, digits, each, Fit, Held}
-use Rattle.rows.specs.Row.{rowBytes, keyBits}
+use Rattle.rows.specs.Packing.{num, digits, each, Fit, HeldAt}
 use Rattle.rows.specs.Writer.{soFar, count}
 use Rattle.rows.specs.declared.writer.Bits.{Bits}
 use Rattle.rows.proofs.Bytes.{prefix, bytes-are, num-lt}
 use Rattle.register.specs.Gap.{Gap, openedWide}
 use Rattle.register.specs.Moves.{onPart, inserted, withCount}
-use Rattle.register.specs.Search.{keyOf}
+use Rattle.register.specs.Search.{probeKey}
 use Rattle.register.proofs.Gaps.{gap-opened, gap-count}
+use Rattle.home_care.specs.Row.{rowBytes, keyBits}
 use Rattle.apply.specs.RowBytes.{Keyed}
 
 high-part : (n : ℕ) → n / 2 ^ 72 * 2 ^ 6 + n / 2 ^ 66 % 2 ^ 6 ≡ n / 2 ^ 66
@@ -25,17 +25,17 @@ high-part n =
     omega arith
 
 -- a probe's key has its bits
-probe-small : (probe : List ℕ) → Fit (each 8 probe) → length probe ≡ rowBytes → keyOf rowBytes keyBits probe < 2 ^ keyBits
-unfolding keyOf
+probe-small : (probe : List ℕ) → Fit (each 8 probe) → length probe ≡ rowBytes → probeKey rowBytes keyBits probe < 2 ^ keyBits
+unfolding probeKey
 probe-small probe f l = shr-lt keyBits 66 (rw l at (num-lt probe f))
 
 -- the writer that has written it
-pub key-held : (probe : List ℕ) (r : ℕ) → Fit (each 8 probe) → length probe ≡ rowBytes → Held probe 656 6 r →
-    Keyed probe (record { acc = r; have = 6; at = 82 }) (keyOf rowBytes keyBits probe)
-unfolding keyOf
+pub key-held : (probe : List ℕ) (r : ℕ) → Fit (each 8 probe) → length probe ≡ rowBytes → HeldAt probe 656 6 r →
+    Keyed probe (record { acc = r; have = 6; at = 82 }) (probeKey rowBytes keyBits probe)
+unfolding probeKey
 key-held probe r f l h =
     let p : num (take 82 probe) ≡ num probe / 2 ^ 72 = sym (prefix probe 82 f) ∙ ap (λ (n : ℕ). num probe / 2 ^ (8 * (n - 82))) l in
-    let v : r ≡ num probe / 2 ^ 66 % 2 ^ 6 = h .value ∙ ap (λ (n : ℕ). num probe / 2 ^ (8 * n - 662) % 2 ^ 6) l in
+    let v : r ≡ num probe / 2 ^ 66 % 2 ^ 6 = h .value ∙ ap (λ (n : ℕ). num probe / 2 ^ (8 * n - keyBits) % 2 ^ 6) l in
     record {
       tidy = record { few = omega arith; small = h .small };
       bits = refl;
@@ -52,36 +52,36 @@ row-packed w pad v probe out a b s k all y l ea eb lb f =
     let h : length out ≤ length probe = omega (arith, y .wide) in
     let z : a ≡ probe = ea ∙ ap (λ (x : List ℕ). probe ++ x) (drop-of-length-le out h) ∙ append-nil probe in
     let so : soFar a s ≡ k = ap (λ (x : List ℕ). soFar x s) z ∙ y .holds in
-    let la : length a ≡ 91 = ap length z ∙ y .wide in
+    let la : length a ≡ rowBytes = ap length z ∙ y .wide in
     let q : 8 * length a - (count s + w) ≡ pad = omega (arith, y .bits) in
     bytes-are b rowBytes ((k * 2 ^ w + v) * 2 ^ pad) f lb (eb ∙ ap₂ (λ (x n : ℕ). (x * 2 ^ w + v) * 2 ^ n) so q)
 
 -- a gap of j rows moved to row r, an event's row in its last place, and the events' count
-pub event-opened : (r i j m v : ℕ) (x a q b row : List ℕ) → 0 < j → r ≤ i → length row ≡ 91 → Gap 91 i j m x a →
-    q ≡ openedWide 91 j row (take (4 + 91 * (i + j) - (4 + 91 * r)) (drop (4 + 91 * r) a)) →
-    b ≡ withCount 2 v (putMid (4 + 91 * r) (4 + 91 * (i + j) - (4 + 91 * r)) a q) → Gap 91 r (j - 1) (m + 1) (withCount 2 v (inserted 91 r m row x)) b
+pub event-opened : (r i j m v : ℕ) (x a q b row : List ℕ) → 0 < j → r ≤ i → length row ≡ rowBytes → Gap rowBytes i j m x a →
+    q ≡ openedWide rowBytes j row (take (4 + rowBytes * (i + j) - (4 + rowBytes * r)) (drop (4 + rowBytes * r) a)) →
+    b ≡ withCount 2 v (putMid (4 + rowBytes * r) (4 + rowBytes * (i + j) - (4 + rowBytes * r)) a q) → Gap rowBytes r (j - 1) (m + 1) (withCount 2 v (inserted rowBytes r m row x)) b
 unfolding onPart
 event-opened r i j m v x a q b row h le l g eq eb =
-    let from : ℕ = 4 + 91 * r in
-    let y : List ℕ = inserted 91 r m row x in
+    let from : ℕ = 4 + rowBytes * r in
+    let y : List ℕ = inserted rowBytes r m row x in
     let e : j ≡ j - 1 + 1 = omega arith in
-    let g' : Gap 91 i (j - 1 + 1) m x a = subst (λ (z : ℕ). Gap 91 i z m x a) e g in
-    let o : Gap 91 r (j - 1) (m + 1) y (onPart (openedWide 91 j row) from (4 + 91 * (i + j) - from) a)
-    = subst (λ (z : ℕ). Gap 91 r (j - 1) (m + 1) y (onPart (openedWide 91 z row) from (4 + 91 * (i + z) - from) a)) (sym e)
-    (gap-opened 91 r i (j - 1) m x a row le l g') in
-    subst (Gap 91 r (j - 1) (m + 1) (withCount 2 v y))
-    (sym (eb ∙ ap (λ (z : List ℕ). withCount 2 v (putMid from (4 + 91 * (i + j) - from) a z)) eq))
-    (gap-count 91 r (j - 1) (m + 1) 2 v y (onPart (openedWide 91 j row) from (4 + 91 * (i + j) - from) a) (omega arith) o)
+    let g' : Gap rowBytes i (j - 1 + 1) m x a = subst (λ (z : ℕ). Gap rowBytes i z m x a) e g in
+    let o : Gap rowBytes r (j - 1) (m + 1) y (onPart (openedWide rowBytes j row) from (4 + rowBytes * (i + j) - from) a)
+    = subst (λ (z : ℕ). Gap rowBytes r (j - 1) (m + 1) y (onPart (openedWide rowBytes z row) from (4 + rowBytes * (i + z) - from) a)) (sym e)
+    (gap-opened rowBytes r i (j - 1) m x a row le l g') in
+    subst (Gap rowBytes r (j - 1) (m + 1) (withCount 2 v y))
+    (sym (eb ∙ ap (λ (z : List ℕ). withCount 2 v (putMid from (4 + rowBytes * (i + j) - from) a z)) eq))
+    (gap-count rowBytes r (j - 1) (m + 1) 2 v y (onPart (openedWide rowBytes j row) from (4 + rowBytes * (i + j) - from) a) (omega arith) o)
 
 -- the row as the code cuts it out is written whole
-pub row-set : (a : ℕ) (reg row last : List ℕ) → last ≡ row → putMid a (a + 91 - a) reg last ≡ onPart (λ p. row) a 91 reg
+pub row-set : (a : ℕ) (reg row last : List ℕ) → last ≡ row → putMid a (a + rowBytes - a) reg last ≡ onPart (λ p. row) a rowBytes reg
 unfolding onPart
 row-set a reg row last e =
-    let k : a + 91 - a ≡ 91 = omega arith in
+    let k : a + rowBytes - a ≡ rowBytes = omega arith in
     ap₂ (λ (l : List ℕ) (j : ℕ). take a reg ++ (l ++ drop j (drop a reg))) e k
 
 -- the part is a row long
-pub cut-length : (i : ℕ) (reg : List ℕ) → 4 + 91 * (i + 1) ≤ length reg → length (take (4 + 91 * i + 91 - (4 + 91 * i)) (drop (4 + 91 * i) reg)) ≡ 91
+pub cut-length : (i : ℕ) (reg : List ℕ) → 4 + rowBytes * (i + 1) ≤ length reg → length (take (4 + rowBytes * i + rowBytes - (4 + rowBytes * i)) (drop (4 + rowBytes * i) reg)) ≡ rowBytes
 cut-length i reg h =
-    let e : 4 + 91 * i + 91 - (4 + 91 * i) ≡ 91 = omega arith in
-    ap (λ (j : ℕ). length (take j (drop (4 + 91 * i) reg))) e ∙ length-take-le 91 (drop (4 + 91 * i) reg) (rw length-drop (omega arith))
+    let e : 4 + rowBytes * i + rowBytes - (4 + rowBytes * i) ≡ rowBytes = omega arith in
+    ap (λ (j : ℕ). length (take j (drop (4 + rowBytes * i) reg))) e ∙ length-take-le rowBytes (drop (4 + rowBytes * i) reg) (rw length-drop (omega arith))

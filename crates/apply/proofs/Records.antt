@@ -9,24 +9,22 @@ use lib.ListN.{length}
 use borrow.Author.Tests.{not-false, ltb-false}
 use Rattle.laws.specs.Lists.{all}
 use Rattle.laws.proofs.Truth.{or-right, and-left, and-right}
-use Rattle.rows.specs.Row.{Case, rowBytes, keyBits, keyNumber}
 use Rattle.model.specs.Map.{Row, Map, has, keep, del, putAll, delAll, anyIn, allIn, twice}
 use Rattle.model.specs.Checks.{first}
 use Rattle.model.specs.Flow.{State, applied}
 use Rattle.model.specs.Transmission.{Kind, insert, vary, cancel, isInsert, isCancel}
 use Rattle.model.proofs.MapLaws.{keep-true}
-use Rattle.register.specs.Layout.{siad}
-use Rattle.register.specs.Bytes.{room}
-use Rattle.register.specs.Fields.{eventRow}
-use Rattle.register.specs.Search.{keyOf}
+use Rattle.register.specs.Layout.{room}
+use Rattle.register.specs.Search.{probeKey}
 use Rattle.register.specs.Stored.{Stored, cases, withRows}
 use Rattle.register.specs.Stored as group
 use Rattle.register.specs.Storing.{Dropped}
-use Rattle.register.proofs.States.{laid-siad}
 use Rattle.register.proofs.Storing.{key-number}
-use Rattle.tracks.specs.Record.{Head, Admission, Said, Record, admission, events}
-use Rattle.checks.specs.Flow.{kindOf, next, caseRow, eventRows}
-use Rattle.checks.specs.Tests.{Context, eventsIn}
+use Rattle.home_care.specs.Row.{Case, rowBytes, keyBits, keyNumber, siad, eventRow}
+use Rattle.home_care.proofs.Laid.{laid-siad}
+use Rattle.home_care.specs.Record.{Head, Admission, Said, Record, admission, events, eventNumbers}
+use Rattle.home_care.specs.Anomalies.{Context}
+use Rattle.checks.specs.Flow.{typeOf, next, caseRow, eventRows}
 use Rattle.checks.specs.Checks.{checksOf}
 use Rattle.checks.proofs.Accepted.{lawful, not17}
 use Rattle.apply.proofs.Merge.{map-length}
@@ -43,7 +41,7 @@ none-away m es b = subst (λ (z : Map ℕ). Stored siad b (record { cases = m; e
 abbrev pub CaseOut : ℕ → List ℕ → List ℕ → Type 0
 CaseOut k a b = (s : State ℕ ℕ) → Stored siad a s → Stored siad b (withRows cases (del k (s .cases)) s)
 
-pub case-gone : (probe a b : List ℕ) (r : Bool) → Dropped cases rowBytes keyBits probe a b r → CaseOut (keyOf rowBytes keyBits probe) a b
+pub case-gone : (probe a b : List ℕ) (r : Bool) → Dropped cases rowBytes keyBits probe a b r → CaseOut (probeKey rowBytes keyBits probe) a b
 case-gone probe a b r x s st =
     subst (λ (z : ℕ). Stored siad b (withRows cases (del z (s .cases)) s)) (sym (key-number cases siad probe)) (x .holds siad laid-siad refl refl s st .1)
 
@@ -77,16 +75,16 @@ module _ (k : ℕ) (d : Case) (a b : List ℕ) where
   case-by cancel s f st n15 n17 = none-away (del k (s .cases)) (s .events) b (f s st)
 
   -- the case's row put in or taken out is the accepted record's next state
-  pub case-applied : (tipo : ℕ) → CaseDone (kindOf tipo) k d a b →
+  pub case-applied : (tipo : ℕ) → CaseDone (typeOf tipo) k d a b →
       (h : Head) (x : Admission) (s : State ℕ ℕ) (c : Context) → keyNumber (h .key) ≡ k → tipo ≡ h .tipo → x .case ≡ d → c .room ≡ room siad (length a) →
       Stored siad a s → first (checksOf c (admission h x)) s ≡ 0 → Stored siad b (next (admission h x) s)
   case-applied tipo f h x s c key t case m st e =
       let r : Record = admission h x in
       let is : rowFor k d ≡ caseRow (h .key) (x .case) = ap₂ rowFor (sym key) (sym case) in
-      subst (λ (z : Row ℕ). Stored siad b (applied (kindOf (h .tipo)) (z ∷ []) [] (λ k. false) s)) is
-      (case-by (kindOf (h .tipo)) s (subst (λ (z : ℕ). CaseDone (kindOf z) k d a b) t f) st
-      (subst (λ (z : Row ℕ). not (isInsert (kindOf (h .tipo))) && not (allIn (z ∷ []) (s .cases) && allIn [] (s .events)) ≡ false) (sym is) (lawful c .not15 s r e))
-      (subst (λ (n : ℕ). isInsert (kindOf (h .tipo)) && ltb n (length (s .cases) + length (s .events) + 1) ≡ false) m (not17 c s r e)))
+      subst (λ (z : Row ℕ). Stored siad b (applied (typeOf (h .tipo)) (z ∷ []) [] (λ k. false) s)) is
+      (case-by (typeOf (h .tipo)) s (subst (λ (z : ℕ). CaseDone (typeOf z) k d a b) t f) st
+      (subst (λ (z : Row ℕ). not (isInsert (typeOf (h .tipo))) && not (allIn (z ∷ []) (s .cases) && allIn [] (s .events)) ≡ false) (sym is) (lawful c .not15 s r e))
+      (subst (λ (n : ℕ). isInsert (typeOf (h .tipo)) && ltb n (length (s .cases) + length (s .events) + 1) ≡ false) m (not17 c s r e)))
 
 -- ---- Track 2: the events' rows
 
@@ -136,19 +134,19 @@ module _ (k : ℕ) (evs a b : List ℕ) where
       (f s st (ap twice q ∙ or-right (twice {F = ℕ} []) (twice rs) n22)
       (ap (λ (z : Map ℕ). allIn z (s .events)) q ∙ and-right (allIn [] (s .cases)) (allIn rs (s .events)) (not-false _ n15))))
 
-event-rows : (k : ℕ) (es : List Said) → rowsFor k (eventsIn es) ≡ eventRows k es
-unfolding eventRows eventsIn
+event-rows : (k : ℕ) (es : List Said) → rowsFor k (eventNumbers es) ≡ eventRows k es
+unfolding eventRows eventNumbers
 event-rows k [] = refl
 event-rows k (e ∷ es) = ap (λ (m : Map ℕ). eventRow k (e .event) ∷ m) (event-rows k es)
 
 -- what was done with the events leaves the accepted record's next state
-pub events-applied : (a b : List ℕ) (tipo k : ℕ) (evs : List ℕ) → Done (kindOf tipo) k evs a b →
-    (h : Head) (es : List Said) (s : State ℕ ℕ) (c : Context) → keyNumber (h .key) ≡ k → tipo ≡ h .tipo → evs ≡ eventsIn es → c .room ≡ room siad (length a) →
+pub events-applied : (a b : List ℕ) (tipo k : ℕ) (evs : List ℕ) → Done (typeOf tipo) k evs a b →
+    (h : Head) (es : List Said) (s : State ℕ ℕ) (c : Context) → keyNumber (h .key) ≡ k → tipo ≡ h .tipo → evs ≡ eventNumbers es → c .room ≡ room siad (length a) →
     Stored siad a s → first (checksOf c (events h es)) s ≡ 0 → Stored siad b (next (events h es) s)
 events-applied a b tipo k evs f h es s c key t x m st e =
     let r : Record = events h es in
     let rs : Map ℕ = eventRows (keyNumber (h .key)) es in
-    events-by k evs a b (kindOf (h .tipo)) s rs (ap₂ rowsFor (sym key) x ∙ event-rows (keyNumber (h .key)) es)
-    (subst (λ (z : ℕ). Done (kindOf z) k evs a b) t f) st (lawful c .not14 s r e) (lawful c .not15 s r e)
-    (subst (λ (n : ℕ). isInsert (kindOf (h .tipo)) && ltb n (length (s .cases) + length (s .events) + (0 + length rs)) ≡ false) m (not17 c s r e))
+    events-by k evs a b (typeOf (h .tipo)) s rs (ap₂ rowsFor (sym key) x ∙ event-rows (keyNumber (h .key)) es)
+    (subst (λ (z : ℕ). Done (typeOf z) k evs a b) t f) st (lawful c .not14 s r e) (lawful c .not15 s r e)
+    (subst (λ (n : ℕ). isInsert (typeOf (h .tipo)) && ltb n (length (s .cases) + length (s .events) + (0 + length rs)) ≡ false) m (not17 c s r e))
     (lawful c .not22 s r e)

@@ -10,12 +10,10 @@ use lib.ListN.{length, getD}
 use borrow.Author.Tests.{ltb-true}
 use Rattle.laws.specs.Lists.{all}
 use Rattle.laws.proofs.Truth.{and-left}
-use Rattle.rows.specs.Row.{eventBits}
 use Rattle.model.specs.Map.{Map, has, del, delAll, Asc, allIn, twice}
 use Rattle.model.specs.Flow.{State}
 use Rattle.model.proofs.MapLaws.{asc-delAll}
 use Rattle.model.proofs.MapSizes.{size-del}
-use Rattle.register.specs.Layout.{siad}
 use Rattle.register.specs.Gap.{Gap, bytesAt, fieldIn}
 use Rattle.register.specs.Moves.{removed, withCount}
 use Rattle.register.specs.Search.{keyAt, Rises, Placed, Ranged}
@@ -25,7 +23,8 @@ use Rattle.register.proofs.Gaps.{gap-row, key-same, field-same}
 use Rattle.register.proofs.GapRows.{took-before, took-behind, key-moved}
 use Rattle.register.proofs.GoneRow.{found-row, found-key, drop-found}
 use Rattle.register.proofs.Places.{keys-rise}
-use Rattle.register.proofs.States.{laid-siad}
+use Rattle.home_care.specs.Row.{eventBits, siad, rowBytes, eventKeyBits, ownBits, keyBits, pastOwn}
+use Rattle.home_care.proofs.Laid.{laid-siad}
 use Rattle.apply.specs.Events.{rowsFor, NextBelow}
 use Rattle.apply.proofs.Merge.{none-past}
 use Rattle.apply.proofs.OwnKey.{whole-placed, key-parts, either}
@@ -41,18 +40,18 @@ pub record Shrank (k : ℕ) (evs : List ℕ) (s : State ℕ ℕ) (c lo i m bound
   pub stored : Stored siad a (stateLess k evs s bound)
   pub total : m ≡ length (s .cases) + length (stateLess k evs s bound .events)
   pub start : c ≡ length (s .cases)
-  pub early : (p : ℕ) → c ≤ p → p < lo → keyAt 91 681 a p < k * 2 ^ 19
-  pub inside : (p : ℕ) → lo ≤ p → p < i → keyAt 91 662 a p ≡ k
-  pub late : (p : ℕ) → i ≤ p → p < m → k * 2 ^ 19 + bound ≤ keyAt 91 681 a p
+  pub early : (p : ℕ) → c ≤ p → p < lo → keyAt rowBytes eventKeyBits a p < k * 2 ^ ownBits
+  pub inside : (p : ℕ) → lo ≤ p → p < i → keyAt rowBytes keyBits a p ≡ k
+  pub late : (p : ℕ) → i ≤ p → p < m → k * 2 ^ ownBits + bound ≤ keyAt rowBytes eventKeyBits a p
 
 -- none is out yet: the bound is past every event's key
 pub shrank-start : (k : ℕ) (evs : List ℕ) (s : State ℕ ℕ) (c n lo hi : ℕ) (a : List ℕ) → all (λ e. ltb e (2 ^ eventBits)) evs ≡ true → Stored siad a s →
-    c ≡ length (s .cases) → n ≡ length (s .cases) + length (s .events) → Ranged (keyAt 91 662 a) k c n lo hi → Shrank k evs s c lo hi n (2 ^ 19) a
+    c ≡ length (s .cases) → n ≡ length (s .cases) + length (s .events) → Ranged (keyAt rowBytes keyBits a) k c n lo hi → Shrank k evs s c lo hi n (2 ^ ownBits) a
 unfolding delAll
 shrank-start k evs s c n lo hi a small h ec en r =
-    let z : keepFrom k evs (2 ^ 19) ≡ [] = none-past k evs small in
-    let q : stateLess k evs s (2 ^ 19) ≡ s = ap (λ (x : Map ℕ). withRows events (delAll x (s .events)) s) z in
-    let rise : Rises (keyAt 91 662 a) c n = rw (ec, en) (cases-rise siad laid-siad a s h) in
+    let z : keepFrom k evs (2 ^ ownBits) ≡ [] = none-past k evs small in
+    let q : stateLess k evs s (2 ^ ownBits) ≡ s = ap (λ (x : Map ℕ). withRows events (delAll x (s .events)) s) z in
+    let rise : Rises (keyAt rowBytes keyBits a) c n = rw (ec, en) (cases-rise siad laid-siad a s h) in
     record {
       stored = rw q h;
       total = rw z en;
@@ -68,81 +67,81 @@ module _ (k : ℕ) (evs : List ℕ) (s : State ℕ ℕ) (once : twice (rowsFor k
   pub shrank-end : m + length evs ≤ length (s .cases) + length (s .events) → Stored siad a (withRows events (delAll (rowsFor k evs) (s .events)) s)
   shrank-end h =
       let e : stateLess k evs s bound .events ≡ delAll (rowsFor k evs) (s .events)
-      = all-shrunk k evs (s .events) once stand up (k * 2 ^ 19 + bound) (omega (arith, g .total)) in
+      = all-shrunk k evs (s .events) once stand up (k * 2 ^ ownBits + bound) (omega (arith, g .total)) in
       subst (λ (x : Map ℕ). Stored siad a (withRows events x s)) e (g .stored)
 
-  module _ (b : List ℕ) (j : ℕ) (gap : Gap 91 i j m a b) (q : ℕ) (hq : q < length evs) (nb : NextBelow evs bound q) (r : ℕ)
-      (pl : Placed (fieldIn 91 662 19 b) (getD evs q 0 / 2 ^ 33) lo i r) (lc : c ≤ lo) (im : i ≤ m) where
+  module _ (b : List ℕ) (j : ℕ) (gap : Gap rowBytes i j m a b) (q : ℕ) (hq : q < length evs) (nb : NextBelow evs bound q) (r : ℕ)
+      (pl : Placed (fieldIn rowBytes keyBits ownBits b) (getD evs q 0 / 2 ^ pastOwn) lo i r) (lc : c ≤ lo) (im : i ≤ m) where
     abbrev own : ℕ
-    own = getD evs q 0 / 2 ^ 33
+    own = getD evs q 0 / 2 ^ pastOwn
 
     abbrev key : ℕ
-    key = k * 2 ^ 19 + own
+    key = k * 2 ^ ownBits + own
 
     abbrev now : State ℕ ℕ
     now = stateLess k evs s bound
 
-    field-is : (p : ℕ) → p < i → fieldIn 91 662 19 b p ≡ fieldIn 91 662 19 a p
-    field-is p h = field-same 91 662 19 p b a (gap-row 91 i j m a b gap p h)
+    field-is : (p : ℕ) → p < i → fieldIn rowBytes keyBits ownBits b p ≡ fieldIn rowBytes keyBits ownBits a p
+    field-is p h = field-same rowBytes keyBits ownBits p b a (gap-row rowBytes i j m a b gap p h)
 
-    rise : Rises (keyAt 91 681 a) c m
+    rise : Rises (keyAt rowBytes eventKeyBits a) c m
     rise = rw (g .start, g .total) (keys-rise siad laid-siad events a now (g .stored))
 
-    placed : Placed (keyAt 91 681 a) key c m r
+    placed : Placed (keyAt rowBytes eventKeyBits a) key c m r
     placed =
-        whole-placed k own a (fieldIn 91 662 19 b) c lo i m r rise lc im field-is (λ p x y. let w = g .early p x y in omega arith)
+        whole-placed k own a (fieldIn rowBytes keyBits ownBits b) c lo i m r rise lc im field-is (λ p x y. let w = g .early p x y in omega arith)
         (g .inside) (λ p x y. let w = g .late p x y in let d = nb .below hq in omega arith) pl
 
-    below-bound : key < k * 2 ^ 19 + bound
+    below-bound : key < k * 2 ^ ownBits + bound
     below-bound = omega (arith, nb .below hq)
 
     -- the key stands
     there : has key (now .events) ≡ true
-    there = next-stands k evs (s .events) once stand up q hq (k * 2 ^ 19 + bound) below-bound
+    there = next-stands k evs (s .events) once stand up q hq (k * 2 ^ ownBits + bound) below-bound
 
-    found : Placed (keyAt 91 681 a) key (length (s .cases)) (length (s .cases) + length (now .events)) r
+    found : Placed (keyAt rowBytes eventKeyBits a) key (length (s .cases)) (length (s .cases) + length (now .events)) r
     found =
         let em : length (s .cases) + length (now .events) ≡ m = sym (g .total) in
         let ec : length (s .cases) ≡ c = sym (g .start) in
         rw (em, ec) placed
 
-    here : keyAt 91 681 a r ≡ key
+    here : keyAt rowBytes eventKeyBits a r ≡ key
     here = found-key siad laid-siad events a now (g .stored) key r found there
 
     -- at the place found, which is one of the case's rows
     pub in-case : r < i
     in-case =
         let t = ltb-true r (length (s .cases) + length (now .events))
-        (and-left (ltb r (length (s .cases) + length (now .events))) (eqb (keyAt 91 681 a r) key) (found-row siad laid-siad events a now (g .stored) key r found there)) in
+        (and-left (ltb r (length (s .cases) + length (now .events))) (eqb (keyAt rowBytes eventKeyBits a r) key) (found-row siad laid-siad events a now (g .stored) key r found there)) in
         ⊎-elim (λ w. let v = g .late r w (omega (arith, g .total)) in absurd (omega (arith, below-bound, here))) (λ w. w) (either i r)
 
     next-is : del key (now .events) ≡ stateLess k evs s own .events
     next-is =
-        next-shrunk k evs (s .events) once stand up q hq (k * 2 ^ 19 + bound) below-bound
+        next-shrunk k evs (s .events) once stand up q hq (k * 2 ^ ownBits + bound) below-bound
         (λ p w z. let d = nb .most p w (omega arith) in omega (arith, d .1))
 
-    module _ (b' : List ℕ) (gap' : Gap 91 (r + 1) j m a b') (after : List ℕ) (len : length after ≡ length a)
-        (is : after ≡ withCount 2 (m - c - 1) (removed 91 r m a)) where
+    module _ (b' : List ℕ) (gap' : Gap rowBytes (r + 1) j m a b') (after : List ℕ) (len : length after ≡ length a)
+        (is : after ≡ withCount 2 (m - c - 1) (removed rowBytes r m a)) where
       next-stored : Stored siad after (stateLess k evs s own)
       next-stored =
           let em : length (s .cases) + length (now .events) ≡ m = sym (g .total) in
           let cnt : m - c - 1 ≡ length (s .cases) + length (now .events) - length (s .cases) - 1 = omega (arith, g .start, g .total) in
-          let bytes : after ≡ withCount 2 (length (s .cases) + length (now .events) - length (s .cases) - 1) (removed 91 r (length (s .cases) + length (now .events)) a)
-          = is ∙ ap₂ (λ (x y : ℕ). withCount 2 x (removed 91 r y a)) cnt (sym em) in
+          let bytes : after ≡ withCount 2 (length (s .cases) + length (now .events) - length (s .cases) - 1) (removed rowBytes r (length (s .cases) + length (now .events)) a)
+          = is ∙ ap₂ (λ (x y : ℕ). withCount 2 x (removed rowBytes r y a)) cnt (sym em) in
           subst (λ (x : Map ℕ). Stored siad after (withRows events x s)) next-is
           (drop-found siad laid-siad events a now (g .stored) key r found there after len bytes)
 
-      before : (p : ℕ) → p < r → bytesAt 91 after p ≡ bytesAt 91 a p
+      before : (p : ℕ) → p < r → bytesAt rowBytes after p ≡ bytesAt rowBytes a p
       before p h =
-          ap (λ (x : List ℕ). bytesAt 91 x p) is ∙ took-before 91 r j m a b' (omega (arith, in-case)) gap' 2 (m - c - 1) p (omega arith) h
+          ap (λ (x : List ℕ). bytesAt rowBytes x p) is ∙ took-before rowBytes r j m a b' (omega (arith, in-case)) gap' 2 (m - c - 1) p (omega arith) h
 
-      behind : (p : ℕ) → r ≤ p → p < m - 1 → bytesAt 91 after p ≡ bytesAt 91 a (p + 1)
+      behind : (p : ℕ) → r ≤ p → p < m - 1 → bytesAt rowBytes after p ≡ bytesAt rowBytes a (p + 1)
       behind p x y =
           let e : p ≡ r + (p - r) = omega arith in
           let f : r + 1 + (p - r) ≡ p + 1 = omega arith in
-          ap₂ (λ (z : List ℕ) (d : ℕ). bytesAt 91 z d) is e
-          ∙ took-behind 91 r j m a b' (omega (arith, in-case)) gap' 2 (m - c - 1) (p - r) (omega arith) (omega arith)
-          ∙ ap (bytesAt 91 a) f
+          ap₂ (λ (z : List ℕ) (d : ℕ). bytesAt rowBytes z d) is e
+          ∙ took-behind rowBytes r j m a b' (omega (arith, in-case)) gap' 2 (m - c - 1) (p - r) (omega arith) (omega arith)
+          ∙ ap (bytesAt rowBytes a) f
 
       -- one fewer
       pub shrank-more : Shrank k evs s c lo r (m - 1) own after
@@ -154,10 +153,10 @@ module _ (k : ℕ) (evs : List ℕ) (s : State ℕ ℕ) (once : twice (rowsFor k
             stored = next-stored;
             total = omega (arith, g .total);
             start = g .start;
-            early = λ p x y. rw (key-same 91 681 p after a (before p (omega (arith, pl .low)))) (g .early p x y);
-            inside = λ p x y. key-same 91 662 p after a (before p y) ∙ g .inside p x (omega (arith, in-case));
+            early = λ p x y. rw (key-same rowBytes eventKeyBits p after a (before p (omega (arith, pl .low)))) (g .early p x y);
+            inside = λ p x y. key-same rowBytes keyBits p after a (before p y) ∙ g .inside p x (omega (arith, in-case));
             late = λ p x y.
-                let z : keyAt 91 681 after p ≡ keyAt 91 681 a (p + 1) = key-moved 91 681 p (p + 1) after a (behind p x y) in
+                let z : keyAt rowBytes eventKeyBits after p ≡ keyAt rowBytes eventKeyBits a (p + 1) = key-moved rowBytes eventKeyBits p (p + 1) after a (behind p x y) in
                 let u = rise r (p + 1) (omega (arith, pl .low)) (omega arith) (omega arith) in
                 omega (arith, here);
           }

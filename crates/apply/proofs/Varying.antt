@@ -10,22 +10,21 @@ use Rattle.laws.specs.Lists.{all}
 use Rattle.laws.proofs.Order.{Tri, below, equal, above, tri}
 use Rattle.laws.proofs.Places.{front}
 use Rattle.laws.proofs.Truth.{and-left, and-right}
-use Rattle.rows.specs.Row.{keyBits, eventBits}
 use Rattle.model.specs.Map.{Row, Map, isSome, find, has, put, Asc, putAll, allIn}
 use Rattle.model.specs.Flow.{State}
 use Rattle.model.proofs.MapLaws.{find-below, has-put, asc-putAll}
 use Rattle.model.proofs.MapSizes.{size-vary}
-use Rattle.register.specs.Layout.{siad}
-use Rattle.register.specs.Bytes.{casesHeld, eventsHeld}
-use Rattle.register.specs.Fields.{eventRow}
+use Rattle.register.specs.Layout.{casesHeld, eventsHeld}
 use Rattle.register.specs.Gap.{fieldIn}
 use Rattle.register.specs.Moves.{replaced}
 use Rattle.register.specs.Search.{keyAt, Rises, Placed, Ranged}
 use Rattle.register.specs.Stored.{Stored, events, withRows}
 use Rattle.register.proofs.Found.{cases-rise}
 use Rattle.register.proofs.Places.{key-at}
-use Rattle.register.proofs.States.{laid-siad, stored-few, stored-end}
+use Rattle.register.proofs.States.{stored-few, stored-end}
 use Rattle.register.proofs.Stores.{room-denied}
+use Rattle.home_care.specs.Row.{keyBits, eventBits, siad, eventRow, rowBytes, pastOwn, eventKeyBits, ownBits}
+use Rattle.home_care.proofs.Laid.{laid-siad}
 use Rattle.apply.specs.RowBytes.{eventBytes}
 use Rattle.apply.specs.Events.{rowsFor, AllOver}
 use Rattle.apply.proofs.Filling.{standing}
@@ -95,15 +94,15 @@ module _ (k : ℕ) (evs a : List ℕ) where
 
   module _ (c v : ℕ) (hc : c ≡ casesHeld a) (hv : v ≡ eventsHeld a) where
     -- nor are bytes whose counts claim more rows than there are
-    pub misfits : (t : Bool) → t ≡ (leb (c + v) 4096 && leb (4 + 91 * (c + v)) (length a)) → t ≡ false → AllOver k evs a a
+    pub misfits : (t : Bool) → t ≡ (leb (c + v) 4096 && leb (4 + rowBytes * (c + v)) (length a)) → t ≡ false → AllOver k evs a a
     misfits t x f s st al =
         let w = standing k evs a c v hc hv s st in
         let u = stored-few siad laid-siad a s st in
         let z = stored-end siad laid-siad a s st in
-        absurd (room-denied 91 (c + v) (length a) t x f (omega (arith, w .1)) (omega (arith, w .1)))
+        absurd (room-denied rowBytes (c + v) (length a) t x f (omega (arith, w .1)) (omega (arith, w .1)))
 
-    module _ (hk : k < 2 ^ keyBits) (lo hi : ℕ) (rg : Ranged (keyAt 91 662 a) k c (c + v) lo hi) (b : List ℕ) (i : ℕ) (z : 0 < i) (l : i ≤ length evs)
-        (he : getD evs (i - 1) 0 < 2 ^ eventBits) (f : OverFrom k evs i a b) (r : ℕ) (pl : Placed (fieldIn 91 662 19 b) (getD evs (i - 1) 0 / 2 ^ 33) lo hi r) where
+    module _ (hk : k < 2 ^ keyBits) (lo hi : ℕ) (rg : Ranged (keyAt rowBytes keyBits a) k c (c + v) lo hi) (b : List ℕ) (i : ℕ) (z : 0 < i) (l : i ≤ length evs)
+        (he : getD evs (i - 1) 0 < 2 ^ eventBits) (f : OverFrom k evs i a b) (r : ℕ) (pl : Placed (fieldIn rowBytes keyBits ownBits b) (getD evs (i - 1) 0 / 2 ^ pastOwn) lo hi r) where
       abbrev e : ℕ
       e = getD evs (i - 1) 0
 
@@ -135,23 +134,23 @@ module _ (k : ℕ) (evs a : List ℕ) where
         same-size = size-vary rs (s .events) (both .1) (st .good .1)
 
         -- no row's case has changed
-        same-key : (p : ℕ) → c ≤ p → p < c + v → keyAt 91 662 b p ≡ keyAt 91 662 a p
+        same-key : (p : ℕ) → c ≤ p → p < c + v → keyAt rowBytes keyBits b p ≡ keyAt rowBytes keyBits a p
         same-key p x y =
             let d : Row ℕ = record { key = 0; val = 0 } in
             let q : length (s .cases) + (p - c) ≡ p = omega (arith, start) in
             let kb = key-at siad laid-siad events b t (f s st al) (p - c) d (omega (arith, total, start, same-size)) in
             let ka = key-at siad laid-siad events a s st (p - c) d (omega (arith, total, start)) in
-            let w : keyAt 91 681 b p ≡ keyAt 91 681 a p
-            = subst (λ (j : ℕ). keyAt 91 681 b j ≡ keyAt 91 681 a j) q (kb ∙ key-putAll rs (s .events) (p - c) d (both .1) (st .good .1) ∙ sym ka) in
+            let w : keyAt rowBytes eventKeyBits b p ≡ keyAt rowBytes eventKeyBits a p
+            = subst (λ (j : ℕ). keyAt rowBytes eventKeyBits b j ≡ keyAt rowBytes eventKeyBits a j) q (kb ∙ key-putAll rs (s .events) (p - c) d (both .1) (st .good .1) ∙ sym ka) in
             let pb = key-parts b p in
             let pa = key-parts a p in
             omega arith
 
-        rise : Rises (keyAt 91 662 a) c (c + v)
+        rise : Rises (keyAt rowBytes keyBits a) c (c + v)
         rise p q x y w = cases-rise siad laid-siad a s st p q (omega (arith, start)) y (omega (arith, total))
 
         -- the case's rows are where they were
-        range : Ranged (keyAt 91 662 b) k c (c + v) lo hi
+        range : Ranged (keyAt rowBytes keyBits b) k c (c + v) lo hi
         range =
             record {
               low = rg .low;
@@ -171,7 +170,7 @@ module _ (k : ℕ) (evs a : List ℕ) where
         in-range : r < hi
         in-range = found k e hk he b t (f s st al) c (c + v) start all-rows lo hi r range pl has-it
 
-        over-is : (d : List ℕ) → length d ≡ length b → d ≡ replaced 91 r (eventBytes k e) b →
+        over-is : (d : List ℕ) → length d ≡ length b → d ≡ replaced rowBytes r (eventBytes k e) b →
             Stored siad d (withRows events (putAll (rowsFor k (drop (i - 1) evs)) (s .events)) s)
         unfolding putAll
         over-is d len x =
@@ -179,7 +178,7 @@ module _ (k : ℕ) (evs a : List ℕ) where
             (written-over k e hk he b t (f s st al) c (c + v) start all-rows lo hi r range pl has-it d len x)
 
       -- one more
-      pub one-over : (d : List ℕ) → length d ≡ length b → d ≡ replaced 91 r (eventBytes k e) b → OverFrom k evs (i - 1) a d
+      pub one-over : (d : List ℕ) → length d ≡ length b → d ≡ replaced rowBytes r (eventBytes k e) b → OverFrom k evs (i - 1) a d
       one-over d len x s st al = over-is s st al d len x
 
       -- its key stands, so its row is among the case's

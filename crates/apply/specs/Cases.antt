@@ -4,12 +4,11 @@ use mathlib.Core.Path.{_≡_}
 use mathlib.Core.Bool.{false}
 use mathlib.Core.List.{List}
 use lib.ListN.{length}
-use Rattle.rows.specs.Row.{Case, caseNumber}
 use Rattle.model.specs.Map.{Row, has, put}
 use Rattle.model.specs.Flow.{State}
-use Rattle.register.specs.Layout.{siad}
-use Rattle.register.specs.Bytes.{room}
+use Rattle.register.specs.Layout.{room}
 use Rattle.register.specs.Stored.{Stored, cases, withRows}
+use Rattle.home_care.specs.Row.{Case, caseNumber, siad}
 
 -- the row of the case with the key k
 abbrev pub rowFor : ℕ → Case → Row ℕ

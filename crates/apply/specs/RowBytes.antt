@@ -3,14 +3,14 @@ use Prim.Native.Nat.{ℕ, _+_, _*_, _^_, _<_}
 use mathlib.Core.Path.{_≡_}
 use mathlib.Core.List.{List}
 use lib.ListN.{length}
-use Rattle.rows.specs.Pack.{digits}
-use Rattle.rows.specs.Row.{Case, rowBytes, keyBits, caseBits, eventBits, caseNumber}
+use Rattle.rows.specs.Packing.{digits}
 use Rattle.rows.specs.Writer.{soFar, count, Tidy}
 use Rattle.rows.specs.declared.writer.Bits.{Bits}
+use Rattle.home_care.specs.Row.{Case, rowBytes, keyBits, caseBits, eventBits, caseNumber, eventZeros}
 
 -- an event's row: the case's key, the event's 52 bits, zero bits
 abbrev pub eventBytes : ℕ → ℕ → List ℕ
-eventBytes k e = digits rowBytes ((k * 2 ^ eventBits + e) * 2 ^ 14)
+eventBytes k e = digits rowBytes ((k * 2 ^ eventBits + e) * 2 ^ eventZeros)
 
 -- a case's row: its key, the 59 bits of its fields, zero bits
 abbrev pub caseBytes : ℕ → Case → List ℕ

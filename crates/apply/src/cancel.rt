@@ -6,19 +6,19 @@ ghost use Prim.Native.Nat.{ℕ, _+_, _-_, _*_, _^_, _≤_, _<_};
 ghost use lib.Dec.{ltb};
 ghost use lib.ListN.{length};
 ghost use Rattle.laws.specs.Lists.{all};
-ghost use Rattle.rows.specs.Row.{rowBytes, keyBits, eventBits};
 ghost use Rattle.register.specs.Gap.{Gap};
 ghost use Rattle.register.specs.Moves.{closedUp, onPart, removed};
-ghost use Rattle.register.specs.Search.{keyOf};
+ghost use Rattle.register.specs.Search.{probeKey};
+ghost use Rattle.home_care.specs.Row.{rowBytes, keyBits, eventBits};
 ghost use Rattle.apply.specs.Events.{AllOut};
 use crate::order::next_below;
+use home_care::layout::CASE_KEY;
+use home_care::layout::OWN_KEY;
+use home_care::layout::OWN_KEYS;
+use home_care::layout::PAST_OWN;
+use home_care::layout::ROW;
 use register::counts::count;
 use register::counts::set_count;
-use register::layout::CASE_KEY;
-use register::layout::OWN_KEY;
-use register::layout::OWN_KEYS;
-use register::layout::PAST_OWN;
-use register::layout::ROW;
 use register::moving::close_rows;
 use register::moving::shift_right;
 use register::search::case_range;
@@ -48,7 +48,7 @@ fn close(reg: &mut [u8], i: usize, j: usize, n: usize)
 // The events of a record whose keys all stand (15), each once (22): each row joins a gap, the largest key first, and the rows behind the gap come back once.
 pub fn cancel_events(reg: &mut [u8], probe: &[u8], evs: &[u64])
     requires { ⌜ (length (now probe) ≡ rowBytes) × (all (λ e. ltb e (2 ^ eventBits)) (now evs) ≡ true) ⌝ }
-    ensures { λ _. ⌜ AllOut (keyOf rowBytes keyBits (now (probe .entry))) (now (evs .entry)) (now (reg .entry)) (now (reg .exit)) ⌝ }
+    ensures { λ _. ⌜ AllOut (probeKey rowBytes keyBits (now (probe .entry))) (now (evs .entry)) (now (reg .entry)) (now (reg .exit)) ⌝ }
 {
     if reg.len() < 4 {
         return;

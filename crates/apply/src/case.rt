@@ -2,16 +2,17 @@
 ghost use mathlib.Core.Path.{_≡_};
 ghost use Prim.Native.Nat.{_+_, _*_, _≤_, _<_};
 ghost use lib.ListN.{length};
-ghost use Rattle.rows.specs.Row.{rowBytes, keyBits, caseOf, CaseFits};
 ghost use Rattle.register.specs.Moves.{openedBy, inserted, replaced};
-ghost use Rattle.register.specs.Search.{keyOf};
+ghost use Rattle.register.specs.Search.{probeKey};
+ghost use Rattle.home_care.specs.Row.{rowBytes, keyBits};
+ghost use Rattle.home_care.specs.Fits.{caseWith, CaseFits};
 ghost use Rattle.apply.specs.Cases.{CaseIn};
 ghost use Rattle.apply.specs.RowBytes.{caseBytes, Keyed};
 use crate::key::key_in;
+use home_care::layout::CASE_KEY;
+use home_care::layout::ROW;
 use register::counts::count;
 use register::counts::set_count;
-use register::layout::CASE_KEY;
-use register::layout::ROW;
 use register::moving::put_row;
 use register::moving::shift_right;
 use register::search::place;
@@ -21,11 +22,11 @@ use rows::writer::Bits;
 
 // A case's row over a row: the probe's key, then the fields.
 fn pack_case(out: &mut [u8], probe: &[u8], key: Bits, birth: u64, prevalente: &[u8], scales: &[u8])
-    requires { ⌜ (length (now out) ≡ rowBytes) × Keyed (now probe) key (keyOf rowBytes keyBits (now probe)) × CaseFits (caseOf birth (now prevalente) (now scales)) ⌝ }
-    ensures { λ _. ⌜ now (out .exit) ≡ caseBytes (keyOf rowBytes keyBits (now (probe .entry))) (caseOf birth (now (prevalente .entry)) (now (scales .entry))) ⌝ }
+    requires { ⌜ (length (now out) ≡ rowBytes) × Keyed (now probe) key (probeKey rowBytes keyBits (now probe)) × CaseFits (caseWith birth (now prevalente) (now scales)) ⌝ }
+    ensures { λ _. ⌜ now (out .exit) ≡ caseBytes (probeKey rowBytes keyBits (now (probe .entry))) (caseWith birth (now (prevalente .entry)) (now (scales .entry))) ⌝ }
 {
     put_row(out, probe);
-    rows::pack::set_case(out, key, birth, prevalente, scales);
+    home_care::pack::set_case(out, key, birth, prevalente, scales);
 }
 
 // A case's row over row i.
@@ -38,8 +39,8 @@ fn set_case(
     prevalente: &[u8],
     scales: &[u8],
 )
-    requires { ⌜ (4 + rowBytes * (i + 1) ≤ length (now reg)) × Keyed (now probe) key (keyOf rowBytes keyBits (now probe)) × CaseFits (caseOf birth (now prevalente) (now scales)) ⌝ }
-    ensures { λ _. ⌜ now (reg .exit) ≡ replaced rowBytes i (caseBytes (keyOf rowBytes keyBits (now (probe .entry))) (caseOf birth (now (prevalente .entry)) (now (scales .entry)))) (now (reg .entry)) ⌝ }
+    requires { ⌜ (4 + rowBytes * (i + 1) ≤ length (now reg)) × Keyed (now probe) key (probeKey rowBytes keyBits (now probe)) × CaseFits (caseWith birth (now prevalente) (now scales)) ⌝ }
+    ensures { λ _. ⌜ now (reg .exit) ≡ replaced rowBytes i (caseBytes (probeKey rowBytes keyBits (now (probe .entry))) (caseWith birth (now (prevalente .entry)) (now (scales .entry)))) (now (reg .entry)) ⌝ }
 {
     let from = 4 + ROW * i;
     let to = from + ROW;
@@ -48,8 +49,8 @@ fn set_case(
 
 // The register's part from the case's place on: its rows go one row on, and the case is packed into the gap.
 fn open_case(part: &mut [u8], probe: &[u8], key: Bits, birth: u64, prevalente: &[u8], scales: &[u8])
-    requires { ⌜ (rowBytes ≤ length (now part)) × Keyed (now probe) key (keyOf rowBytes keyBits (now probe)) × CaseFits (caseOf birth (now prevalente) (now scales)) ⌝ }
-    ensures { λ _. ⌜ now (part .exit) ≡ openedBy (caseBytes (keyOf rowBytes keyBits (now (probe .entry))) (caseOf birth (now (prevalente .entry)) (now (scales .entry)))) (now (part .entry)) ⌝ }
+    requires { ⌜ (rowBytes ≤ length (now part)) × Keyed (now probe) key (probeKey rowBytes keyBits (now probe)) × CaseFits (caseWith birth (now prevalente) (now scales)) ⌝ }
+    ensures { λ _. ⌜ now (part .exit) ≡ openedBy (caseBytes (probeKey rowBytes keyBits (now (probe .entry))) (caseWith birth (now (prevalente .entry)) (now (scales .entry)))) (now (part .entry)) ⌝ }
 {
     shift_right(part, ROW);
     pack_case(&mut part[..ROW], probe, key, birth, prevalente, scales);
@@ -66,8 +67,8 @@ fn insert_case(
     prevalente: &[u8],
     scales: &[u8],
 )
-    requires { ⌜ (i ≤ n) × (n < 131072) × (4 + rowBytes * (n + 1) ≤ length (now reg)) × Keyed (now probe) key (keyOf rowBytes keyBits (now probe)) × CaseFits (caseOf birth (now prevalente) (now scales)) ⌝ }
-    ensures { λ _. ⌜ now (reg .exit) ≡ inserted rowBytes i n (caseBytes (keyOf rowBytes keyBits (now (probe .entry))) (caseOf birth (now (prevalente .entry)) (now (scales .entry)))) (now (reg .entry)) ⌝ }
+    requires { ⌜ (i ≤ n) × (n < 131072) × (4 + rowBytes * (n + 1) ≤ length (now reg)) × Keyed (now probe) key (probeKey rowBytes keyBits (now probe)) × CaseFits (caseWith birth (now prevalente) (now scales)) ⌝ }
+    ensures { λ _. ⌜ now (reg .exit) ≡ inserted rowBytes i n (caseBytes (probeKey rowBytes keyBits (now (probe .entry))) (caseWith birth (now (prevalente .entry)) (now (scales .entry)))) (now (reg .entry)) ⌝ }
 {
     let from = 4 + ROW * i;
     let to = 4 + ROW * (n + 1);
@@ -76,8 +77,8 @@ fn insert_case(
 
 // A case put in: over the row with its key, or into its place among the cases.
 pub fn put_case(reg: &mut [u8], probe: &[u8], birth: u64, prevalente: &[u8], scales: &[u8])
-    requires { ⌜ (length (now probe) ≡ rowBytes) × CaseFits (caseOf birth (now prevalente) (now scales)) ⌝ }
-    ensures { λ _. ⌜ CaseIn (keyOf rowBytes keyBits (now (probe .entry))) (caseOf birth (now (prevalente .entry)) (now (scales .entry))) (now (reg .entry)) (now (reg .exit)) ⌝ }
+    requires { ⌜ (length (now probe) ≡ rowBytes) × CaseFits (caseWith birth (now prevalente) (now scales)) ⌝ }
+    ensures { λ _. ⌜ CaseIn (probeKey rowBytes keyBits (now (probe .entry))) (caseWith birth (now (prevalente .entry)) (now (scales .entry))) (now (reg .entry)) (now (reg .exit)) ⌝ }
 {
     if reg.len() < 4 {
         return;

@@ -14,16 +14,16 @@ ghost use Prim.Native.Nat.{ℕ, _^_};
 ghost use lib.Dec.{ltb};
 ghost use lib.ListN.{length};
 ghost use Rattle.laws.specs.Lists.{all};
-ghost use Rattle.rows.specs.Row.{rowBytes, keyBits, eventBits, caseOf, keyNumber, CaseFits};
 ghost use Rattle.model.specs.Checks.{first};
 ghost use Rattle.model.specs.Flow.{State};
-ghost use Rattle.register.specs.Bytes.{room};
-ghost use Rattle.register.specs.Layout.{siad};
-ghost use Rattle.register.specs.Search.{keyOf};
+ghost use Rattle.register.specs.Layout.{room};
+ghost use Rattle.register.specs.Search.{probeKey};
 ghost use Rattle.register.specs.Stored.{Stored};
-ghost use Rattle.tracks.specs.Record.{Head, Admission, Said, admission, events};
+ghost use Rattle.home_care.specs.Row.{rowBytes, keyBits, eventBits, keyNumber, siad};
+ghost use Rattle.home_care.specs.Fits.{caseWith, CaseFits};
+ghost use Rattle.home_care.specs.Record.{Head, Admission, Said, admission, events, eventNumbers};
+ghost use Rattle.home_care.specs.Anomalies.{Context};
 ghost use Rattle.checks.specs.Flow.{next};
-ghost use Rattle.checks.specs.Tests.{Context, eventsIn};
 ghost use Rattle.checks.specs.Checks.{checksOf};
 use crate::cancel::cancel_events;
 use crate::case::put_case;
@@ -31,8 +31,8 @@ use crate::insert::insert_events;
 use crate::vary::vary_events;
 use checks::kinds::cancels;
 use checks::kinds::inserts;
-use register::layout::CASE_KEY;
-use register::layout::ROW;
+use home_care::layout::CASE_KEY;
+use home_care::layout::ROW;
 use register::store::Part;
 
 // An accepted record of Track 1: its case's row, with the key that the probe holds.
@@ -44,9 +44,9 @@ pub fn apply_case(
     prevalente: &[u8],
     scales: &[u8],
 )
-    requires { ⌜ (length (now probe) ≡ rowBytes) × CaseFits (caseOf birth (now prevalente) (now scales)) ⌝ }
-    ensures { λ _. ⌜ ((h : Head) (a : Admission) (s : State ℕ ℕ) (c : Context) → keyNumber (h .key) ≡ keyOf rowBytes keyBits (now (probe .entry)) → tipo ≡ h .tipo
-        → a .case ≡ caseOf birth (now (prevalente .entry)) (now (scales .entry)) → c .room ≡ room siad (length (now (reg .entry)))
+    requires { ⌜ (length (now probe) ≡ rowBytes) × CaseFits (caseWith birth (now prevalente) (now scales)) ⌝ }
+    ensures { λ _. ⌜ ((h : Head) (a : Admission) (s : State ℕ ℕ) (c : Context) → keyNumber (h .key) ≡ probeKey rowBytes keyBits (now (probe .entry)) → tipo ≡ h .tipo
+        → a .case ≡ caseWith birth (now (prevalente .entry)) (now (scales .entry)) → c .room ≡ room siad (length (now (reg .entry)))
         → Stored siad (now (reg .entry)) s → first (checksOf c (admission h a)) s ≡ 0 → Stored siad (now (reg .exit)) (next (admission h a) s))
         × (length (now (reg .exit)) ≡ length (now (reg .entry))) ⌝ }
 {
@@ -60,8 +60,8 @@ pub fn apply_case(
 // An accepted record of Track 2: its events' rows, with the case's key that the probe holds.
 pub fn apply_events(reg: &mut [u8], tipo: u8, probe: &[u8], evs: &[u64])
     requires { ⌜ (length (now probe) ≡ rowBytes) × (all (λ e. ltb e (2 ^ eventBits)) (now evs) ≡ true) ⌝ }
-    ensures { λ _. ⌜ ((h : Head) (es : List Said) (s : State ℕ ℕ) (c : Context) → keyNumber (h .key) ≡ keyOf rowBytes keyBits (now (probe .entry))
-        → tipo ≡ h .tipo → now (evs .entry) ≡ eventsIn es → c .room ≡ room siad (length (now (reg .entry)))
+    ensures { λ _. ⌜ ((h : Head) (es : List Said) (s : State ℕ ℕ) (c : Context) → keyNumber (h .key) ≡ probeKey rowBytes keyBits (now (probe .entry))
+        → tipo ≡ h .tipo → now (evs .entry) ≡ eventNumbers es → c .room ≡ room siad (length (now (reg .entry)))
         → Stored siad (now (reg .entry)) s → first (checksOf c (events h es)) s ≡ 0 → Stored siad (now (reg .exit)) (next (events h es) s))
         × (length (now (reg .exit)) ≡ length (now (reg .entry))) ⌝ }
 {

@@ -5,16 +5,16 @@ ghost use Prim.Native.Nat.{_^_};
 ghost use lib.Dec.{ltb};
 ghost use lib.ListN.{length};
 ghost use Rattle.laws.specs.Lists.{all};
-ghost use Rattle.rows.specs.Row.{rowBytes, keyBits, eventBits};
-ghost use Rattle.register.specs.Search.{keyOf};
+ghost use Rattle.register.specs.Search.{probeKey};
+ghost use Rattle.home_care.specs.Row.{rowBytes, keyBits, eventBits};
 ghost use Rattle.apply.specs.Events.{AllOver};
 use crate::event_row::set_row;
 use crate::key::key_in;
+use home_care::layout::CASE_KEY;
+use home_care::layout::OWN_KEY;
+use home_care::layout::PAST_OWN;
+use home_care::layout::ROW;
 use register::counts::count;
-use register::layout::CASE_KEY;
-use register::layout::OWN_KEY;
-use register::layout::PAST_OWN;
-use register::layout::ROW;
 use register::search::case_range;
 use register::search::place_by;
 use register::store::room_for;
@@ -22,7 +22,7 @@ use register::store::room_for;
 // The events of a record whose keys all stand (15): each is packed over the row with its key.
 pub fn vary_events(reg: &mut [u8], probe: &[u8], evs: &[u64])
     requires { ⌜ (length (now probe) ≡ rowBytes) × (all (λ e. ltb e (2 ^ eventBits)) (now evs) ≡ true) ⌝ }
-    ensures { λ _. ⌜ AllOver (keyOf rowBytes keyBits (now (probe .entry))) (now (evs .entry)) (now (reg .entry)) (now (reg .exit)) ⌝ }
+    ensures { λ _. ⌜ AllOver (probeKey rowBytes keyBits (now (probe .entry))) (now (evs .entry)) (now (reg .entry)) (now (reg .exit)) ⌝ }
 {
     if reg.len() < 4 {
         return;

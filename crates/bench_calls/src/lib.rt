@@ -7,18 +7,17 @@ ghost use lib.Dec.{eqb, ltb};
 ghost use lib.ListN.{length};
 ghost use Rattle.laws.specs.Lists.{all};
 ghost use Rattle.markup.specs.Document.{inMarkup};
-ghost use Rattle.rows.specs.Row.{rowBytes, keyBits, eventBits, keyNumber};
 ghost use Rattle.model.specs.Checks.{first};
 ghost use Rattle.model.specs.Flow.{State};
-ghost use Rattle.register.specs.Bytes.{room};
-ghost use Rattle.register.specs.Layout.{siad};
-ghost use Rattle.register.specs.Search.{keyOf};
+ghost use Rattle.register.specs.Layout.{room};
+ghost use Rattle.register.specs.Search.{probeKey};
 ghost use Rattle.register.specs.Stored.{Stored};
-ghost use Rattle.tracks.specs.Record.{Head, Said, events};
+ghost use Rattle.home_care.specs.Row.{rowBytes, keyBits, eventBits, keyNumber, siad};
+ghost use Rattle.home_care.specs.Record.{Head, Said, events, eventNumbers};
+ghost use Rattle.home_care.specs.Anomalies.{Context};
 ghost use Rattle.checks.specs.Flow.{next};
-ghost use Rattle.checks.specs.Tests.{Context, eventsIn};
 ghost use Rattle.checks.specs.Checks.{checksOf};
-use register::layout::ROW;
+use home_care::layout::ROW;
 
 // No event of 52 bits is so large.
 const PAST_EVENTS: u64 = 4503599627370496;
@@ -48,8 +47,8 @@ fn all_events(evs: &[u64]) -> bool
 pub extern "C" fn bench_store_events(reg: &mut [u8], tipo: u8, probe: &[u8], evs: &[u64]) -> bool
     ensures { λ r. ⌜ (r ≡ eqb (length (now (probe .entry))) rowBytes && all (λ e. ltb e (2 ^ eventBits)) (now (evs .entry)))
         × (r ≡ false → now (reg .exit) ≡ now (reg .entry))
-        × (r ≡ true → (h : Head) (es : List Said) (s : State ℕ ℕ) (c : Context) → keyNumber (h .key) ≡ keyOf rowBytes keyBits (now (probe .entry))
-        → tipo ≡ h .tipo → now (evs .entry) ≡ eventsIn es → c .room ≡ room siad (length (now (reg .entry)))
+        × (r ≡ true → (h : Head) (es : List Said) (s : State ℕ ℕ) (c : Context) → keyNumber (h .key) ≡ probeKey rowBytes keyBits (now (probe .entry))
+        → tipo ≡ h .tipo → now (evs .entry) ≡ eventNumbers es → c .room ≡ room siad (length (now (reg .entry)))
         → Stored siad (now (reg .entry)) s → first (checksOf c (events h es)) s ≡ 0 → Stored siad (now (reg .exit)) (next (events h es) s)) ⌝ }
 {
     if probe.len() != ROW {

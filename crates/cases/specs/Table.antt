@@ -11,40 +11,39 @@ use Rattle.laws.specs.Lists.{same}
 use Rattle.laws.specs.Text.{bytes}
 use Rattle.days.specs.Dates.{isDate, dayOf}
 use Rattle.days.specs.Quarters.{firstDay, lastDay, inQuarter}
-use Rattle.rows.specs.Pack.{digits}
-use Rattle.rows.specs.Row.{rowBytes, Key, keyOf, keyFields, rowNumber, eventOf, eventNumber}
 use Rattle.model.specs.Checks.{first}
 use Rattle.model.specs.Flow.{empty}
-use Rattle.register.specs.Layout.{siad}
-use Rattle.register.specs.Bytes.{room}
-use Rattle.register.specs.Events.{t26}
-use Rattle.register.specs.Sound.{isSound}
-use Rattle.tracks.specs.Record.{Record, padded, admission}
-use Rattle.checks.specs.Tests.{Context}
+use Rattle.rows.specs.Packing.{digits, rowNumber}
+use Rattle.register.specs.Layout.{room}
+use Rattle.home_care.specs.Row.{rowBytes, Key, keyFields, eventNumber, siad}
+use Rattle.home_care.specs.Fits.{keyWith, eventWith}
+use Rattle.home_care.specs.Anomalies.{t26, Context}
+use Rattle.home_care.specs.Record.{Record, padded, admission}
+use Rattle.soundness.specs.Sound.{isSound}
 use Rattle.checks.specs.Checks.{checksOf}
 
-pub data Case : Type 0 where
+pub data PCase : Type 0 where
   -- a date's number, a text that is no day, a day in a quarter and one out of it
-  is-day : string.String → ℕ → Case
-  no-day : string.String → Case
-  in-quarter out-of-quarter : ℕ → ℕ → string.String → Case
+  is-day : string.String → ℕ → PCase
+  no-day : string.String → PCase
+  in-quarter out-of-quarter : ℕ → ℕ → string.String → PCase
   -- two suspensions, by their first and last days
-  share apart : string.String → string.String → string.String → string.String → Case
+  share apart : string.String → string.String → string.String → string.String → PCase
   -- a prevalente, in a record of Track 1 in which nothing else is wrong
-  gives-13 gives-no-13 : string.String → Case
+  gives-13 gives-no-13 : string.String → PCase
   -- a zero register of so many bytes is sound, with room for so many rows
-  zero-register : ℕ → ℕ → Case
+  zero-register : ℕ → ℕ → PCase
   -- region, ASL, day of taking in and Id_Rec, as they are written, and the bytes that the row begins with
-  row-begins : string.String → string.String → string.String → List ℕ → List ℕ → Case
+  row-begins : string.String → string.String → string.String → List ℕ → List ℕ → PCase
 
 abbrev suspension : string.String → string.String → ℕ
-suspension a b = eventNumber (eventOf 2 (dayOf (bytes a)) (dayOf (bytes b)) 1 0 0)
+suspension a b = eventNumber (eventWith 2 (dayOf (bytes a)) (dayOf (bytes b)) 1 0 0)
 
 abbrev shared : string.String → string.String → string.String → string.String → Bool
 shared a b c d = t26 (suspension a b ∷ suspension c d ∷ [])
 
 abbrev keyWritten : string.String → string.String → string.String → List ℕ → Key
-keyWritten region asl day id = keyOf (decimal (bytes region)) (bytes asl) (dayOf (bytes day)) id
+keyWritten region asl day id = keyWith (decimal (bytes region)) (bytes asl) (dayOf (bytes day)) id
 
 -- Id_Rec of 88 letters A
 abbrev letters : List ℕ
@@ -65,7 +64,7 @@ context = record { first = firstDay 2018 2; last = lastDay 2018 2; room = 1 }
 abbrev answered : string.String → ℕ
 answered prevalente = first (checksOf context (admitted prevalente)) empty
 
-abbrev pub holds : Case → Bool
+abbrev pub holds : PCase → Bool
 holds (is-day t n) = isDate (bytes t) && eqb (dayOf (bytes t)) n
 holds (no-day t) = not (isDate (bytes t))
 holds (in-quarter y q t) = isDate (bytes t) && inQuarter y q (dayOf (bytes t))
@@ -77,7 +76,7 @@ holds (gives-no-13 p) = eqb (answered p) 0
 holds (zero-register n r) = isSound (replicate n 0) && eqb (room siad n) r
 holds (row-begins region asl day id bs) = same (take 6 (digits rowBytes (rowNumber rowBytes (keyFields (keyWritten region asl day id))))) bs
 
-abbrev pub cases : List Case
+abbrev pub cases : List PCase
 cases =
     -- 1: "1900-01-01 is 0. 2099-12-31 is 73,048. 2000-02-29 is 36,583. 1900-02-29 is no day."
     is-day "1900-01-01" 0 ∷

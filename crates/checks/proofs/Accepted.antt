@@ -10,11 +10,12 @@ use Rattle.model.proofs.TransmissionLaws.{sequences}
 use Rattle.model.specs.Map.{find, twice}
 use Rattle.model.specs.Checks.{first}
 use Rattle.model.specs.Checks as model
-use Rattle.model.specs.Flow.{State, Good, Lawful, t14, t15, t17, t22}
+use Rattle.model.specs.Flow.{State, Good, t14, t15, t17, t22}
+use Rattle.model.specs.Log.{Lawful}
 use Rattle.model.specs.Demands.{Demand2, Demand3, Discarded, OneOrMany, Sequences, Conserved}
-use Rattle.tracks.specs.Record.{Record, admission, events}
+use Rattle.home_care.specs.Record.{Record, admission, events}
+use Rattle.home_care.specs.Anomalies.{Context}
 use Rattle.checks.specs.Flow.{flow}
-use Rattle.checks.specs.Tests.{Context}
 use Rattle.checks.specs.Checks.{checksOf, siadMachine}
 
 module _ (c : Context) where

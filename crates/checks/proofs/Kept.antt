@@ -11,32 +11,31 @@ use lib.ListN.{length}
 use borrow.Author.Tests.{eqb-true, ltb-true, not-false}
 use Rattle.laws.specs.Lists.{all, any}
 use Rattle.laws.proofs.Truth.{and-left, and-right, or-left, or-right}
-use Rattle.rows.specs.Row.{keyBits, eventKeyBits, eventBits, keyNumber}
-use Rattle.rows.proofs.Table.{key-lt}
+use Rattle.laws.proofs.Every.{and-tell}
 use Rattle.model.specs.Map.{Row, Map, find, has, putAll, delAll}
 use Rattle.model.specs.Checks.{first, testOf}
 use Rattle.model.specs.Transmission.{Kind, insert, vary, cancel, isCancel}
-use Rattle.model.specs.Flow.{State, Good, applied, shown, machine}
+use Rattle.model.specs.Flow.{State, Good, applied, machine}
+use Rattle.model.specs.Log.{shown}
 use Rattle.model.proofs.ChecksLaws.{clear}
 use Rattle.model.proofs.MapLaws.{find-keep, keep-true, asc-keep, ext, has-put, has-keep, keep-has, has-putAll, has-delAll, key-any}
 use Rattle.model.proofs.FlowLaws.{event-found, good-applied}
 use Rattle.model.proofs.FlowHistories.{fits-law}
-use Rattle.register.specs.Layout.{siad, caseRest, eventRest, caseOf}
-use Rattle.register.specs.Bytes.{room}
-use Rattle.register.specs.Fields.{takenIn, eventIn, eventRow, dateOf, endOf}
-use Rattle.register.specs.Events.{isSuspension, t23, t25}
-use Rattle.register.specs.Allowed.{caseRowAllowed, eventAllowed, eventRowAllowed}
-use Rattle.register.specs.Sound.{eventsOf, eventsFree, valid, siadRules}
+use Rattle.register.specs.Layout.{caseRest, eventRest, caseNamed, room}
+use Rattle.register.specs.Sound.{eventsOf, valid}
 use Rattle.register.specs.Stored.{Fits}
-use Rattle.register.proofs.Every.{and-tell}
-use Rattle.tracks.specs.Record.{Head, Admission, Said, Record, admission, events}
-use Rattle.checks.specs.Flow.{kindOf, caseRow, eventRows, flow, next}
-use Rattle.checks.specs.Tests.{Context, eventsIn}
+use Rattle.home_care.specs.Row.{keyBits, eventKeyBits, eventBits, keyNumber, siad, takenIn, eventNumberIn, eventRow, dateOf, endOf, eventIn}
+use Rattle.home_care.proofs.Table.{key-lt}
+use Rattle.home_care.specs.Anomalies.{isSuspension, t23, t25, Context}
+use Rattle.home_care.specs.Allowed.{caseRowAllowed, eventAllowed, eventRowAllowed}
+use Rattle.home_care.specs.Record.{Head, Admission, Said, Record, admission, events, eventNumbers}
+use Rattle.home_care.proofs.ReadBack.{taken-read, event-read}
+use Rattle.soundness.specs.Sound.{eventsFree, siadRules}
+use Rattle.checks.specs.Flow.{typeOf, caseRow, eventRows, flow, next}
 use Rattle.checks.specs.Checks.{checksOf, afterwards}
 use Rattle.checks.specs.Readable.{Readable, KeyReadable, CaseReadable, eventReadable}
 use Rattle.checks.proofs.Accepted.{numbered, lawful, not17}
 use Rattle.checks.proofs.RowTests.{all-cases, all-events, sized, sized-fits, fits-sized, kept-all}
-use Rattle.checks.proofs.ReadBack.{taken-read, event-read}
 use Rattle.checks.proofs.RowsAllowed.{case-row-sized, case-row-allowed, each-row, event-row-allowed, event-row-sized, row-case}
 use Rattle.checks.proofs.Valid.{Sound, Parts, parts-of, valid-of, freeOf, free-any, ends, all-ends, five, free-23}
 
@@ -63,36 +62,36 @@ or-so false b h = h
 
 -- what holds of every row whose suspension doesn't end before it begins holds of the rows of a record free of 23
 new-ends : (c : ℕ) (q : Row ℕ → Bool) → ((r : Row ℕ) → ends r ≡ true → q r ≡ true) →
-    (es : List Said) → all eventReadable es ≡ true → t23 (eventsIn es) ≡ false → all q (eventRows c es) ≡ true
-unfolding all any eventsIn eventRows
+    (es : List Said) → all eventReadable es ≡ true → t23 (eventNumbers es) ≡ false → all q (eventRows c es) ≡ true
+unfolding all any eventNumbers eventRows
 new-ends c q f [] w h = refl
 new-ends c q f (e ∷ es) w h =
     let r : eventReadable e ≡ true = and-left (eventReadable e) (all eventReadable es) w in
-    let l : e .event < 2 ^ eventBits = ltb-true (e .event) (2 ^ eventBits) (and-left (ltb (e .event) (2 ^ eventBits)) (eventAllowed (e .event)) r) in
+    let l : e .event < 2 ^ eventBits = ltb-true (e .event) (2 ^ eventBits) (and-left (ltb (e .event) (2 ^ eventBits)) (eventAllowed (eventIn (e .event))) r) in
     let now : Bool = isSuspension (e .event) && ltb (endOf (e .event)) (dateOf (e .event)) in
     and-tell (q (eventRow c (e .event))) (all q (eventRows c es))
     (f (eventRow c (e .event))
-    (ap (λ (x : ℕ). not (isSuspension x && ltb (endOf x) (dateOf x))) (event-read c (e .event) l) ∙ ap not (or-left now (t23 (eventsIn es)) h)))
-    (new-ends c q f es (and-right (eventReadable e) (all eventReadable es) w) (or-right now (t23 (eventsIn es)) h))
+    (ap (λ (x : ℕ). not (isSuspension x && ltb (endOf x) (dateOf x))) (event-read c (e .event) l) ∙ ap not (or-left now (t23 (eventNumbers es)) h)))
+    (new-ends c q f es (and-right (eventReadable e) (all eventReadable es) w) (or-right now (t23 (eventNumbers es)) h))
 
 module _ (n : ℕ) (s : State ℕ ℕ) (p : Parts n s) where
   -- every event's case stands: after a case's row, where 16 doesn't hold
-  tied1 : (x : Row ℕ) (t : Kind) → isCancel t && any (λ e. eqb (caseOf siad (e .key)) (x .key)) (s .events) ≡ false → (k : ℕ) →
-      has k (s .events) ≡ true → has (caseOf siad k) (applied t (x ∷ []) [] nothing s .cases) ≡ true
+  tied1 : (x : Row ℕ) (t : Kind) → isCancel t && any (λ e. eqb (caseNamed siad (e .key)) (x .key)) (s .events) ≡ false → (k : ℕ) →
+      has k (s .events) ≡ true → has (caseNamed siad k) (applied t (x ∷ []) [] nothing s .cases) ≡ true
   unfolding putAll delAll
-  tied1 x insert q k h = has-put (caseOf siad k) x (s .cases) (p .tied k h)
-  tied1 x vary q k h = has-put (caseOf siad k) x (s .cases) (p .tied k h)
+  tied1 x insert q k h = has-put (caseNamed siad k) x (s .cases) (p .tied k h)
+  tied1 x vary q k h = has-put (caseNamed siad k) x (s .cases) (p .tied k h)
   tied1 x cancel q k h =
-      keep-has (caseOf siad k) (λ j. not (eqb j (x .key))) (s .cases) (p .tied k h) (ap not (other (eqb (caseOf siad k) (x .key)) refl))
+      keep-has (caseNamed siad k) (λ j. not (eqb j (x .key))) (s .cases) (p .tied k h) (ap not (other (eqb (caseNamed siad k) (x .key)) refl))
     where
-      other : (b : Bool) → eqb (caseOf siad k) (x .key) ≡ b → eqb (caseOf siad k) (x .key) ≡ false
-      other true e = absurd (true≢false (sym (key-any (λ j. eqb (caseOf siad j) (x .key)) (s .events) k h e) ∙ q))
+      other : (b : Bool) → eqb (caseNamed siad k) (x .key) ≡ b → eqb (caseNamed siad k) (x .key) ≡ false
+      other true e = absurd (true≢false (sym (key-any (λ j. eqb (caseNamed siad j) (x .key)) (s .events) k h e) ∙ q))
       other false e = e
 
   -- after events' rows, where 24 doesn't hold
   module _ (c : ℕ) (es : List Said) (w : all eventReadable es ≡ true) where
     tied2 : (t : Kind) → not (has c (s .cases)) ≡ false → (k : ℕ) →
-        has k (applied t [] (eventRows c es) nothing s .events) ≡ true → has (caseOf siad k) (s .cases) ≡ true
+        has k (applied t [] (eventRows c es) nothing s .events) ≡ true → has (caseNamed siad k) (s .cases) ≡ true
     tied2 insert q k h = ⊎-elim (λ g. rw (row-case c es w k g) (not-false _ q)) (p .tied k) (has-putAll k (eventRows c es) (s .events) h)
     tied2 vary q k h = ⊎-elim (λ g. rw (row-case c es w k g) (not-false _ q)) (p .tied k) (has-putAll k (eventRows c es) (s .events) h)
     tied2 cancel q k h =
@@ -105,34 +104,34 @@ module _ (n : ℕ) (s : State ℕ ℕ) (p : Parts n s) where
         (asc-keep 0 _ _ (good-applied [] (eventRows c es) nothing s t (p .good) .1))
         (asc-keep 0 _ _ (p .good .1))
         (λ k.
-        find-keep k (λ k. eqb (caseOf siad k) d) _ ∙
-        ap (λ (o : Option ℕ). cond (eqb (caseOf siad k) d) o none) (event-found [] (eventRows c es) nothing s t k) ∙
-        go k (eqb (caseOf siad k) d) refl (has k (eventRows c es)) refl t ∙
-        sym (find-keep k (λ k. eqb (caseOf siad k) d) (s .events)))
+        find-keep k (λ k. eqb (caseNamed siad k) d) _ ∙
+        ap (λ (o : Option ℕ). cond (eqb (caseNamed siad k) d) o none) (event-found [] (eventRows c es) nothing s t k) ∙
+        go k (eqb (caseNamed siad k) d) refl (has k (eventRows c es)) refl t ∙
+        sym (find-keep k (λ k. eqb (caseNamed siad k) d) (s .events)))
       where
-        go : (k : ℕ) (b : Bool) → eqb (caseOf siad k) d ≡ b → (x : Bool) → has k (eventRows c es) ≡ x → (t : Kind) →
+        go : (k : ℕ) (b : Bool) → eqb (caseNamed siad k) d ≡ b → (x : Bool) → has k (eventRows c es) ≡ x → (t : Kind) →
             cond b (cond (x || (isCancel t && false)) (shown t (find k (eventRows c es))) (find k (s .events))) none ≡ cond b (find k (s .events)) none
         go k false e x h t = refl
-        go k true e true h t = absurd (ne (sym (eqb-true (caseOf siad k) d e) ∙ row-case c es w k h))
+        go k true e true h t = absurd (ne (sym (eqb-true (caseNamed siad k) d e) ∙ row-case c es w k h))
         go k true e false h insert = refl
         go k true e false h vary = refl
         go k true e false h cancel = refl
 
     -- none of the case's suspensions ends before it begins: 23 was judged of the record's, and the others stood
     abbrev ending : Row ℕ → Bool
-    ending r = not (eqb (caseOf siad (r .key)) c) || ends r
+    ending r = not (eqb (caseNamed siad (r .key)) c) || ends r
 
-    own-ends : t23 (eventsIn es) ≡ false → all ending (eventRows c es) ≡ true
-    own-ends q = new-ends c ending (λ r h. or-so (not (eqb (caseOf siad (r .key)) c)) (ends r) h) es w q
+    own-ends : t23 (eventNumbers es) ≡ false → all ending (eventRows c es) ≡ true
+    own-ends q = new-ends c ending (λ r h. or-so (not (eqb (caseNamed siad (r .key)) c)) (ends r) h) es w q
 
-    ended : (t : Kind) → t23 (eventsIn es) ≡ false → t23 (map eventIn (eventsOf siad c (applied t [] (eventRows c es) nothing s .events))) ≡ false
+    ended : (t : Kind) → t23 (eventNumbers es) ≡ false → t23 (map eventNumberIn (eventsOf siad c (applied t [] (eventRows c es) nothing s .events))) ≡ false
     ended t q =
         let m : Map ℕ = applied t [] (eventRows c es) nothing s .events in
         let old : all ends (eventsOf siad c (s .events)) ≡ true =
-        not-false _ (sym (all-ends (eventsOf siad c (s .events))) ∙ free-23 (takenIn c) (map eventIn (eventsOf siad c (s .events))) (free-any n s p c)) in
-        let all-old : all ending (s .events) ≡ true = sym (kept-all (λ k. eqb (caseOf siad k) c) ends (s .events)) ∙ old in
+        not-false _ (sym (all-ends (eventsOf siad c (s .events))) ∙ free-23 (takenIn c) (map eventNumberIn (eventsOf siad c (s .events))) (free-any n s p c)) in
+        let all-old : all ending (s .events) ≡ true = sym (kept-all (λ k. eqb (caseNamed siad k) c) ends (s .events)) ∙ old in
         let all-new : all ending m ≡ true = all-events [] (eventRows c es) nothing s ending t (own-ends q) all-old in
-        all-ends (eventsOf siad c m) ∙ ap not (kept-all (λ k. eqb (caseOf siad k) c) ends m ∙ all-new)
+        all-ends (eventsOf siad c m) ∙ ap not (kept-all (λ k. eqb (caseNamed siad k) c) ends m ∙ all-new)
 
 -- ---- the two tracks
 
@@ -152,7 +151,7 @@ module _ (c : Context) (n : ℕ) (r-is : c .room ≡ room siad n) (s : State ℕ
     x = caseRow (h .key) (a .case)
 
     abbrev t1 : Kind
-    t1 = kindOf (h .tipo)
+    t1 = typeOf (h .tipo)
 
     passed1 : (k : ℕ) → testOf k (checksOf c (admission h a)) s ≡ false
     passed1 k = clear k (checksOf c (admission h a)) s (numbered c (admission h a)) e
@@ -187,7 +186,7 @@ module _ (c : Context) (n : ℕ) (r-is : c .room ≡ room siad n) (s : State ℕ
     own = keyNumber (h .key)
 
     abbrev t2 : Kind
-    t2 = kindOf (h .tipo)
+    t2 = typeOf (h .tipo)
 
     abbrev rows : Map ℕ
     rows = eventRows own es
@@ -204,7 +203,7 @@ module _ (c : Context) (n : ℕ) (r-is : c .room ≡ room siad n) (s : State ℕ
 
     all-free : (k : ℕ) → Dec (k ≡ own) → freeOf k (next (events h es) s .events) ≡ true
     all-free k (yes q) = ap (λ (j : ℕ). freeOf j (next (events h es) s .events)) q ∙ own-free
-    all-free k (no ne) = ap (λ (m : Map ℕ). eventsFree (takenIn k) (map eventIn m)) (others n s p own es w t2 k ne) ∙ free-any n s p k
+    all-free k (no ne) = ap (λ (m : Map ℕ). eventsFree (takenIn k) (map eventNumberIn m)) (others n s p own es w t2 k ne) ∙ free-any n s p k
 
     valid2 : Parts n (next (events h es) s)
     valid2 =
@@ -216,7 +215,7 @@ module _ (c : Context) (n : ℕ) (r-is : c .room ≡ room siad n) (s : State ℕ
           events-allowed =
               all-events [] rows nothing s eventRowAllowed t2 (each-row own eventRowAllowed es w (event-row-allowed own)) (p .events-allowed);
           good = g .0;
-          tied = λ k q. ap (λ (m : Map ℕ). has (caseOf siad k) m) sc ∙ tied2 n s p own es w t2 (passed2 24) k q;
+          tied = λ k q. ap (λ (m : Map ℕ). has (caseNamed siad k) m) sc ∙ tied2 n s p own es w t2 (passed2 24) k q;
           free = λ k q. all-free k (ℕ-discrete k own);
         }
 
@@ -235,10 +234,10 @@ module _ (c : Context) (n : ℕ) (r-is : c .room ≡ room siad n) (s : State ℕ
   -- and rows that have their sizes
   pub cases-fit-kept : (r : Record) → Readable r → first (checksOf c r) s ≡ 0 → Fits keyBits (caseRest siad) (s .cases) → Fits keyBits (caseRest siad) (next r s .cases)
   cases-fit-kept (admission h a) w e f = fits1 h a (w .0) (w .1) e f
-  cases-fit-kept (events h es) w e f = subst (Fits keyBits (caseRest siad)) (sym (same-cases s (eventRows (keyNumber (h .key)) es) (kindOf (h .tipo)))) f
+  cases-fit-kept (events h es) w e f = subst (Fits keyBits (caseRest siad)) (sym (same-cases s (eventRows (keyNumber (h .key)) es) (typeOf (h .tipo)))) f
 
   pub events-fit-kept : (r : Record) → Readable r → first (checksOf c r) s ≡ 0 → Fits eventKeyBits (eventRest siad) (s .events) → Fits eventKeyBits (eventRest siad) (next r s .events)
-  events-fit-kept (admission h a) w e f = subst (Fits eventKeyBits (eventRest siad)) (sym (same-events s (caseRow (h .key) (a .case) ∷ []) (kindOf (h .tipo)))) f
+  events-fit-kept (admission h a) w e f = subst (Fits eventKeyBits (eventRest siad)) (sym (same-events s (caseRow (h .key) (a .case) ∷ []) (typeOf (h .tipo)))) f
   events-fit-kept (events h es) w e f = fits2 h es (w .0) (w .1) e f
 
 -- SOUNDNESS KEPT: an accepted record that was read leaves a sound state sound

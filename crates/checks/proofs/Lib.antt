@@ -1,7 +1,6 @@
 pub mod RecordTypes
 pub mod Accepted
 pub mod RowTests
-pub mod ReadBack
 pub mod RowsAllowed
 pub mod Valid
 pub mod Kept

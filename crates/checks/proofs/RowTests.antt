@@ -8,11 +8,11 @@ use lib.Dec.{eqb, ltb}
 use borrow.Author.Tests.{eqb-true, eq-eqb, ltb-true, lt-ltb}
 use Rattle.laws.specs.Lists.{all}
 use Rattle.laws.proofs.Truth.{and-left, and-right}
+use Rattle.laws.proofs.Every.{and-tell}
 use Rattle.model.specs.Map.{Row, Map, isSome, find, has, put, keep, putAll, delAll}
 use Rattle.model.specs.Transmission.{Kind, insert, vary, cancel}
 use Rattle.model.specs.Flow.{State, applied}
 use Rattle.register.specs.Stored.{Fits}
-use Rattle.register.proofs.Every.{and-tell}
 
 -- a test of every row
 module _ {F : Type 0} (q : Row F → Bool) where

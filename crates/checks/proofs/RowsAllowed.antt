@@ -9,20 +9,20 @@ use lib.ListN.{getD}
 use borrow.Author.Tests.{eqb-true, ltb-true, ltb-false, lt-ltb, le-leb, eq-eqb}
 use Rattle.laws.specs.Lists.{all}
 use Rattle.laws.proofs.Truth.{and-left, and-right, or-left, or-right}
+use Rattle.laws.proofs.Every.{and-tell, not-tell}
 use Rattle.days.specs.Calendar.{yearOf, yearsTo, firstOf}
-use Rattle.rows.specs.Row.{Key, Case, keyBits, eventKeyBits, eventBits, keyNumber, caseNumber, CaseFits}
-use Rattle.rows.proofs.Table.{key-lt, case-lt}
 use Rattle.model.specs.Map.{Row, has}
-use Rattle.register.specs.Layout.{siad, caseRest, eventRest, caseOf}
-use Rattle.register.specs.Fields.{casePad, eventIn, eventPad, eventRow}
-use Rattle.register.specs.Allowed.{keyAllowed, prevalenteAllowed, caseAllowed, caseRowAllowed, eventAllowed, eventRowAllowed}
-use Rattle.register.proofs.Every.{and-tell, not-tell}
-use Rattle.tracks.specs.Record.{Said}
+use Rattle.register.specs.Layout.{caseRest, eventRest, caseNamed}
+use Rattle.home_care.specs.Row.{Key, Case, keyBits, eventKeyBits, eventBits, keyNumber, caseNumber, siad, casePad, eventNumberIn, eventPad, eventRow, eventIn}
+use Rattle.home_care.specs.Fits.{CaseFits}
+use Rattle.home_care.proofs.Table.{key-lt, case-lt}
+use Rattle.home_care.specs.Allowed.{keyAllowed, prevalenteAllowed, caseAllowed, caseRowAllowed, eventAllowed, eventRowAllowed}
+use Rattle.home_care.specs.Record.{Said}
+use Rattle.home_care.specs.Anomalies.{t11, zeroKept}
+use Rattle.home_care.proofs.ReadBack.{key-read, case-read, case-pad, event-case, event-read, event-pad, event-key-lt, event-val-lt}
 use Rattle.checks.specs.Flow.{caseRow, eventRows}
-use Rattle.checks.specs.Tests.{t11, zeroKept}
 use Rattle.checks.specs.Readable.{KeyReadable, CaseReadable, eventReadable}
 use Rattle.checks.proofs.RowTests.{sized, all-key}
-use Rattle.checks.proofs.ReadBack.{key-read, case-read, case-pad, event-case, event-read, event-pad, event-key-lt, event-val-lt}
 
 -- the year of a day is at most 2099
 years-le : (k n : ℕ) → yearsTo k n ≤ k
@@ -63,8 +63,8 @@ module _ (k : Key) (c : Case) (kr : KeyReadable k) (cr : CaseReadable c) (no11 :
   module _ (no13 : zeroKept (c .prevalente) ≡ false) where
     fields-allowed : caseAllowed k c ≡ true
     fields-allowed =
-        and-tell (leb 1880 (c .birth) && leb (c .birth) (yearOf (k .taken))) (prevalenteAllowed (c .prevalente) && leb (getD (c .scales) 5 0) 2)
-        (and-tell (leb 1880 (c .birth)) (leb (c .birth) (yearOf (k .taken))) (le-leb 1880 (c .birth) (born .0)) (le-leb (c .birth) (yearOf (k .taken)) (born .1)))
+        and-tell (not (t11 k c)) (prevalenteAllowed (c .prevalente) && leb (getD (c .scales) 5 0) 2)
+        (not-tell (t11 k c) no11)
         (and-tell (prevalenteAllowed (c .prevalente)) (leb (getD (c .scales) 5 0) 2)
         (and-tell _ (not (zeroKept (c .prevalente))) (cr .prevalente) (not-tell (zeroKept (c .prevalente)) no13))
         (le-leb (getD (c .scales) 5 0) 2 (cr .rischio)))
@@ -82,29 +82,29 @@ module _ (k : Key) (c : Case) (kr : KeyReadable k) (cr : CaseReadable c) (no11 :
 module _ (c : ℕ) where
   -- what holds of each event's row holds of all
   pub each-row : (q : Row ℕ → Bool) (es : List Said) → all eventReadable es ≡ true →
-      ((e : ℕ) → e < 2 ^ eventBits → eventAllowed e ≡ true → q (eventRow c e) ≡ true) → all q (eventRows c es) ≡ true
+      ((e : ℕ) → e < 2 ^ eventBits → eventAllowed (eventIn e) ≡ true → q (eventRow c e) ≡ true) → all q (eventRows c es) ≡ true
   unfolding all eventRows
   each-row q [] a f = refl
   each-row q (e ∷ es) a f =
       let r : eventReadable e ≡ true = and-left (eventReadable e) (all eventReadable es) a in
-      let l : e .event < 2 ^ eventBits = ltb-true (e .event) (2 ^ eventBits) (and-left (ltb (e .event) (2 ^ eventBits)) (eventAllowed (e .event)) r) in
+      let l : e .event < 2 ^ eventBits = ltb-true (e .event) (2 ^ eventBits) (and-left (ltb (e .event) (2 ^ eventBits)) (eventAllowed (eventIn (e .event))) r) in
       and-tell (q (eventRow c (e .event))) (all q (eventRows c es))
-      (f (e .event) l (and-right (ltb (e .event) (2 ^ eventBits)) (eventAllowed (e .event)) r))
+      (f (e .event) l (and-right (ltb (e .event) (2 ^ eventBits)) (eventAllowed (eventIn (e .event))) r))
       (each-row q es (and-right (eventReadable e) (all eventReadable es) a) f)
 
-  pub event-row-allowed : (e : ℕ) → e < 2 ^ eventBits → eventAllowed e ≡ true → eventRowAllowed (eventRow c e) ≡ true
+  pub event-row-allowed : (e : ℕ) → e < 2 ^ eventBits → eventAllowed (eventIn e) ≡ true → eventRowAllowed (eventRow c e) ≡ true
   event-row-allowed e l a =
-      and-tell (eventAllowed (eventIn (eventRow c e))) (eqb (eventPad (eventRow c e)) 0)
-      (ap eventAllowed (event-read c e l) ∙ a) (eq-eqb (eventPad (eventRow c e)) 0 (event-pad c e l))
+      and-tell (eventAllowed (eventIn (eventNumberIn (eventRow c e)))) (eqb (eventPad (eventRow c e)) 0)
+      (ap (λ (n : ℕ). eventAllowed (eventIn n)) (event-read c e l) ∙ a) (eq-eqb (eventPad (eventRow c e)) 0 (event-pad c e l))
 
-  pub event-row-sized : c < 2 ^ keyBits → (e : ℕ) → e < 2 ^ eventBits → eventAllowed e ≡ true → sized eventKeyBits (eventRest siad) (eventRow c e) ≡ true
+  pub event-row-sized : c < 2 ^ keyBits → (e : ℕ) → e < 2 ^ eventBits → eventAllowed (eventIn e) ≡ true → sized eventKeyBits (eventRest siad) (eventRow c e) ≡ true
   event-row-sized g e l a =
       and-tell (ltb (eventRow c e .key) (2 ^ eventKeyBits)) (ltb (eventRow c e .val) (2 ^ eventRest siad))
       (lt-ltb (eventRow c e .key) (2 ^ eventKeyBits) (event-key-lt c e l g)) (lt-ltb (eventRow c e .val) (2 ^ eventRest siad) (event-val-lt c e l))
 
   -- a key of the rows is a key of the case c
-  pub row-case : (es : List Said) → all eventReadable es ≡ true → (k : ℕ) → has k (eventRows c es) ≡ true → caseOf siad k ≡ c
+  pub row-case : (es : List Said) → all eventReadable es ≡ true → (k : ℕ) → has k (eventRows c es) ≡ true → caseNamed siad k ≡ c
   row-case es a k h =
-      eqb-true (caseOf siad k) c
-      (all-key (λ j. eqb (caseOf siad j) c) (eventRows c es)
-      (each-row (λ r. eqb (caseOf siad (r .key)) c) es a (λ e l g. eq-eqb (caseOf siad (eventRow c e .key)) c (event-case c e l))) k h)
+      eqb-true (caseNamed siad k) c
+      (all-key (λ j. eqb (caseNamed siad j) c) (eventRows c es)
+      (each-row (λ r. eqb (caseNamed siad (r .key)) c) es a (λ e l g. eq-eqb (caseNamed siad (eventRow c e .key)) c (event-case c e l))) k h)

@@ -6,23 +6,24 @@ use mathlib.Core.List.{List, [], _∷_, map}
 use lib.Dec.{eqb, ltb, leb}
 use lib.ListN.{length}
 use borrow.Author.Tests.{leb-true, le-leb, ne-eqb, not-true}
-use Rattle.laws.specs.Lists.{all, any}
+use Rattle.laws.specs.Lists.{all, any, somePair}
 use Rattle.laws.proofs.Truth.{or-left}
-use Rattle.rows.specs.Pack.{each, Fit}
-use Rattle.rows.specs.Row.{keyBits, eventKeyBits}
+use Rattle.laws.proofs.Every.{or-tell, not-tell}
 use Rattle.model.specs.Map.{Row, Map, has}
 use Rattle.model.specs.Flow.{State, Good}
-use Rattle.register.specs.Layout.{siad, caseRest, eventRest, caseOf}
-use Rattle.register.specs.Bytes.{room, stateOf}
+use Rattle.rows.specs.Packing.{each, Fit}
+use Rattle.register.specs.Layout.{caseRest, eventRest, caseNamed, room}
+use Rattle.register.specs.State.{stateOf}
 use Rattle.register.specs.Stored.{Fits}
-use Rattle.register.specs.Fields.{takenIn, eventIn, dateOf, endOf}
-use Rattle.register.specs.Events.{isSuspension, pair, t23, t25, t26, t27, t28}
-use Rattle.register.specs.Allowed.{caseRowAllowed, eventRowAllowed}
-use Rattle.register.specs.Sound.{ascending, eventsOf, valid, eventsFree, siadRules, isSound}
+use Rattle.register.specs.Sound.{ascending, eventsOf, valid}
 use Rattle.register.proofs.Ascending.{asc-told, asc-tell}
-use Rattle.register.proofs.Every.{or-tell, not-tell}
-use Rattle.register.proofs.States.{laid-siad}
-use Rattle.register.proofs.SoundLaws.{sound-valid, sound-is-stored}
+use Rattle.register.proofs.SoundLaws.{sound-valid}
+use Rattle.home_care.specs.Row.{keyBits, eventKeyBits, siad, takenIn, eventNumberIn, dateOf, endOf}
+use Rattle.home_care.specs.Anomalies.{isSuspension, t23, t25, t26, t27, t28}
+use Rattle.home_care.specs.Allowed.{caseRowAllowed, eventRowAllowed}
+use Rattle.home_care.proofs.Laid.{laid-siad}
+use Rattle.soundness.specs.Sound.{eventsFree, siadRules, isSound}
+use Rattle.soundness.proofs.SoundLaws.{sound-is-stored}
 use Rattle.checks.proofs.RowTests.{all-key, key-all, keep-no}
 
 -- what stands is valid in a register of n bytes, and its rows have their sizes
@@ -40,14 +41,14 @@ sound-state reg f h =
 
 -- the events of the case k among m are free of 25 to 28 and 23
 abbrev pub freeOf : ℕ → Map ℕ → Bool
-freeOf k m = eventsFree (takenIn k) (map eventIn (eventsOf siad k m))
+freeOf k m = eventsFree (takenIn k) (map eventNumberIn (eventsOf siad k m))
 
 pub record Parts (n : ℕ) (s : State ℕ ℕ) : Type 0 where
   pub few : length (s .cases) + length (s .events) ≤ room siad n
   pub cases-allowed : all caseRowAllowed (s .cases) ≡ true
   pub events-allowed : all eventRowAllowed (s .events) ≡ true
   pub good : Good s
-  pub tied : (k : ℕ) → has k (s .events) ≡ true → has (caseOf siad k) (s .cases) ≡ true
+  pub tied : (k : ℕ) → has k (s .events) ≡ true → has (caseNamed siad k) (s .cases) ≡ true
   pub free : (k : ℕ) → has k (s .cases) ≡ true → freeOf k (s .events) ≡ true
 
 seven : (a b c d e f g : Bool) → a && ((b && c) && ((d && e) && (f && g))) ≡ true →
@@ -70,7 +71,7 @@ module _ (n : ℕ) (s : State ℕ ℕ) where
   fewer = leb (length (s .cases) + length (s .events)) (room siad n)
 
   abbrev linked : Bool
-  linked = all (λ e. has (caseOf siad (e .key)) (s .cases)) (s .events)
+  linked = all (λ e. has (caseNamed siad (e .key)) (s .cases)) (s .events)
 
   abbrev freed : Bool
   freed = all (λ c. freeOf (c .key) (s .events)) (s .cases)
@@ -83,7 +84,7 @@ module _ (n : ℕ) (s : State ℕ ℕ) where
         cases-allowed = p .1;
         events-allowed = p .2;
         good = (asc-told (s .cases) (p .3), asc-told (s .events) (p .4));
-        tied = all-key (λ k. has (caseOf siad k) (s .cases)) (s .events) (p .5);
+        tied = all-key (λ k. has (caseNamed siad k) (s .cases)) (s .events) (p .5);
         free = all-key (λ k. freeOf k (s .events)) (s .cases) (p .6);
       }
 
@@ -93,31 +94,31 @@ module _ (n : ℕ) (s : State ℕ ℕ) where
       (le-leb (length (s .cases) + length (s .events)) (room siad n) (p .few))
       (p .cases-allowed) (p .events-allowed)
       (asc-tell 0 (s .cases) (p .good .0)) (asc-tell 0 (s .events) (p .good .1))
-      (key-all (λ k. has (caseOf siad k) (s .cases)) (s .events) (p .tied))
+      (key-all (λ k. has (caseNamed siad k) (s .cases)) (s .events) (p .tied))
       (key-all (λ k. freeOf k (s .events)) (s .cases) (p .free))
 
   -- where a case does not stand, it has no events
   pub free-any : Parts n s → (k : ℕ) → freeOf k (s .events) ≡ true
-  unfolding any pair
+  unfolding any somePair
   free-any p k = go (has k (s .cases)) refl
     where
-      none : has k (s .cases) ≡ false → (j : ℕ) → has j (s .events) ≡ true → eqb (caseOf siad j) k ≡ false
-      none e j h = ne-eqb (caseOf siad j) k (λ q. true≢false (sym (p .tied j h) ∙ ap (λ (i : ℕ). has i (s .cases)) q ∙ e))
+      none : has k (s .cases) ≡ false → (j : ℕ) → has j (s .events) ≡ true → eqb (caseNamed siad j) k ≡ false
+      none e j h = ne-eqb (caseNamed siad j) k (λ q. true≢false (sym (p .tied j h) ∙ ap (λ (i : ℕ). has i (s .cases)) q ∙ e))
 
       go : (b : Bool) → has k (s .cases) ≡ b → freeOf k (s .events) ≡ true
       go true e = p .free k e
-      go false e = rw (keep-no (λ j. eqb (caseOf siad j) k) (s .events) (none e))
+      go false e = rw (keep-no (λ j. eqb (caseNamed siad j) k) (s .events) (none e))
 
 -- 23 as a test of every row
 abbrev pub ends : Row ℕ → Bool
-ends r = not (isSuspension (eventIn r) && ltb (endOf (eventIn r)) (dateOf (eventIn r)))
+ends r = not (isSuspension (eventNumberIn r) && ltb (endOf (eventNumberIn r)) (dateOf (eventNumberIn r)))
 
-pub all-ends : (m : Map ℕ) → t23 (map eventIn m) ≡ not (all ends m)
+pub all-ends : (m : Map ℕ) → t23 (map eventNumberIn m) ≡ not (all ends m)
 unfolding any all
 all-ends [] = refl
-all-ends (r ∷ m) = go (isSuspension (eventIn r) && ltb (endOf (eventIn r)) (dateOf (eventIn r))) (all-ends m)
+all-ends (r ∷ m) = go (isSuspension (eventNumberIn r) && ltb (endOf (eventNumberIn r)) (dateOf (eventNumberIn r))) (all-ends m)
   where
-    go : (b : Bool) → t23 (map eventIn m) ≡ not (all ends m) → b || t23 (map eventIn m) ≡ not (not b && all ends m)
+    go : (b : Bool) → t23 (map eventNumberIn m) ≡ not (all ends m) → b || t23 (map eventNumberIn m) ≡ not (not b && all ends m)
     go true ih = refl
     go false ih = ih
 

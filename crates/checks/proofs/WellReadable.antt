@@ -7,32 +7,34 @@ use native.Mathlib.Omega.{arith}
 use lib.Dec.{ltb}
 use borrow.Author.Tests.{lt-ltb}
 use Rattle.laws.specs.Lists.{all}
-use Rattle.codes.specs.Chars.{isAlnum, idChar}
-use Rattle.codes.specs.Codes.{isOneOf, regions}
+use Rattle.laws.proofs.Every.{and-tell}
+use Rattle.codes.specs.Ranges.{inRanges}
+use Rattle.codes.specs.Chars.{alnums, idChars}
+use Rattle.codes.specs.Codes.{regions}
 use Rattle.days.specs.Calendar.{dayCount}
-use Rattle.rows.specs.Row.{Key, Case, eventBits, eventNumber, CaseFits}
-use Rattle.rows.proofs.Table.{event-lt}
-use Rattle.register.specs.Allowed.{eventAllowed}
-use Rattle.register.proofs.Every.{and-tell}
-use Rattle.tracks.specs.Record.{Said, Record, admission, events}
-use Rattle.tracks.specs.WellRead.{KeyRead, CaseRead, SaidRead, EachRead, WellRead}
-use Rattle.tracks.proofs.Fits.{key-fits, case-fits, event-fits}
-use Rattle.tracks.proofs.Bits.{event-allowed}
+use Rattle.home_care.specs.Row.{Key, Case, eventBits, eventNumber, eventIn}
+use Rattle.home_care.specs.Fits.{CaseFits}
+use Rattle.home_care.proofs.Table.{event-lt}
+use Rattle.home_care.specs.Allowed.{eventAllowed}
+use Rattle.home_care.proofs.EventAllowed.{event-fits, number-allowed}
+use Rattle.home_care.specs.Record.{Said, Record, admission, events}
+use Rattle.tracks.specs.WellRead.{WellKey, WellCase, WellSaid, WellEach, WellRead}
+use Rattle.tracks.proofs.Fits.{key-fits, case-fits}
 use Rattle.tracks.proofs.Padded.{padded-filled}
 use Rattle.checks.specs.Readable.{KeyReadable, CaseReadable, eventReadable, Readable}
 
-key-readable : (k : Key) → KeyRead k → KeyReadable k
+key-readable : (k : Key) → WellKey k → KeyReadable k
 key-readable k r =
     record {
       allowed =
-          and-tell (isOneOf regions (k .region)) (all isAlnum (k .asl) && (ltb (k .taken) dayCount && all idChar (k .id))) (r .region)
-          (and-tell (all isAlnum (k .asl)) (ltb (k .taken) dayCount && all idChar (k .id)) (r .asl .bytes)
-          (and-tell (ltb (k .taken) dayCount) (all idChar (k .id)) (lt-ltb (k .taken) dayCount (r .taken)) (r .id .bytes)));
+          and-tell (inRanges regions (k .region)) (all (inRanges alnums) (k .asl) && (ltb (k .taken) dayCount && all (inRanges idChars) (k .id))) (r .region)
+          (and-tell (all (inRanges alnums) (k .asl)) (ltb (k .taken) dayCount && all (inRanges idChars) (k .id)) (r .asl .bytes)
+          (and-tell (ltb (k .taken) dayCount) (all (inRanges idChars) (k .id)) (lt-ltb (k .taken) dayCount (r .taken)) (r .id .bytes)));
       fits = key-fits k r;
     }
 
 -- the sizes of a case's fields but for the birth year, which may be any four digits
-case-readable : (c : Case) → CaseRead c → CaseReadable c
+case-readable : (c : Case) → WellCase c → CaseReadable c
 case-readable c r =
     let unborn : Case = record { birth = 0; prevalente = c .prevalente; scales = c .scales } in
     let f : CaseFits unborn =
@@ -56,14 +58,14 @@ case-readable c r =
       rischio = r .last;
     }
 
-said-readable : (s : Said) → SaidRead s → eventReadable s ≡ true
+said-readable : (s : Said) → WellSaid s → eventReadable s ≡ true
 said-readable s r =
     let n : ℕ = eventNumber (r .event) in
-    ap (λ (e : ℕ). ltb e (2 ^ eventBits) && eventAllowed e) (r .packs)
-    ∙ and-tell (ltb n (2 ^ eventBits)) (eventAllowed n) (lt-ltb n (2 ^ eventBits) (event-lt (r .event) (event-fits (r .event) (r .read))))
-    (event-allowed (r .event) (r .read))
+    ap (λ (e : ℕ). ltb e (2 ^ eventBits) && eventAllowed (eventIn e)) (r .packs)
+    ∙ and-tell (ltb n (2 ^ eventBits)) (eventAllowed (eventIn n)) (lt-ltb n (2 ^ eventBits) (event-lt (r .event) (event-fits (r .event) (r .allowed))))
+    (number-allowed (r .event) (r .allowed))
 
-each-readable : (es : List Said) → EachRead es → all eventReadable es ≡ true
+each-readable : (es : List Said) → WellEach es → all eventReadable es ≡ true
 unfolding all
 each-readable [] r = refl
 each-readable (e ∷ es) r = and-tell (eventReadable e) (all eventReadable es) (said-readable e (r .0)) (each-readable es (r .1))

@@ -6,20 +6,20 @@ use mathlib.Core.Path.{_≡_, refl}
 use mathlib.Core.Bool.{false}
 use mathlib.Core.List.{List, [], _∷_, map}
 use lib.ListN.{replicate}
-use Rattle.laws.specs.Lists.{all, any, same}
+use Rattle.laws.specs.Lists.{all, any, same, somePair}
 use Rattle.laws.specs.Text.{bytes}
 use Rattle.days.specs.Calendar.{firstOf, dayNumber, yearsTo}
 use Rattle.days.specs.Quarters.{firstDay, lastDay}
-use Rattle.rows.specs.Pack.{packs}
-use Rattle.rows.specs.Row.{Key, Event, never, eventOf, eventNumber}
 use Rattle.model.specs.Map.{find, put, keep, putAll, delAll, anyIn, allIn, twice}
 use Rattle.model.specs.Checks.{first}
 use Rattle.model.specs.Machine.{run, answers}
 use Rattle.model.specs.Flow.{empty, machine}
-use Rattle.register.specs.Events.{pair}
-use Rattle.tracks.specs.Record.{Head, Said, Record, padded, admission, events}
+use Rattle.rows.specs.Packing.{packs}
+use Rattle.home_care.specs.Row.{Key, Event, never, eventNumber}
+use Rattle.home_care.specs.Fits.{eventWith}
+use Rattle.home_care.specs.Record.{Head, Said, Record, padded, admission, events, eventNumbers}
+use Rattle.home_care.specs.Anomalies.{Context}
 use Rattle.checks.specs.Flow.{eventRows}
-use Rattle.checks.specs.Tests.{Context, eventsIn}
 use Rattle.checks.specs.Checks.{siadMachine}
 
 -- quarter 2 of 2018, and room for four rows
@@ -47,13 +47,13 @@ abbrev day : ℕ → ℕ
 day n = dayNumber 2018 5 n
 
 abbrev visit : ℕ → ℕ → Event
-visit d accesses = eventOf 1 (day d) never 3 accesses 0
+visit d accesses = eventWith 1 (day d) never 3 accesses 0
 
 abbrev suspension : ℕ → ℕ → Event
-suspension a b = eventOf 2 (day a) (day b) 1 0 0
+suspension a b = eventWith 2 (day a) (day b) 1 0 0
 
 abbrev conclusion : ℕ → Event
-conclusion d = eventOf 3 (day d) never 1 0 0
+conclusion d = eventWith 3 (day d) never 1 0 0
 
 abbrev said : Event → Said
 said e = record { event = eventNumber e; valued = false; prevalente = [] }
@@ -87,9 +87,9 @@ history =
 
 pub answered : answers (siadMachine context) empty history ≡
     24 ∷ 13 ∷ 0 ∷ 14 ∷ 20 ∷ 0 ∷ 14 ∷ 15 ∷ 0 ∷ 0 ∷ 26 ∷ 23 ∷ 0 ∷ 28 ∷ 27 ∷ 10 ∷ 17 ∷ 16 ∷ 0 ∷ 0 ∷ []
-unfolding answers machine first find put keep putAll delAll anyIn allIn twice eventRows eventsIn all any same pair packs yearsTo firstOf
+unfolding answers machine first find put keep putAll delAll anyIn allIn twice eventRows eventNumbers all any same somePair packs yearsTo firstOf
 answered = refl
 
 pub back : run (siadMachine context) empty history ≡ empty
-unfolding run machine first find put keep putAll delAll anyIn allIn twice eventRows eventsIn all any same pair packs yearsTo firstOf
+unfolding run machine first find put keep putAll delAll anyIn allIn twice eventRows eventNumbers all any same somePair packs yearsTo firstOf
 back = refl

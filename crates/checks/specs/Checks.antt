@@ -3,30 +3,30 @@ use Prim.Native.Nat.{ℕ}
 use mathlib.Core.Bool.{Bool, not, _&&_}
 use mathlib.Core.List.{List, [], _∷_, map}
 use lib.Dec.{eqb}
-use lib.ListN.{length}
 use Rattle.laws.specs.Lists.{any}
-use Rattle.rows.specs.Row.{keyNumber}
 use Rattle.model.specs.Map.{has}
 use Rattle.model.specs.Checks.{Check, check}
 use Rattle.model.specs.Transmission.{isCancel}
 use Rattle.model.specs.Machine.{Machine}
 use Rattle.model.specs.Flow.{State, machine, t14, t15, t17, t22}
-use Rattle.register.specs.Layout.{siad, caseOf}
-use Rattle.register.specs.Fields.{eventIn}
-use Rattle.register.specs.Events.{t23, t25, t26, t27, t28}
+use Rattle.register.specs.Layout.{caseNamed}
 use Rattle.register.specs.Sound.{eventsOf}
-use Rattle.tracks.specs.Flags.{zeroWritten, badConferma}
-use Rattle.tracks.specs.Record.{Head, Record, admission, events}
-use Rattle.checks.specs.Flow.{kindOf, flow, next}
-use Rattle.checks.specs.Tests.{Context, outOfQuarter, dayFor, t11, t12, zeroKept, eventsIn}
+use Rattle.home_care.specs.Row.{keyNumber, siad, eventNumberIn}
+use Rattle.home_care.specs.Anomalies.{t23, t25, t26, t27, t28, Context, outOfQuarter, t11, t12, zeroKept, t10, t13, t20, t21}
+use Rattle.home_care.specs.Record.{Head, Record, admission, events, eventNumbers}
+use Rattle.checks.specs.Flow.{typeOf, flow, next}
 
 -- 16: "type C, and an event of the case stands"
 abbrev pub t16 : Head → State ℕ ℕ → Bool
-t16 h s = isCancel (kindOf (h .tipo)) && any (λ e. eqb (caseOf siad (e .key)) (keyNumber (h .key))) (s .events)
+t16 h s = isCancel (typeOf (h .tipo)) && any (λ e. eqb (caseNamed siad (e .key)) (keyNumber (h .key))) (s .events)
+
+-- 24: "the case isn't standing"
+abbrev pub t24 : Head → State ℕ ℕ → Bool
+t24 h s = not (has (keyNumber (h .key)) (s .cases))
 
 -- "25 to 28 look at the events which the case would have afterwards"; `then r s` is the state afterwards
 abbrev pub afterwards : (Record → State ℕ ℕ → State ℕ ℕ) → Head → Record → State ℕ ℕ → List ℕ
-afterwards then h r s = map eventIn (eventsOf siad (keyNumber (h .key)) (then r s .events))
+afterwards then h r s = map eventNumberIn (eventsOf siad (keyNumber (h .key)) (then r s .events))
 
 abbrev pub checksWith : (Record → State ℕ ℕ → State ℕ ℕ) → Context → Record → List (Check (State ℕ ℕ))
 checksWith then c (admission h a) =
@@ -40,13 +40,13 @@ checksWith then c (admission h a) =
     check 17 (t17 flow (c .room) (admission h a)) ∷
     []
 checksWith then c (events h es) =
-    check 20 (λ s. eqb (length es) 0) ∷
-    check 10 (λ s. any (λ e. outOfQuarter c (dayFor e)) (eventsIn es)) ∷
-    check 21 (λ s. any badConferma es) ∷
-    check 13 (λ s. any zeroWritten es) ∷
+    check 20 (λ s. t20 es) ∷
+    check 10 (λ s. t10 c (eventNumbers es)) ∷
+    check 21 (λ s. t21 es) ∷
+    check 13 (λ s. t13 es) ∷
     check 22 (λ s. t22 flow (events h es)) ∷
-    check 23 (λ s. t23 (eventsIn es)) ∷
-    check 24 (λ s. not (has (keyNumber (h .key)) (s .cases))) ∷
+    check 23 (λ s. t23 (eventNumbers es)) ∷
+    check 24 (t24 h) ∷
     check 14 (t14 flow (events h es)) ∷
     check 15 (t15 flow (events h es)) ∷
     check 25 (λ s. t25 (h .key .taken) (afterwards then h (events h es) s)) ∷

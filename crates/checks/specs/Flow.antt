@@ -4,17 +4,16 @@ use Prim.Native.Char.{code}
 use mathlib.Core.Bool.{false, cond}
 use mathlib.Core.List.{List, [], _∷_}
 use lib.Dec.{eqb}
-use Rattle.rows.specs.Row.{Key, Case, caseBits, keyNumber, caseNumber}
 use Rattle.model.specs.Map.{Row, Map}
 use Rattle.model.specs.Transmission.{Kind, insert, vary, cancel}
 use Rattle.model.specs.Flow.{State, Flow, applied}
-use Rattle.register.specs.Layout.{siad, caseRest}
-use Rattle.register.specs.Fields.{eventRow}
-use Rattle.tracks.specs.Record.{Head, Said, Record, admission, events}
+use Rattle.register.specs.Layout.{caseRest}
+use Rattle.home_care.specs.Row.{Key, Case, caseBits, keyNumber, caseNumber, siad, eventRow}
+use Rattle.home_care.specs.Record.{Head, Said, Record, admission, events}
 
 -- "`tipo` is I, V or C"
-abbrev pub kindOf : ℕ → Kind
-kindOf b = cond (eqb b (code "I")) insert (cond (eqb b (code "V")) vary cancel)
+abbrev pub typeOf : ℕ → Kind
+typeOf b = cond (eqb b (code "I")) insert (cond (eqb b (code "V")) vary cancel)
 
 abbrev pub headIn : Record → Head
 headIn (admission h a) = h
@@ -39,7 +38,7 @@ eventRowsIn (events h es) = eventRows (keyNumber (h .key)) es
 
 -- a cancellation carries nothing away but what it names
 abbrev pub flow : Flow ℕ ℕ Record
-flow = record { kind = λ r. kindOf (headIn r .tipo); caseRows = caseRowsIn; eventRows = eventRowsIn; away = λ r k. false }
+flow = record { kind = λ r. typeOf (headIn r .tipo); caseRows = caseRowsIn; eventRows = eventRowsIn; away = λ r k. false }
 
 -- the state that a record would leave
 abbrev pub next : Record → State ℕ ℕ → State ℕ ℕ

@@ -1,4 +1,3 @@
 pub mod Flow
-pub mod Tests
 pub mod Checks
 pub mod Readable

@@ -5,12 +5,12 @@ use mathlib.Core.Bool.{Bool, true, _&&_}
 use mathlib.Core.List.{[], _∷_}
 use lib.Dec.{eqb, ltb}
 use lib.ListN.{length, take, drop, getD}
-use Rattle.laws.specs.Lists.{all, any}
-use Rattle.markup.specs.Bytes.{inFile, isText}
-use Rattle.rows.specs.Pack.{each, Fit}
-use Rattle.rows.specs.Row.{Key, Case, eventBits, KeyFits}
-use Rattle.register.specs.Allowed.{keyAllowed, eventAllowed}
-use Rattle.tracks.specs.Record.{Said, Record, admission, events}
+use Rattle.laws.specs.Lists.{all}
+use Rattle.rows.specs.Packing.{each, Fit}
+use Rattle.home_care.specs.Row.{Key, Case, eventBits, eventIn}
+use Rattle.home_care.specs.Fits.{KeyFits}
+use Rattle.home_care.specs.Allowed.{keyAllowed, prevalenteFilled, eventAllowed}
+use Rattle.home_care.specs.Record.{Said, Record, admission, events}
 
 -- region, ASL, date of taking in and Id_Rec
 pub record KeyReadable (k : Key) : Type 0 where
@@ -19,7 +19,7 @@ pub record KeyReadable (k : Key) : Type 0 where
 
 -- "3 to 5 characters, any that a text may hold", then zeros; six evaluation fields, RischioInfettivo 0 to 2. The birth year is left to 11
 pub record CaseReadable (c : Case) : Type 0 where
-  pub prevalente : any (λ n. all (λ b. inFile b && isText b) (take n (c .prevalente)) && all (λ b. eqb b 0) (drop n (c .prevalente))) (3 ∷ 4 ∷ 5 ∷ []) ≡ true
+  pub prevalente : prevalenteFilled (c .prevalente) ≡ true
   pub prevalente-fits : Fit (each 7 (c .prevalente))
   pub prevalente-length : length (c .prevalente) ≡ 5
   pub scales-fit : Fit (each 2 (c .scales))
@@ -28,7 +28,7 @@ pub record CaseReadable (c : Case) : Type 0 where
 
 -- an event's 52 bits, with the values that its kind allows
 abbrev pub eventReadable : Said → Bool
-eventReadable e = ltb (e .event) (2 ^ eventBits) && eventAllowed (e .event)
+eventReadable e = ltb (e .event) (2 ^ eventBits) && eventAllowed (eventIn (e .event))
 
 abbrev pub Readable : Record → Type 0
 Readable (admission h a) = KeyReadable (h .key) × CaseReadable (a .case)

@@ -1,16 +1,16 @@
 // The type of a record: I, V or C.
 ghost use mathlib.Core.Path.{_≡_};
 ghost use Rattle.model.specs.Transmission.{isInsert, isCancel};
-ghost use Rattle.checks.specs.Flow.{kindOf};
+ghost use Rattle.checks.specs.Flow.{typeOf};
 
 pub fn inserts(tipo: u8) -> bool
-    ensures { λ r. ⌜ r ≡ isInsert (kindOf tipo) ⌝ }
+    ensures { λ r. ⌜ r ≡ isInsert (typeOf tipo) ⌝ }
 {
     tipo == b'I'
 }
 
 pub fn cancels(tipo: u8) -> bool
-    ensures { λ r. ⌜ r ≡ isCancel (kindOf tipo) ⌝ }
+    ensures { λ r. ⌜ r ≡ isCancel (typeOf tipo) ⌝ }
 {
     (tipo != b'I') & (tipo != b'V')
 }

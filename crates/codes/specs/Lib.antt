@@ -1,2 +1,4 @@
+pub mod Ranges
 pub mod Chars
 pub mod Codes
+pub mod Digits

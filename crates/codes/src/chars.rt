@@ -1,23 +1,25 @@
 // Sets of characters. A text is tested with no early way out.
 ghost use mathlib.Core.Path.{_≡_};
 ghost use Rattle.laws.specs.Lists.{all};
-ghost use Rattle.codes.specs.Chars.{isAlnum, idChar};
+ghost use Rattle.codes.specs.Ranges.{inRanges};
+ghost use Rattle.codes.specs.Chars.{alnums, idChars};
 
 pub fn is_alnum(b: u8) -> bool
-    ensures { λ r. ⌜ r ≡ isAlnum b ⌝ }
+    ensures { λ r. ⌜ r ≡ inRanges alnums b ⌝ }
 {
-    (((b'A' <= b) & (b <= b'Z')) | ((b'a' <= b) & (b <= b'z'))) | ((b'0' <= b) & (b <= b'9'))
+    ((b'0' <= b) & (b <= b'9')) | (((b'A' <= b) & (b <= b'Z')) | ((b'a' <= b) & (b <= b'z')))
 }
 
+// From 33 to 126 other than `& < > " '`: the same set as the ranges, and cheaper to test.
 pub fn id_char(b: u8) -> bool
-    ensures { λ r. ⌜ r ≡ idChar b ⌝ }
+    ensures { λ r. ⌜ r ≡ inRanges idChars b ⌝ }
 {
     ((33 <= b) & (b <= 126))
         & ((b != b'&') & ((b != b'<') & ((b != b'>') & ((b != b'"') & (b != b'\'')))))
 }
 
 pub fn all_alnum(s: &[u8]) -> bool
-    ensures { λ r. ⌜ r ≡ all isAlnum (now (s .entry)) ⌝ }
+    ensures { λ r. ⌜ r ≡ all (inRanges alnums) (now (s .entry)) ⌝ }
 {
     let mut good = true;
     let mut i = 0;
@@ -29,7 +31,7 @@ pub fn all_alnum(s: &[u8]) -> bool
 }
 
 pub fn all_id(s: &[u8]) -> bool
-    ensures { λ r. ⌜ r ≡ all idChar (now (s .entry)) ⌝ }
+    ensures { λ r. ⌜ r ≡ all (inRanges idChars) (now (s .entry)) ⌝ }
 {
     let mut good = true;
     let mut i = 0;

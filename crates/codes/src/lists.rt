@@ -1,10 +1,21 @@
 // Code lists.
 ghost use mathlib.Core.Path.{_≡_};
-ghost use Rattle.codes.specs.Codes.{isOneOf, regions, revaluations, operators, suspensions, conclusions, codesOf};
+ghost use mathlib.Core.List.{map};
+ghost use Rattle.codes.specs.Ranges.{only, inRanges};
+ghost use Rattle.codes.specs.Codes.{regions, codesOf};
+
+// An event's kind.
+pub const REVALUATION: u64 = 0;
+
+pub const SERVICE: u64 = 1;
+
+pub const SUSPENSION: u64 = 2;
+
+pub const CONCLUSION: u64 = 3;
 
 // Whether a number is in a list, with no early way out.
 fn one_of(list: &[u64], n: u64) -> bool
-    ensures { λ r. ⌜ r ≡ isOneOf (now (list .entry)) n ⌝ }
+    ensures { λ r. ⌜ r ≡ inRanges (map only (now (list .entry))) n ⌝ }
 {
     let mut found = false;
     let mut i = 0;
@@ -16,7 +27,7 @@ fn one_of(list: &[u64], n: u64) -> bool
 }
 
 pub fn is_region(n: u64) -> bool
-    ensures { λ r. ⌜ r ≡ isOneOf regions n ⌝ }
+    ensures { λ r. ⌜ r ≡ inRanges regions n ⌝ }
 {
     let list = [
         10u64,
@@ -45,49 +56,21 @@ pub fn is_region(n: u64) -> bool
     one_of(&list, n)
 }
 
-fn is_revaluation(n: u64) -> bool
-    ensures { λ r. ⌜ r ≡ isOneOf revaluations n ⌝ }
-{
-    let list = [1u64, 2];
-    one_of(&list, n)
-}
-
-fn is_operator(n: u64) -> bool
-    ensures { λ r. ⌜ r ≡ isOneOf operators n ⌝ }
-{
-    let list = [1u64, 2, 3, 4, 5, 6, 7, 8, 9, 10, 11, 12, 13, 99];
-    one_of(&list, n)
-}
-
-fn is_suspension(n: u64) -> bool
-    ensures { λ r. ⌜ r ≡ isOneOf suspensions n ⌝ }
-{
-    let list = [1u64, 2, 3, 9];
-    one_of(&list, n)
-}
-
-fn is_conclusion(n: u64) -> bool
-    ensures { λ r. ⌜ r ≡ isOneOf conclusions n ⌝ }
-{
-    let list = [1u64, 2, 3, 4, 5, 6, 7, 8, 9, 10, 11, 12, 97, 98, 99];
-    one_of(&list, n)
-}
-
 // A code of the list of an event's kind; a number that is no kind has none.
 pub fn is_code(kind: u64, code: u64) -> bool
-    ensures { λ r. ⌜ r ≡ isOneOf (codesOf kind) code ⌝ }
+    ensures { λ r. ⌜ r ≡ inRanges (codesOf kind) code ⌝ }
 {
-    if kind == 0 {
-        return is_revaluation(code);
+    if kind == REVALUATION {
+        return (1 <= code) & (code <= 2);
     }
-    if kind == 1 {
-        return is_operator(code);
+    if kind == SERVICE {
+        return ((1 <= code) & (code <= 13)) | (code == 99);
     }
-    if kind == 2 {
-        return is_suspension(code);
+    if kind == SUSPENSION {
+        return ((1 <= code) & (code <= 3)) | (code == 9);
     }
-    if kind == 3 {
-        return is_conclusion(code);
+    if kind == CONCLUSION {
+        return ((1 <= code) & (code <= 12)) | ((97 <= code) & (code <= 99));
     }
     false
 }

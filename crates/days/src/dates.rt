@@ -10,6 +10,7 @@ ghost use Rattle.days.specs.Table.{Firsts};
 ghost use Rattle.days.specs.View.{viewDate, okDate, PartsAt};
 use crate::calendar::day_number;
 use crate::calendar::real_day;
+use codes::digits::is_digit;
 
 pub enum Date {
     Day { day: u32, next: usize },
@@ -19,12 +20,6 @@ pub enum Date {
 pub enum Parts {
     Is { year: u32, month: u32, day: u32 },
     Refused,
-}
-
-fn is_digit(b: u8) -> bool
-    ensures { λ r. ⌜ r ≡ isDigit b ⌝ }
-{
-    (b'0' <= b) & (b <= b'9')
 }
 
 // The number that n digits write, and 0 where one is no digit: no part of a date is 0.

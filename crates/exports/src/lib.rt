@@ -1,7 +1,8 @@
 // The calls for a host in C, one body each, over numbers and byte slices: no caller is trusted, and every lent byte is stated (host/siad.h declares them).
 ghost use mathlib.Core.Path.{_≡_};
-ghost use Rattle.register.specs.Calls.{emptied, soundness, found};
-ghost use Rattle.intake.specs.Submitted.{submitted};
+ghost use Rattle.register.specs.State.{emptied};
+ghost use Rattle.soundness.specs.Sound.{soundness, found};
+ghost use Rattle.intake.specs.Submitted.{callOf, submitted};
 ghost use Rattle.exports.specs.Told.{Told};
 use soundness::find::Lookup;
 
@@ -16,7 +17,7 @@ pub extern "C" fn siad_submit(
     answers: &mut [u8],
     report: &mut [u64; 4],
 ) -> u64
-    ensures { λ r. ⌜ Told (submitted (now (sub .entry)) track year quarter (now (reg .entry)) (now (answers .entry))) r (now (report .exit)) (now (reg .exit)) (now (answers .exit)) ⌝ }
+    ensures { λ r. ⌜ Told (submitted (callOf (now (sub .entry)) track year quarter (now (answers .entry))) (now (reg .entry))) r (now (report .exit)) (now (reg .exit)) (now (answers .exit)) ⌝ }
 {
     let said = intake::submit::submit(sub, track, year, quarter, reg, answers);
     *report = [said.number, said.records, said.accepted, said.discarded];

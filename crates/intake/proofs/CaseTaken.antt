@@ -4,38 +4,51 @@ use mathlib.Core.Path.{_≡_, sym, ap, _∙_, subst}
 use mathlib.Core.Bool.{true}
 use mathlib.Core.List.{List}
 use lib.ListN.{length}
-use Rattle.rows.specs.Pack.{each, Fit}
-use Rattle.rows.specs.Row.{keyNumber, caseOf, CaseFits}
+use Rattle.markup.specs.Elements.{Tree}
+use Rattle.markup.specs.View.{part}
+use Rattle.schema.specs.Shape.{faultOf}
+use Rattle.nodes.specs.declared.Six.{Six}
+use Rattle.schemas.specs.Track1.{track1}
 use Rattle.model.specs.Checks.{first}
 use Rattle.model.specs.Flow.{State}
 use Rattle.model.proofs.ChecksLaws.{clear}
-use Rattle.markup.specs.Elements.{Tree}
-use Rattle.markup.specs.View.{part}
-use Rattle.register.specs.Bytes.{room, stateOf}
-use Rattle.register.specs.Layout.{siad}
-use Rattle.register.specs.Search.{keyOf}
-use Rattle.register.specs.Sound.{isSound}
+use Rattle.rows.specs.Packing.{each, Fit}
+use Rattle.register.specs.Layout.{room}
+use Rattle.register.specs.State.{stateOf}
+use Rattle.register.specs.Search.{probeKey}
 use Rattle.register.specs.Stored.{Stored}
-use Rattle.schema.specs.Shape.{faultOf}
-use Rattle.tracks.specs.Track1.{track1}
-use Rattle.tracks.specs.Record.{Head, Admission, Record, admission, headOf, admissionOf}
+use Rattle.home_care.specs.Row.{keyNumber, siad, rowBytes, keyBits}
+use Rattle.home_care.specs.Fits.{caseWith, CaseFits}
+use Rattle.home_care.specs.Record.{Head, Admission, Record, admission}
+use Rattle.home_care.specs.Anomalies.{Context}
+use Rattle.tracks.specs.Record.{headOf, admissionOf}
 use Rattle.tracks.specs.View.{IsAdmission}
 use Rattle.tracks.specs.Top.{TopOf}
 use Rattle.tracks.specs.declared.record.HeadRead.{HeadRead}
 use Rattle.tracks.specs.declared.record.AdmissionRead.{AdmissionRead}
+use Rattle.soundness.specs.Sound.{isSound}
 use Rattle.checks.specs.Flow.{next}
-use Rattle.checks.specs.Tests.{Context}
 use Rattle.checks.specs.Checks.{checksOf}
 use Rattle.checks.specs.Readable.{Readable}
 use Rattle.checks.proofs.Accepted.{numbered}
 use Rattle.checks.proofs.RowsAllowed.{case-fits}
 use Rattle.checks.proofs.WellReadable.{readable}
 use Rattle.judge.specs.View.{IsOf, IsAdmitted}
-use Rattle.nodes.specs.declared.Six.{Six}
-use Rattle.intake.specs.Taking.{Here, Took}
+use Rattle.intake.specs.Driving.{Took}
+use Rattle.intake.specs.Taking.{Here, siadDriver}
 use Rattle.intake.proofs.SoundBytes.{sound-stored}
 use Rattle.intake.proofs.RecordRead.{record-1}
 use Rattle.intake.proofs.RecordTaken.{discarded, accepted}
+
+-- judged with the answer n: where that is 0 the case fits its row, and the two ways out
+pub record CaseWays (r : AdmissionRead) (h : HeadRead) (probe reg : List ℕ) (c : Context) (n : ℕ) (a : Tree) : Type 0 where
+  pub fits : n ≡ 0 → CaseFits (caseWith (r .birth) (r .prevalente) (r .scales))
+  pub discarded : (n ≡ 0 → ⊥) → Took (siadDriver 1 c) reg a n reg
+  pub accepted : n ≡ 0 → c .room ≡ room siad (length reg) → (later : List ℕ) →
+      ((g : Head) (b : Admission) (t : State ℕ ℕ) (d : Context) → keyNumber (g .key) ≡ probeKey rowBytes keyBits probe → h .tipo ≡ g .tipo →
+      b .case ≡ caseWith (r .birth) (r .prevalente) (r .scales) → d .room ≡ room siad (length reg) → Stored siad reg t →
+      first (checksOf d (admission g b)) t ≡ 0 → Stored siad later (next (admission g b) t)) →
+      length later ≡ length reg → Took (siadDriver 1 c) reg a n later
 
 module _ (s : List ℕ) (top : Six) (r : AdmissionRead)
     (told : (at : ℕ) (a : Tree) → TopOf s at a top → faultOf (track1 .each) a ≡ 0 → IsAdmission s r (admissionOf a))
@@ -52,7 +65,7 @@ module _ (s : List ℕ) (top : Six) (r : AdmissionRead)
   pub six : length (r .scales) ≡ 6
   six = ap length (is-admission .scales) ∙ readable-1 .1 .scales-length
 
-  case-is : admissionOf a .case ≡ caseOf (r .birth) (r .prevalente) (r .scales)
+  case-is : admissionOf a .case ≡ caseWith (r .birth) (r .prevalente) (r .scales)
   case-is = λ i.
       record { birth = sym (is-admission .birth) i; prevalente = sym (is-admission .prevalente) i; scales = sym (is-admission .scales) i }
 
@@ -80,22 +93,20 @@ module _ (s : List ℕ) (top : Six) (r : AdmissionRead)
     judged = judge-told (headOf a) (admissionOf a) held is-admitted sound
 
     -- 11 bounds the birth year
-    pub case-held : n ≡ 0 → CaseFits (caseOf (r .birth) (r .prevalente) (r .scales))
+    case-held : n ≡ 0 → CaseFits (caseWith (r .birth) (r .prevalente) (r .scales))
     case-held z =
         subst CaseFits case-is
         (case-fits (headOf a .key) (admissionOf a .case) (readable-1 .0) (readable-1 .1)
         (clear 11 (checksOf c said) (stateOf siad reg) (numbered c said) (sym judged ∙ z)))
 
-    pub case-discarded : (n ≡ 0 → ⊥) → Took 1 c reg a n reg
-    case-discarded z = discarded 1 a said (record-1 a) c reg f sound n judged z
-
-    pub case-accepted : n ≡ 0 → c .room ≡ room siad (length reg) → (later : List ℕ) →
-        ((g : Head) (b : Admission) (t : State ℕ ℕ) (d : Context) → keyNumber (g .key) ≡ keyOf 91 662 probe → h .tipo ≡ g .tipo →
-        b .case ≡ caseOf (r .birth) (r .prevalente) (r .scales) → d .room ≡ room siad (length reg) → Stored siad reg t →
-        first (checksOf d (admission g b)) t ≡ 0 → Stored siad later (next (admission g b) t)) →
-        length later ≡ length reg → Took 1 c reg a n later
-    case-accepted z q later apply-told l =
-        accepted 1 a said (record-1 a) c reg f sound n judged later z
-        (apply-told (headOf a) (admissionOf a) (stateOf siad reg) c (sym (held .key)) (held .tipo) case-is q
-        (sound-stored reg f sound) (sym judged ∙ z))
-        l
+    pub case-ways : CaseWays r h probe reg c n a
+    case-ways =
+        record {
+          fits = case-held;
+          discarded = discarded 1 a said (record-1 a) c reg f sound n judged;
+          accepted = λ z q later apply-told l.
+              accepted 1 a said (record-1 a) c reg f sound n judged later z
+              (apply-told (headOf a) (admissionOf a) (stateOf siad reg) c (sym (held .key)) (held .tipo) case-is q
+              (sound-stored reg f sound) (sym judged ∙ z))
+              l;
+        }

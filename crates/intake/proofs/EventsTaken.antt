@@ -9,110 +9,125 @@ use lib.ListN.{length, take, drop, length-take}
 use lib.Seq.{take-all, take-at}
 use Rattle.laws.specs.Lists.{all}
 use Rattle.laws.proofs.Truth.{and-left, and-right}
-use Rattle.rows.specs.Pack.{each, Fit}
-use Rattle.rows.specs.Row.{eventBits, keyNumber}
+use Rattle.laws.proofs.Every.{and-tell}
+use Rattle.markup.specs.Elements.{Tree}
+use Rattle.schema.specs.Shape.{faultOf}
+use Rattle.nodes.specs.declared.Six.{Six}
+use Rattle.schemas.specs.Track2.{track2}
 use Rattle.model.specs.Checks.{first}
 use Rattle.model.specs.Flow.{State}
-use Rattle.markup.specs.Elements.{Tree}
-use Rattle.register.specs.Bytes.{room, stateOf}
-use Rattle.register.specs.Layout.{siad}
-use Rattle.register.specs.Search.{keyOf}
-use Rattle.register.specs.Sound.{isSound}
+use Rattle.rows.specs.Packing.{each, Fit}
+use Rattle.register.specs.Layout.{room}
+use Rattle.register.specs.State.{stateOf}
+use Rattle.register.specs.Search.{probeKey}
 use Rattle.register.specs.Stored.{Stored}
-use Rattle.register.proofs.Every.{and-tell}
-use Rattle.schema.specs.Shape.{faultOf}
-use Rattle.tracks.specs.Track2.{track2}
-use Rattle.tracks.specs.Record.{Head, Said, events, headOf, eventsOf}
+use Rattle.home_care.specs.Row.{eventBits, keyNumber, siad, rowBytes, keyBits}
+use Rattle.home_care.specs.Record.{Head, Said, events, eventNumbers}
+use Rattle.home_care.specs.Anomalies.{Context}
+use Rattle.tracks.specs.Record.{headOf, allSaid}
 use Rattle.tracks.specs.View.{laid, IsEvents}
 use Rattle.tracks.specs.Top.{TopOf}
 use Rattle.tracks.specs.declared.events.EventsRead.{EventsRead}
 use Rattle.tracks.specs.declared.record.HeadRead.{HeadRead}
+use Rattle.soundness.specs.Sound.{isSound}
 use Rattle.checks.specs.Flow.{next}
-use Rattle.checks.specs.Tests.{Context, eventsIn}
 use Rattle.checks.specs.Checks.{checksOf}
 use Rattle.checks.specs.Readable.{eventReadable, Readable}
 use Rattle.checks.proofs.WellReadable.{readable}
 use Rattle.judge.specs.View.{IsOf, IsSaid}
-use Rattle.nodes.specs.declared.Six.{Six}
-use Rattle.intake.specs.Taking.{Here, Took}
+use Rattle.intake.specs.Driving.{Took}
+use Rattle.intake.specs.Taking.{Here, siadDriver}
 use Rattle.intake.proofs.SoundBytes.{sound-stored}
 use Rattle.intake.proofs.RecordRead.{record-2}
 use Rattle.intake.proofs.RecordTaken.{discarded, accepted}
 
-events-map : (es : List Said) → map (λ e. e .event) es ≡ eventsIn es
-unfolding eventsIn
+events-map : (es : List Said) → map (λ e. e .event) es ≡ eventNumbers es
+unfolding eventNumbers
 events-map [] = refl
 events-map (e ∷ es) = ap (λ (l : List ℕ). e .event ∷ l) (events-map es)
 
-events-count : (es : List Said) → length (eventsIn es) ≡ length es
-unfolding eventsIn
+events-count : (es : List Said) → length (eventNumbers es) ≡ length es
+unfolding eventNumbers
 events-count [] = refl
 events-count (e ∷ es) = ap suc (events-count es)
 
-each-small : (es : List Said) → all eventReadable es ≡ true → all (λ e. ltb e (2 ^ eventBits)) (eventsIn es) ≡ true
-unfolding all eventsIn
+each-small : (es : List Said) → all eventReadable es ≡ true → all (λ e. ltb e (2 ^ eventBits)) (eventNumbers es) ≡ true
+unfolding all eventNumbers
 each-small [] h = refl
 each-small (e ∷ es) h =
-    and-tell (ltb (e .event) (2 ^ eventBits)) (all (λ n. ltb n (2 ^ eventBits)) (eventsIn es))
+    and-tell (ltb (e .event) (2 ^ eventBits)) (all (λ n. ltb n (2 ^ eventBits)) (eventNumbers es))
     (and-left (ltb (e .event) (2 ^ eventBits)) _ (and-left (eventReadable e) (all eventReadable es) h))
     (each-small es (and-right (eventReadable e) (all eventReadable es) h))
 
+-- the events read into a buffer: as many as were counted, no more than 128, each in its 52 bits
+pub record EventsHeld (r : EventsRead) (evs : List ℕ) : Type 0 where
+  pub all-there : r .count ≡ length (take (r .count) evs)
+  pub no-more : length (take (r .count) evs) ≤ 128
+  pub inside : r .count ≤ length evs
+  pub small : all (λ e. ltb e (2 ^ eventBits)) (take (r .count) evs) ≡ true
+
+-- judged with the answer n: the two ways out
+pub record EventsWays (r : EventsRead) (evs : List ℕ) (h : HeadRead) (probe reg : List ℕ) (c : Context) (n : ℕ) (a : Tree) : Type 0 where
+  pub discarded : (n ≡ 0 → ⊥) → Took (siadDriver 2 c) reg a n reg
+  pub accepted : n ≡ 0 → c .room ≡ room siad (length reg) → (later : List ℕ) →
+      ((g : Head) (es : List Said) (t : State ℕ ℕ) (d : Context) → keyNumber (g .key) ≡ probeKey rowBytes keyBits probe → h .tipo ≡ g .tipo →
+      take (r .count) evs ≡ eventNumbers es → d .room ≡ room siad (length reg) → Stored siad reg t → first (checksOf d (events g es)) t ≡ 0 →
+      Stored siad later (next (events g es) t)) →
+      length later ≡ length reg → Took (siadDriver 2 c) reg a n later
+
 module _ (s : List ℕ) (top : Six) (r : EventsRead) (buffer evs : List ℕ) (wide : length buffer ≡ 128)
-    (told : (at : ℕ) (a : Tree) → TopOf s at a top → faultOf (track2 .each) a ≡ 0 → IsEvents r buffer evs (eventsOf a))
+    (told : (at : ℕ) (a : Tree) → TopOf s at a top → faultOf (track2 .each) a ≡ 0 → IsEvents r buffer evs (allSaid a))
     (a : Tree) (x : Here 2 s top a) where
-  is-events : IsEvents r buffer evs (eventsOf a)
+  is-events : IsEvents r buffer evs (allSaid a)
   is-events = told (x .at) a (x .tops) (x .good .clean)
 
-  readable-2 : Readable (events (headOf a) (eventsOf a))
-  readable-2 = readable (events (headOf a) (eventsOf a)) (rw (record-2 a) at (x .good .well))
+  readable-2 : Readable (events (headOf a) (allSaid a))
+  readable-2 = readable (events (headOf a) (allSaid a)) (rw (record-2 a) at (x .good .well))
 
-  few : length (eventsIn (eventsOf a)) ≤ 128
-  few = omega (arith, events-count (eventsOf a), x .good .few refl)
+  few : length (eventNumbers (allSaid a)) ≤ 128
+  few = omega (arith, events-count (allSaid a), x .good .few refl)
 
-  count-is : r .count ≡ length (eventsIn (eventsOf a))
-  count-is = is-events .count ∙ sym (events-count (eventsOf a))
+  count-is : r .count ≡ length (eventNumbers (allSaid a))
+  count-is = is-events .count ∙ sym (events-count (allSaid a))
 
-  numbers : evs ≡ eventsIn (eventsOf a) ++ drop (length (eventsIn (eventsOf a))) buffer
+  numbers : evs ≡ eventNumbers (allSaid a) ++ drop (length (eventNumbers (allSaid a))) buffer
   numbers =
-      is-events .numbers ∙ ap (λ (l : List ℕ). laid l buffer) (events-map (eventsOf a))
-      ∙ ap (λ (l : List ℕ). l ++ drop (length (eventsIn (eventsOf a))) buffer)
-      (take-all (length buffer) (eventsIn (eventsOf a)) (omega (arith, few, wide)))
+      is-events .numbers ∙ ap (λ (l : List ℕ). laid l buffer) (events-map (allSaid a))
+      ∙ ap (λ (l : List ℕ). l ++ drop (length (eventNumbers (allSaid a))) buffer)
+      (take-all (length buffer) (eventNumbers (allSaid a)) (omega (arith, few, wide)))
 
-  events-are : take (r .count) evs ≡ eventsIn (eventsOf a)
-  events-are = rw numbers (take-at (eventsIn (eventsOf a)) _ (r .count) (sym count-is))
+  events-are : take (r .count) evs ≡ eventNumbers (allSaid a)
+  events-are = rw numbers (take-at (eventNumbers (allSaid a)) _ (r .count) (sym count-is))
 
-  pub all-there : r .count ≡ length (take (r .count) evs)
+  all-there : r .count ≡ length (take (r .count) evs)
   all-there = count-is ∙ ap length (sym events-are)
 
-  pub no-more : length (take (r .count) evs) ≤ 128
-  no-more = rw events-are few
+  pub events-held : EventsHeld r evs
+  events-held =
+      record {
+        all-there = all-there;
+        no-more = rw events-are few;
+        inside = omega (arith, simp length-take at (sym all-there));
+        small = rw events-are (each-small (allSaid a) (readable-2 .1));
+      }
 
-  pub inside : r .count ≤ length evs
-  inside = omega (arith, simp length-take at (sym all-there))
-
-  pub small : all (λ e. ltb e (2 ^ eventBits)) (take (r .count) evs) ≡ true
-  small = rw events-are (each-small (eventsOf a) (readable-2 .1))
-
-  is-said : IsSaid (take (r .count) evs) (r .«bad_conferma») (r .«zero_prevalente») (eventsOf a)
+  is-said : IsSaid (take (r .count) evs) (r .«bad_conferma») (r .«zero_prevalente») (allSaid a)
   is-said = record { events = events-are; bad = is-events .bad; zero = is-events .zero }
 
   module _ (h : HeadRead) (probe : List ℕ) (held : IsOf probe (h .tipo) (h .day) (headOf a))
       (reg : List ℕ) (f : Fit (each 8 reg)) (sound : isSound reg ≡ true) (c : Context) (n : ℕ)
       (judge-told : (g : Head) (es : List Said) → IsOf probe (h .tipo) (h .day) g → IsSaid (take (r .count) evs) (r .«bad_conferma») (r .«zero_prevalente») es →
       Readable (events g es) → isSound reg ≡ true → n ≡ first (checksOf c (events g es)) (stateOf siad reg)) where
-    judged : n ≡ first (checksOf c (events (headOf a) (eventsOf a))) (stateOf siad reg)
-    judged = judge-told (headOf a) (eventsOf a) held is-said readable-2 sound
+    judged : n ≡ first (checksOf c (events (headOf a) (allSaid a))) (stateOf siad reg)
+    judged = judge-told (headOf a) (allSaid a) held is-said readable-2 sound
 
-    pub events-discarded : (n ≡ 0 → ⊥) → Took 2 c reg a n reg
-    events-discarded z = discarded 2 a (events (headOf a) (eventsOf a)) (record-2 a) c reg f sound n judged z
-
-    pub events-accepted : n ≡ 0 → c .room ≡ room siad (length reg) → (later : List ℕ) →
-        ((g : Head) (es : List Said) (t : State ℕ ℕ) (d : Context) → keyNumber (g .key) ≡ keyOf 91 662 probe → h .tipo ≡ g .tipo →
-        take (r .count) evs ≡ eventsIn es → d .room ≡ room siad (length reg) → Stored siad reg t → first (checksOf d (events g es)) t ≡ 0 →
-        Stored siad later (next (events g es) t)) →
-        length later ≡ length reg → Took 2 c reg a n later
-    events-accepted z q later apply-told l =
-        accepted 2 a (events (headOf a) (eventsOf a)) (record-2 a) c reg f sound n judged later z
-        (apply-told (headOf a) (eventsOf a) (stateOf siad reg) c (sym (held .key)) (held .tipo) events-are q
-        (sound-stored reg f sound) (sym judged ∙ z))
-        l
+    pub events-ways : EventsWays r evs h probe reg c n a
+    events-ways =
+        record {
+          discarded = discarded 2 a (events (headOf a) (allSaid a)) (record-2 a) c reg f sound n judged;
+          accepted = λ z q later apply-told l.
+              accepted 2 a (events (headOf a) (allSaid a)) (record-2 a) c reg f sound n judged later z
+              (apply-told (headOf a) (allSaid a) (stateOf siad reg) c (sym (held .key)) (held .tipo) events-are q
+              (sound-stored reg f sound) (sym judged ∙ z))
+              l;
+        }

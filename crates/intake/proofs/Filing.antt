@@ -8,63 +8,67 @@ use native.Mathlib.Omega.{arith}
 use lib.Dec.{eqb, ltb}
 use lib.ListN.{length, drop, length-map}
 use borrow.Author.Tests.{eqb-true, ltb-false}
-use Rattle.rows.specs.Pack.{each, Fit}
 use Rattle.markup.specs.Reading.Read.{refused, read}
 use Rattle.markup.specs.Reading.{then}
 use Rattle.markup.specs.Names.{byte, name}
 use Rattle.markup.specs.Tags.{attributes}
 use Rattle.markup.specs.View.{endingOf}
-use Rattle.markup.specs.Elements.{Tree}
+use Rattle.markup.specs.Elements.{Tree, depth, kids}
 use Rattle.markup.specs.Elements.Inside.{end}
-use Rattle.markup.specs.Document.{depth, document}
-use Rattle.reading.specs.Within.{kids, Every}
+use Rattle.markup.specs.Document.{document}
+use Rattle.reading.specs.Everywhere.{Every}
+use Rattle.schema.specs.Shape.{namedIn, recordsOf, fine, shapeOf}
 use Rattle.nodes.specs.Stands.{Stands, stands}
 use Rattle.nodes.proofs.Entering.{headed, not-headed, head-open, head-shut, head-bad}
 use Rattle.nodes.proofs.Legible.{Legible, document-legible}
 use Rattle.nodes.proofs.Records.{shaped}
 use Rattle.nodes.proofs.Taken.{Meets}
+use Rattle.schemas.specs.Track1.{track1}
+use Rattle.schemas.specs.Track2.{track2}
+use Rattle.schemas.specs.Schemas.{schemaOf}
 use Rattle.model.specs.Machine.{run, answers, zeros, others}
 use Rattle.model.proofs.MachineLaws.{answers-length, zeros-others}
-use Rattle.register.specs.Layout.{siad}
-use Rattle.register.specs.Bytes.{stateOf, encode}
-use Rattle.register.specs.Sound.{isSound}
-use Rattle.schema.specs.Shape.{recordsOf, fine, shapeOf}
-use Rattle.tracks.specs.Track1.{track1}
-use Rattle.tracks.specs.Track2.{track2}
-use Rattle.tracks.specs.Record.{Record, eventsOf, recordOf, tooMany, schemaOf, crowdedIn}
+use Rattle.rows.specs.Packing.{each, Fit}
+use Rattle.register.specs.State.{stateOf, encode}
+use Rattle.home_care.specs.Row.{siad}
+use Rattle.home_care.specs.Record.{Record}
+use Rattle.home_care.specs.Anomalies.{Context}
+use Rattle.tracks.specs.Record.{allSaid, recordOf, tooMany, crowdedIn}
 use Rattle.tracks.specs.View.{eachOf}
 use Rattle.tracks.specs.WellRead.{WellRead}
 use Rattle.tracks.proofs.WellRead.{file-read-1, file-read-2}
-use Rattle.checks.specs.Tests.{Context}
+use Rattle.soundness.specs.Sound.{isSound}
 use Rattle.checks.specs.Checks.{siadMachine}
-use Rattle.intake.specs.Submitted.{entriesOf, contextOf, taken}
-use Rattle.intake.specs.Taking.{Good, TookAll}
-use Rattle.intake.specs.Kids.{Stretch, Whole}
+use Rattle.intake.specs.Submitted.{Call, entriesOf, contextOf, takenFile}
+use Rattle.intake.specs.Driving.{TookAll, Stretch}
+use Rattle.intake.specs.Taking.{GoodRecord, assistenza, siadDriver}
+use Rattle.intake.specs.Kids.{Whole, callWith}
 use Rattle.intake.specs.View.{Says}
-use Rattle.intake.proofs.Along.{tallied, assistenze, ends-end, ends-all}
+use Rattle.intake.proofs.Along.{tallied, ends-end, ends-all}
 use Rattle.intake.proofs.Sound.{either}
+use Rattle.intake.proofs.SoundBytes.{sound-stored}
 
 -- ---- the records of a file without a fault are good
 
-few-each : (i : ℕ) (rs : List Tree) → tooMany i rs ≡ 0 → Every (λ a. length (eventsOf a) ≤ 128) rs
+few-each : (i : ℕ) (rs : List Tree) → tooMany i rs ≡ 0 → Every (λ a. length (allSaid a) ≤ 128) rs
 unfolding tooMany
 few-each i [] e = tt
-few-each i (a ∷ rs) e = go (ltb 128 (length (eventsOf a))) refl (few-each (1 + i) rs) e
+few-each i (a ∷ rs) e = go (ltb 128 (length (allSaid a))) refl (few-each (1 + i) rs) e
   where
-    go : (b : Bool) → ltb 128 (length (eventsOf a)) ≡ b → (tooMany (1 + i) rs ≡ 0 → Every (λ a. length (eventsOf a) ≤ 128) rs) →
-        cond b (1 + i) (tooMany (1 + i) rs) ≡ 0 → (length (eventsOf a) ≤ 128) × Every (λ a. length (eventsOf a) ≤ 128) rs
+    go : (b : Bool) → ltb 128 (length (allSaid a)) ≡ b → (tooMany (1 + i) rs ≡ 0 → Every (λ a. length (allSaid a) ≤ 128) rs) →
+        cond b (1 + i) (tooMany (1 + i) rs) ≡ 0 → (length (allSaid a) ≤ 128) × Every (λ a. length (allSaid a) ≤ 128) rs
     go true q ih z = absurd (omega arith)
-    go false q ih z = (ltb-false 128 (length (eventsOf a)) q, ih z)
+    go false q ih z = (ltb-false 128 (length (allSaid a)) q, ih z)
 
 each-good : (track : ℕ) (rs : List Tree) → Every (Meets Legible (eachOf track)) rs → Every (λ r. WellRead (recordOf track r)) rs →
-    (eqb track 1 ≡ false → Every (λ a. length (eventsOf a) ≤ 128) rs) → Every (Good track) rs
+    (eqb track 1 ≡ false → Every (λ a. length (allSaid a) ≤ 128) rs) → Every (GoodRecord track) rs
 each-good track [] m w f = tt
 each-good track (r ∷ rs) m w f =
     (record { clean = m .0 .clean; well = w .0; few = λ e. f e .0 }, each-good track rs (m .1) (w .1) (λ e. f e .1))
 
 module _ (sub : List ℕ) (t : Tree) (l : List ℕ) (n : ℕ) (d : document sub ≡ read t l) where
   abbrev AllGood : ℕ → Type 0
-  AllGood track = shapeOf (schemaOf track) t ≡ fine n → crowdedIn track t ≡ 0 → Every (Good track) (recordsOf (schemaOf track) t) × (n ≡ length (recordsOf (schemaOf track) t))
+  AllGood track = shapeOf (schemaOf track) t ≡ fine n → crowdedIn track t ≡ 0 → Every (GoodRecord track) (recordsOf (schemaOf track) t) × (n ≡ length (recordsOf (schemaOf track) t))
 
   good-1 : AllGood 1
   good-1 f z =
@@ -82,12 +86,12 @@ module _ (sub : List ℕ) (t : Tree) (l : List ℕ) (n : ℕ) (d : document sub 
 
 -- ---- the records are the root's children of their name
 
-named-by : (b : Bool) (t : Tree) → recordsOf (cond b track1 track2) t ≡ assistenze (kids (t .inside))
+named-by : (b : Bool) (t : Tree) → recordsOf (cond b track1 track2) t ≡ namedIn assistenza (kids (t .inside))
 unfolding track1 track2
 named-by true t = refl
 named-by false t = refl
 
-pub named-are : (track : ℕ) (t : Tree) → recordsOf (schemaOf track) t ≡ assistenze (kids (t .inside))
+pub named-are : (track : ℕ) (t : Tree) → recordsOf (schemaOf track) t ≡ namedIn assistenza (kids (t .inside))
 named-are track t = named-by (eqb track 1) t
 
 module _ (track : ℕ) {s : List ℕ} {root records long : ℕ} {t : Tree} (w : Whole track s root records long t) where
@@ -99,8 +103,8 @@ module _ (track : ℕ) {s : List ℕ} {root records long : ℕ} {t : Tree} (w : 
   Begins n y = read n y ≡ then (byte 60 (drop root s)) (λ _ m. name m)
 
   -- from the root's start tag on
-  pub file-open : {n y k : List ℕ} → Begins n y → read false k ≡ endingOf (attributes y) → Stretch track n k long (t .inside)
-  file-open x e =
+  pub file-open : (c : Context) {n y k : List ℕ} → Begins n y → read false k ≡ endingOf (attributes y) → Stretch (siadDriver track c) n k long (t .inside)
+  file-open c x e =
       record {
         holds = head-open (drop root s) x (λ z. omega arith) root-stands e;
         good = rw (named-are track t) at (w .good);
@@ -109,18 +113,18 @@ module _ (track : ℕ) {s : List ℕ} {root records long : ℕ} {t : Tree} (w : 
 
   -- a root with nothing in it
   module _ (c : Context) {reg list : List ℕ} (f : Fit (each 8 reg)) (h : isSound reg ≡ true) where
-    none-taken : t .inside ≡ end → TookAll track c reg list (recordsOf (schemaOf track) t) 0 reg list
+    none-taken : t .inside ≡ end → TookAll (siadDriver track c) reg list (recordsOf (schemaOf track) t) 0 reg list
     none-taken e =
-        rw (named-are track t, e) (ends-all track c reg list [] (ends-end track c (tallied 0 0) reg list f h))
+        rw (named-are track t, e) (ends-all (siadDriver track c) reg list [] (ends-end (siadDriver track c) (tallied 0 0) reg list (sym (sound-stored reg f h .bytes))))
 
-    pub file-shut : {n y k : List ℕ} → Begins n y → read true k ≡ endingOf (attributes y) → TookAll track c reg list (recordsOf (schemaOf track) t) 0 reg list
+    pub file-shut : {n y k : List ℕ} → Begins n y → read true k ≡ endingOf (attributes y) → TookAll (siadDriver track c) reg list (recordsOf (schemaOf track) t) 0 reg list
     file-shut x e = none-taken (head-shut (drop root s) x (λ z. omega arith) root-stands e)
 
     -- a root that was read is read again
-    pub file-bad : {n y : List ℕ} → Begins n y → refused ≡ endingOf (attributes y) → TookAll track c reg list (recordsOf (schemaOf track) t) 0 reg list
+    pub file-bad : {n y : List ℕ} → Begins n y → refused ≡ endingOf (attributes y) → TookAll (siadDriver track c) reg list (recordsOf (schemaOf track) t) 0 reg list
     file-bad x e = none-taken (head-bad (drop root s) x (λ z. omega arith) root-stands e)
 
-    pub file-nameless : refused ≡ then (byte 60 (drop root s)) (λ _ m. name m) → TookAll track c reg list (recordsOf (schemaOf track) t) 0 reg list
+    pub file-nameless : refused ≡ then (byte 60 (drop root s)) (λ _ m. name m) → TookAll (siadDriver track c) reg list (recordsOf (schemaOf track) t) 0 reg list
     file-nameless e = not-headed (headed depth (drop root s) t (w .after) (w .reads)) e
 
   -- ---- all of them taken
@@ -128,7 +132,7 @@ module _ (track : ℕ) {s : List ℕ} {root records long : ℕ} {t : Tree} (w : 
   abbrev rs : List Record
   rs = entriesOf track t
 
-  module _ {c : Context} {reg list : List ℕ} {k : ℕ} {later told : List ℕ} (u : TookAll track c reg list (recordsOf (schemaOf track) t) k later told) where
+  module _ (c : Context) {reg list : List ℕ} {k : ℕ} {later told : List ℕ} (u : TookAll (siadDriver track c) reg list (recordsOf (schemaOf track) t) k later told) where
     abbrev ns : List ℕ
     ns = answers (siadMachine c) (stateOf siad reg) rs
 
@@ -141,9 +145,9 @@ module _ (track : ℕ) {s : List ℕ} {root records long : ℕ} {t : Tree} (w : 
     pub no-more : k ≤ records
     no-more = omega (arith, u .counted, together)
 
-    pub taken-says : (year quarter : ℕ) → c ≡ contextOf year quarter (length reg) →
-        Says (taken s track year quarter reg list rs) (record { answer = 0; number = 0; records = records; accepted = k; discarded = records - k }) later told
-    taken-says year quarter e =
+    pub taken-says : (x : Call) → c ≡ contextOf x (length reg) →
+        Says (takenFile (callWith x s track list) reg rs) (record { answer = 0; number = 0; records = records; accepted = k; discarded = records - k }) later told
+    taken-says x e =
         let j : length (recordsOf (schemaOf track) t) ≡ length rs = sym (length-map (recordsOf (schemaOf track) t) (recordOf track)) in
         let left : records - k ≡ others ns = omega (arith, u .counted, together) in
         record {

@@ -4,23 +4,25 @@ use mathlib.Core.Path.{_≡_, refl, sym, ap, ap₂, _∙_}
 use mathlib.Core.List.{List, [], _∷_, map}
 use lib.ListN.{replicate}
 use borrow.Author.Tests.{ne-eqb}
-use Rattle.model.specs.Machine.{Machine, step, run, answers, runAll, calls}
-use Rattle.model.specs.Flow.{State, empty, machine, Lawful}
+use Rattle.model.specs.Machine.{Machine, step, run, answers}
+use Rattle.model.specs.Log.{runAll, calls, Lawful}
+use Rattle.model.specs.Flow.{State, empty, machine}
 use Rattle.model.specs.Demands.{Demand3, Sequences}
 use Rattle.model.proofs.MachineLaws.{Every, run-keeps-ok, runAll-keeps-ok}
 use Rattle.model.proofs.Demands.{demand3}
 use Rattle.model.proofs.TransmissionLaws.{sequences}
-use Rattle.register.specs.Layout.{siad}
-use Rattle.register.specs.Bytes.{room, encode}
-use Rattle.tracks.specs.Record.{Record}
-use Rattle.checks.specs.Tests.{Context}
+use Rattle.register.specs.Layout.{room}
+use Rattle.register.specs.State.{encode}
+use Rattle.home_care.specs.Row.{siad}
+use Rattle.home_care.specs.Record.{Record}
+use Rattle.home_care.specs.Anomalies.{Context}
 use Rattle.checks.specs.Checks.{siadMachine}
 use Rattle.checks.specs.Readable.{Readable}
 use Rattle.checks.proofs.Accepted.{lawful}
 use Rattle.checks.proofs.Valid.{Sound}
-use Rattle.intake.specs.Submitted.{Submitted, contextOf}
+use Rattle.intake.specs.Submitted.{Call, Submitted, contextOf}
 use Rattle.intake.specs.Order.{recordsIn}
-use Rattle.intake.specs.Histories.{Sub, call, Entry, entry, entryFlow, entryChecks, entryMachine, entriesFor, stateAfter}
+use Rattle.intake.specs.Histories.{call, Entry, entry, entryFlow, entryChecks, entryMachine, entriesFor, stateAfter}
 use Rattle.intake.proofs.Outcome.{Outcome, stopped, passed, outcome}
 use Rattle.intake.proofs.SoundBytes.{state-long, state-back, sound-empty, empty-bytes}
 use Rattle.intake.proofs.Sound.{all-readable, step-kept}
@@ -79,29 +81,28 @@ module _ (n : ℕ) where
   entry-kept s e i w z = step-kept (e .context) n (w .1) s (e .said) i (w .0) z
 
   -- the records of a file that is taken are readable, and judged in the register's room
-  entries-ok : (s : State ℕ ℕ) (x : Sub) → Every Ok (entriesFor n s x)
-  entries-ok s x = go (outcome (x .file) (x .track) (x .year) (x .quarter) (encode siad n s) (x .answerList))
+  entries-ok : (s : State ℕ ℕ) (x : Call) → Every Ok (entriesFor n s x)
+  entries-ok s x = go (outcome x (encode siad n s))
     where
-      go : Outcome (x .file) (x .track) (x .year) (x .quarter) (encode siad n s) (x .answerList) → Every Ok (entriesFor n s x)
+      go : Outcome x (encode siad n s) → Every Ok (entriesFor n s x)
       go (stopped a k e z _) = rw (ap (λ (r : Submitted). r .answer) e, ne-eqb a 0 z) tt
       go (passed p) =
           rw (ap (λ (r : Submitted). r .answer) (p .gives))
-          (each-entry (contextOf (x .year) (x .quarter) n) n refl (recordsIn (x .track) (x .file))
-          (all-readable (x .file) (x .track) (p .tree) (p .left) (p .records) (p .track-is) (p .markup) (p .shape)))
+          (each-entry (contextOf x n) n refl (recordsIn x) (all-readable x (p .tree) (p .left) (p .records) (p .track-is) (p .markup) (p .shape)))
 
   module _ (long : 4 ≤ n) where
     -- a call does to a sound state's bytes what the machine does to the state
-    pub call-right : (s : State ℕ ℕ) (x : Sub) → Sound n s → call (encode siad n s) x ≡ encode siad n (run entryMachine s (entriesFor n s x))
+    pub call-right : (s : State ℕ ℕ) (x : Call) → Sound n s → call (encode siad n s) x ≡ encode siad n (run entryMachine s (entriesFor n s x))
     unfolding run
-    call-right s x i = go (outcome (x .file) (x .track) (x .year) (x .quarter) (encode siad n s) (x .answerList))
+    call-right s x i = go (outcome x (encode siad n s))
       where
         rs : List Record
-        rs = recordsIn (x .track) (x .file)
+        rs = recordsIn x
 
         c : ℕ → Context
-        c k = contextOf (x .year) (x .quarter) k
+        c k = contextOf x k
 
-        go : Outcome (x .file) (x .track) (x .year) (x .quarter) (encode siad n s) (x .answerList) →
+        go : Outcome x (encode siad n s) →
             call (encode siad n s) x ≡ encode siad n (run entryMachine s (entriesFor n s x))
         go (stopped a k e z _) =
             let nil : entriesFor n s x ≡ [] = rw (ap (λ (r : Submitted). r .answer) e, ne-eqb a 0 z) in
@@ -113,10 +114,10 @@ module _ (n : ℕ) where
             ∙ sym (ap (encode siad n) (ap (run entryMachine s) full ∙ run-entries (c n) s rs))
 
     -- the register after any history of calls on an emptied one
-    pub history-bytes : (xs : List Sub) → calls call (replicate n 0) xs ≡ encode siad n (stateAfter n xs)
+    pub history-bytes : (xs : List Call) → calls call (replicate n 0) xs ≡ encode siad n (stateAfter n xs)
     history-bytes xs =
         ap (λ (b : List ℕ). calls call b xs) (empty-bytes n long)
         ∙ calls-encode-ok entryMachine (entriesFor n) call (encode siad n) (Sound n) Ok entry-kept entries-ok call-right empty xs (sound-empty n)
 
-    pub history-kept : (xs : List Sub) → Sound n (stateAfter n xs)
+    pub history-kept : (xs : List Call) → Sound n (stateAfter n xs)
     history-kept xs = runAll-keeps-ok entryMachine (Sound n) Ok entry-kept (entriesFor n) entries-ok empty xs (sound-empty n)

@@ -10,5 +10,6 @@ pub mod EventsTaken
 pub mod CaseTaken
 pub mod Along
 pub mod Going
+pub mod SiadDriver
 pub mod Filing
 pub mod Submitting

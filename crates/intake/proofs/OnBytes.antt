@@ -8,21 +8,21 @@ use lib.ListN.{length, take, drop, replicate}
 use lib.Seq.{take-at}
 use borrow.Author.Tests.{le-ltb}
 use Rattle.model.specs.Map.{find, has, Once}
-use Rattle.model.specs.Machine.{run, answers, calls}
+use Rattle.model.specs.Machine.{run, answers}
+use Rattle.model.specs.Log.{calls}
 use Rattle.model.specs.Transmission.{insert, cancel}
 use Rattle.model.specs.Flow.{State, Good}
 use Rattle.model.proofs.MachineLaws.{answers-length}
-use Rattle.register.specs.Layout.{siad}
-use Rattle.register.specs.Bytes.{stateOf, encode}
-use Rattle.register.specs.Sound.{isSound}
-use Rattle.register.specs.Calls.{emptied}
-use Rattle.tracks.specs.Record.{Record}
+use Rattle.register.specs.State.{stateOf, encode, emptied}
+use Rattle.home_care.specs.Row.{siad}
+use Rattle.home_care.specs.Record.{Record}
+use Rattle.home_care.specs.Anomalies.{Context}
+use Rattle.soundness.specs.Sound.{isSound}
 use Rattle.checks.specs.Flow.{flow}
-use Rattle.checks.specs.Tests.{Context}
 use Rattle.checks.specs.Checks.{siadMachine}
-use Rattle.intake.specs.Submitted.{Submitted, contextOf}
+use Rattle.intake.specs.Submitted.{Call, Submitted, contextOf, submitted}
 use Rattle.intake.specs.Order.{recordsIn}
-use Rattle.intake.specs.Histories.{Sub, answerTo, call, Entry, entry, entryMachine, entriesFor, regAfter, stateAfter, OnBytes}
+use Rattle.intake.specs.Histories.{call, Entry, entry, entryMachine, entriesFor, regAfter, stateAfter, OnBytes}
 use Rattle.intake.proofs.Outcome.{sound-not-3}
 use Rattle.intake.proofs.Files.{taken-passed}
 use Rattle.intake.proofs.SoundBytes.{state-long, state-back, state-sound}
@@ -36,56 +36,56 @@ module _ (reg : List ℕ) (long : 4 ≤ length reg) where
   unfolding emptied
   emptied-is = rw (le-ltb (length reg) 4 long)
 
-  bytes-are : (xs : List Sub) → regAfter reg xs ≡ encode siad n (stateAfter n xs)
+  bytes-are : (xs : List Call) → regAfter reg xs ≡ encode siad n (stateAfter n xs)
   bytes-are xs = ap (λ (b : List ℕ). calls call b xs) emptied-is ∙ history-bytes n long xs
 
-  state-is : (xs : List Sub) → stateOf siad (regAfter reg xs) ≡ stateAfter n xs
+  state-is : (xs : List Call) → stateOf siad (regAfter reg xs) ≡ stateAfter n xs
   state-is xs = ap (stateOf siad) (bytes-are xs) ∙ state-back n long (stateAfter n xs) (history-kept n long xs)
 
-  case-is : (xs : List Sub) (k : ℕ) → find k (stateOf siad (regAfter reg xs) .cases) ≡ find k (stateAfter n xs .cases)
+  case-is : (xs : List Call) (k : ℕ) → find k (stateOf siad (regAfter reg xs) .cases) ≡ find k (stateAfter n xs .cases)
   case-is xs k = ap (λ (s : State ℕ ℕ). find k (s .cases)) (state-is xs)
 
-  event-is : (xs : List Sub) (k : ℕ) → find k (stateOf siad (regAfter reg xs) .events) ≡ find k (stateAfter n xs .events)
+  event-is : (xs : List Call) (k : ℕ) → find k (stateOf siad (regAfter reg xs) .events) ≡ find k (stateAfter n xs .events)
   event-is xs k = ap (λ (s : State ℕ ℕ). find k (s .events)) (state-is xs)
 
-  sound-is : (xs : List Sub) → isSound (regAfter reg xs) ≡ true
+  sound-is : (xs : List Call) → isSound (regAfter reg xs) ≡ true
   sound-is xs = ap isSound (bytes-are xs) ∙ state-sound n long (stateAfter n xs) (history-kept n long xs)
 
   -- ---- a file of two records, an insertion and its cancellation
-  module _ (xs : List Sub) (x : Sub) (a b : Record) (two : recordsIn (x .track) (x .file) ≡ a ∷ b ∷ [])
-      (fine : answerTo (regAfter reg xs) x .answer ≡ 0) (both : take 2 (answerTo (regAfter reg xs) x .answers) ≡ 0 ∷ 0 ∷ []) where
+  module _ (xs : List Call) (x : Call) (a b : Record) (two : recordsIn x ≡ a ∷ b ∷ [])
+      (fine : submitted x (regAfter reg xs) .answer ≡ 0) (both : take 2 (submitted x (regAfter reg xs) .answers) ≡ 0 ∷ 0 ∷ []) where
     abbrev S : State ℕ ℕ
     S = stateAfter n xs
 
     abbrev c : ℕ → Context
-    c k = contextOf (x .year) (x .quarter) k
+    c k = contextOf x k
 
-    fine-there : answerTo (encode siad n S) x .answer ≡ 0
-    fine-there = sym (ap (λ (r : List ℕ). answerTo r x .answer) (bytes-are xs)) ∙ fine
+    fine-there : submitted x (encode siad n S) .answer ≡ 0
+    fine-there = sym (ap (λ (r : List ℕ). submitted x r .answer) (bytes-are xs)) ∙ fine
 
     two-entries : entriesFor n S x ≡ entry (c n) a ∷ entry (c n) b ∷ []
     two-entries = rw fine-there (ap (map (entry (c n))) two)
 
     -- their answers, which are the first two bytes of the list
     abbrev there : List ℕ
-    there = answers (siadMachine (c (length (encode siad n S)))) (stateOf siad (encode siad n S)) (recordsIn (x .track) (x .file))
+    there = answers (siadMachine (c (length (encode siad n S)))) (stateOf siad (encode siad n S)) (recordsIn x)
 
     there-length : length there ≡ 2
-    there-length = answers-length (siadMachine (c (length (encode siad n S)))) (stateOf siad (encode siad n S)) (recordsIn (x .track) (x .file)) ∙ ap length two
+    there-length = answers-length (siadMachine (c (length (encode siad n S)))) (stateOf siad (encode siad n S)) (recordsIn x) ∙ ap length two
 
     there-are : there ≡ 0 ∷ 0 ∷ []
     there-are =
-        let p = taken-passed (x .file) (x .track) (x .year) (x .quarter) (encode siad n S) (x .answerList) fine-there in
-        sym (take-at there (drop (length (recordsIn (x .track) (x .file))) (x .answerList)) 2 there-length)
+        let p = taken-passed x (encode siad n S) fine-there in
+        sym (take-at there (drop (length (recordsIn x)) (x .answerList)) 2 there-length)
         ∙ sym (ap (λ (r : Submitted). take 2 (r .answers)) (p .gives))
-        ∙ sym (ap (λ (r : List ℕ). take 2 (answerTo r x .answers)) (bytes-are xs))
+        ∙ sym (ap (λ (r : List ℕ). take 2 (submitted x r .answers)) (bytes-are xs))
         ∙ both
 
     both-taken : answers entryMachine S (entry (c n) a ∷ entry (c n) b ∷ []) ≡ 0 ∷ 0 ∷ []
     both-taken =
         answers-entries (c n) S (a ∷ b ∷ [])
         ∙ sym (ap (answers (siadMachine (c n)) S) two)
-        ∙ sym (ap₂ (λ (k : ℕ) (t : State ℕ ℕ). answers (siadMachine (c k)) t (recordsIn (x .track) (x .file))) (state-long n long S (history-kept n long xs)) (state-back n long S (history-kept n long xs)))
+        ∙ sym (ap₂ (λ (k : ℕ) (t : State ℕ ℕ). answers (siadMachine (c k)) t (recordsIn x)) (state-long n long S (history-kept n long xs)) (state-back n long S (history-kept n long xs)))
         ∙ there-are
 
     undone-is : flow .kind a ≡ insert → flow .kind b ≡ cancel →
@@ -121,5 +121,5 @@ module _ (reg : List ℕ) (long : 4 ≤ length reg) where
             ∙ sym (bytes-are ys);
         undone = λ xs x a b two ka kb hc he fine both. undone-is xs x a b two fine both ka kb hc he;
         sound = sound-is;
-        never-3 = λ xs x. sound-not-3 (x .file) (x .track) (x .year) (x .quarter) (regAfter reg xs) (x .answerList) (sound-is xs);
+        never-3 = λ xs x. sound-not-3 x (regAfter reg xs) (sound-is xs);
       }

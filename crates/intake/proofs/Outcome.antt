@@ -14,35 +14,36 @@ use Rattle.markup.specs.Reading.{Read}
 use Rattle.markup.specs.Reading.Read.{refused, read}
 use Rattle.markup.specs.Elements.{Tree}
 use Rattle.markup.specs.Document.{document}
+use Rattle.schema.specs.Shape.{Shape, fine, faulty, shapeOf}
+use Rattle.schemas.specs.Schemas.{schemaOf}
 use Rattle.model.specs.Checks.{Check, first, NoneHolds, FirstIs, numbered}
 use Rattle.model.proofs.ChecksLaws.{accepted-iff, refused-iff, only}
-use Rattle.register.specs.Sound.{isSound}
-use Rattle.schema.specs.Shape.{Shape, fine, faulty, shapeOf}
-use Rattle.tracks.specs.Record.{schemaOf, crowdedIn}
-use Rattle.intake.specs.Submitted.{Submitted, longest, entriesOf, refusal, taken, byShape, byMarkup, submitted}
+use Rattle.tracks.specs.Record.{crowdedIn}
+use Rattle.soundness.specs.Sound.{isSound}
+use Rattle.intake.specs.Submitted.{Call, Submitted, longest, entriesOf, refusal, takenFile, byShape, byMarkup, submitted}
 use Rattle.intake.specs.Order.{isRefused, ofTree, isFaulty, recordsRead, recordsIn, fileChecks}
 
-module _ (sub : List ℕ) (track year quarter : ℕ) (reg answerList : List ℕ) where
+module _ (x : Call) (reg : List ℕ) where
   abbrev refuse : ℕ → ℕ → Submitted
-  refuse a n = refusal sub track year quarter reg answerList a n
+  refuse a n = refusal x reg a n
 
   abbrev call : Submitted
-  call = submitted sub track year quarter reg answerList
+  call = submitted x reg
 
   -- a file that is taken: each of the eight tests failed
   pub record Passed : Type 0 where
     pub tree : Tree
     pub left : List ℕ
     pub records : ℕ
-    pub period : isPeriod year quarter ≡ true
-    pub track-is : eqb track 1 || eqb track 2 ≡ true
+    pub period : isPeriod (x .year) (x .quarter) ≡ true
+    pub track-is : eqb (x .track) 1 || eqb (x .track) 2 ≡ true
     pub sound : isSound reg ≡ true
-    pub short : length sub ≤ longest
-    pub markup : document sub ≡ read tree left
-    pub shape : shapeOf (schemaOf track) tree ≡ fine records
-    pub few : crowdedIn track tree ≡ 0
-    pub room : length (recordsIn track sub) ≤ length answerList
-    pub gives : call ≡ taken sub track year quarter reg answerList (recordsIn track sub)
+    pub short : length (x .file) ≤ longest
+    pub markup : document (x .file) ≡ read tree left
+    pub shape : shapeOf (schemaOf (x .track)) tree ≡ fine records
+    pub few : crowdedIn (x .track) tree ≡ 0
+    pub room : length (recordsIn x) ≤ length (x .answerList)
+    pub gives : call ≡ takenFile x reg (recordsIn x)
 
   pub data Outcome : Type 0 where
     stopped : (a n : ℕ) → call ≡ refuse a n → a ≢ 0 → (a ≢ 6 → a ≢ 7 → n ≡ 0) → Outcome
@@ -50,30 +51,30 @@ module _ (sub : List ℕ) (track year quarter : ℕ) (reg answerList : List ℕ)
 
   -- what is left of the table after 4, 3, 2 and 1
   abbrev from5 : Submitted
-  from5 = byMarkup sub track year quarter reg answerList (document sub)
+  from5 = byMarkup x reg (document (x .file))
 
   abbrev from4 : Submitted
-  from4 = cond (ltb longest (length sub)) (refuse 4 0) from5
+  from4 = cond (ltb longest (length (x .file))) (refuse 4 0) from5
 
   abbrev from3 : Submitted
   from3 = cond (not (isSound reg)) (refuse 3 0) from4
 
   abbrev from2 : Submitted
-  from2 = cond (not (eqb track 1 || eqb track 2)) (refuse 2 0) from3
+  from2 = cond (not (eqb (x .track) 1 || eqb (x .track) 2)) (refuse 2 0) from3
 
   -- a refusal with record number 0
   plain : (a : ℕ) → a ≢ 0 → call ≡ refuse a 0 → Outcome
   plain a z e = stopped a 0 e z (λ _ _. refl)
 
   -- the tests in their order, each with what the ones before it left
-  module _ (p : isPeriod year quarter ≡ true) (k : eqb track 1 || eqb track 2 ≡ true) (s : isSound reg ≡ true) (h : length sub ≤ longest)
-      (t : Tree) (l : List ℕ) (d : document sub ≡ read t l) where
-    module _ (n : ℕ) (f : shapeOf (schemaOf track) t ≡ fine n) where
-      after7 : crowdedIn track t ≡ 0 → (b : Bool) → ltb (length answerList) (length (entriesOf track t)) ≡ b →
-          call ≡ cond b (refuse 8 0) (taken sub track year quarter reg answerList (entriesOf track t)) → Outcome
+  module _ (p : isPeriod (x .year) (x .quarter) ≡ true) (k : eqb (x .track) 1 || eqb (x .track) 2 ≡ true) (s : isSound reg ≡ true) (h : length (x .file) ≤ longest)
+      (t : Tree) (l : List ℕ) (d : document (x .file) ≡ read t l) where
+    module _ (n : ℕ) (f : shapeOf (schemaOf (x .track)) t ≡ fine n) where
+      after7 : crowdedIn (x .track) t ≡ 0 → (b : Bool) → ltb (length (x .answerList)) (length (entriesOf (x .track) t)) ≡ b →
+          call ≡ cond b (refuse 8 0) (takenFile x reg (entriesOf (x .track) t)) → Outcome
       after7 c true e g = plain 8 (λ z. omega arith) g
       after7 c false e g =
-          let r : entriesOf track t ≡ recordsIn track sub = ap (recordsRead track) (sym d) in
+          let r : entriesOf (x .track) t ≡ recordsIn x = ap (recordsRead (x .track)) (sym d) in
           passed
           (record {
             tree = t;
@@ -86,45 +87,45 @@ module _ (sub : List ℕ) (track year quarter : ℕ) (reg answerList : List ℕ)
             markup = d;
             shape = f;
             few = c;
-            room = rw (← r) (ltb-false (length answerList) (length (entriesOf track t)) e);
-            gives = g ∙ ap (taken sub track year quarter reg answerList) r;
+            room = rw (← r) (ltb-false (length (x .answerList)) (length (entriesOf (x .track) t)) e);
+            gives = g ∙ ap (takenFile x reg) r;
           })
 
-      after6 : (b : Bool) → eqb (crowdedIn track t) 0 ≡ b →
+      after6 : (b : Bool) → eqb (crowdedIn (x .track) t) 0 ≡ b →
           call ≡
-          cond (not b) (refuse 7 (crowdedIn track t))
-          (cond (ltb (length answerList) (length (entriesOf track t))) (refuse 8 0) (taken sub track year quarter reg answerList (entriesOf track t))) → Outcome
-      after6 false e g = stopped 7 (crowdedIn track t) g (λ z. omega arith) (λ _ z. absurd (z refl))
-      after6 true e g = after7 (eqb-true (crowdedIn track t) 0 e) (ltb (length answerList) (length (entriesOf track t))) refl g
+          cond (not b) (refuse 7 (crowdedIn (x .track) t))
+          (cond (ltb (length (x .answerList)) (length (entriesOf (x .track) t))) (refuse 8 0) (takenFile x reg (entriesOf (x .track) t))) → Outcome
+      after6 false e g = stopped 7 (crowdedIn (x .track) t) g (λ z. omega arith) (λ _ z. absurd (z refl))
+      after6 true e g = after7 (eqb-true (crowdedIn (x .track) t) 0 e) (ltb (length (x .answerList)) (length (entriesOf (x .track) t))) refl g
 
-    after5 : (f : Shape) → shapeOf (schemaOf track) t ≡ f → call ≡ byShape sub track year quarter reg answerList t f → Outcome
+    after5 : (f : Shape) → shapeOf (schemaOf (x .track)) t ≡ f → call ≡ byShape x reg t f → Outcome
     after5 (faulty n place) e g = stopped 6 n g (λ z. omega arith) (λ z _. absurd (z refl))
-    after5 (fine n) e g = after6 n e (eqb (crowdedIn track t) 0) refl g
+    after5 (fine n) e g = after6 n e (eqb (crowdedIn (x .track) t) 0) refl g
 
-  module _ (p : isPeriod year quarter ≡ true) (k : eqb track 1 || eqb track 2 ≡ true) (s : isSound reg ≡ true) where
-    after4 : length sub ≤ longest → (d : Read Tree) → document sub ≡ d → call ≡ byMarkup sub track year quarter reg answerList d → Outcome
+  module _ (p : isPeriod (x .year) (x .quarter) ≡ true) (k : eqb (x .track) 1 || eqb (x .track) 2 ≡ true) (s : isSound reg ≡ true) where
+    after4 : length (x .file) ≤ longest → (d : Read Tree) → document (x .file) ≡ d → call ≡ byMarkup x reg d → Outcome
     after4 h refused e g = plain 5 (λ z. omega arith) g
-    after4 h (read t l) e g = after5 p k s h t l e (shapeOf (schemaOf track) t) refl g
+    after4 h (read t l) e g = after5 p k s h t l e (shapeOf (schemaOf (x .track)) t) refl g
 
-    after3 : (b : Bool) → ltb longest (length sub) ≡ b → call ≡ cond b (refuse 4 0) from5 → Outcome
+    after3 : (b : Bool) → ltb longest (length (x .file)) ≡ b → call ≡ cond b (refuse 4 0) from5 → Outcome
     after3 true e g = plain 4 (λ z. omega arith) g
-    after3 false e g = after4 (ltb-false longest (length sub) e) (document sub) refl g
+    after3 false e g = after4 (ltb-false longest (length (x .file)) e) (document (x .file)) refl g
 
-  after2 : isPeriod year quarter ≡ true → eqb track 1 || eqb track 2 ≡ true → (b : Bool) → isSound reg ≡ b → call ≡ cond (not b) (refuse 3 0) from4 → Outcome
+  after2 : isPeriod (x .year) (x .quarter) ≡ true → eqb (x .track) 1 || eqb (x .track) 2 ≡ true → (b : Bool) → isSound reg ≡ b → call ≡ cond (not b) (refuse 3 0) from4 → Outcome
   after2 p k false e g = plain 3 (λ z. omega arith) g
-  after2 p k true e g = after3 p k e (ltb longest (length sub)) refl g
+  after2 p k true e g = after3 p k e (ltb longest (length (x .file))) refl g
 
-  after1 : isPeriod year quarter ≡ true → (b : Bool) → eqb track 1 || eqb track 2 ≡ b → call ≡ cond (not b) (refuse 2 0) from3 → Outcome
+  after1 : isPeriod (x .year) (x .quarter) ≡ true → (b : Bool) → eqb (x .track) 1 || eqb (x .track) 2 ≡ b → call ≡ cond (not b) (refuse 2 0) from3 → Outcome
   after1 p false e g = plain 2 (λ z. omega arith) g
   after1 p true e g = after2 p e (isSound reg) refl g
 
-  at-first : (b : Bool) → isPeriod year quarter ≡ b → call ≡ cond (not b) (refuse 1 0) from2 → Outcome
+  at-first : (b : Bool) → isPeriod (x .year) (x .quarter) ≡ b → call ≡ cond (not b) (refuse 1 0) from2 → Outcome
   at-first false e g = plain 1 (λ z. omega arith) g
-  at-first true e g = after1 e (eqb track 1 || eqb track 2) refl g
+  at-first true e g = after1 e (eqb (x .track) 1 || eqb (x .track) 2) refl g
 
   pub outcome : Outcome
   unfolding submitted
-  outcome = at-first (isPeriod year quarter) refl refl
+  outcome = at-first (isPeriod (x .year) (x .quarter)) refl refl
 
   -- ---- the table's order: the answer is the number of the first test that holds, else 0
 
@@ -133,62 +134,62 @@ module _ (sub : List ℕ) (track year quarter : ℕ) (reg answerList : List ℕ)
   spread false x y = refl
 
   -- the tests from 5 on
-  last-four : (d : Read Tree) → byMarkup sub track year quarter reg answerList d .answer ≡
+  last-four : (d : Read Tree) → byMarkup x reg d .answer ≡
       cond (isRefused d) 5
-      (cond (ofTree (λ t. isFaulty (shapeOf (schemaOf track) t)) d) 6
-      (cond (ofTree (λ t. not (eqb (crowdedIn track t) 0)) d) 7
-      (cond (ofTree (λ t. ltb (length answerList) (length (entriesOf track t))) d) 8 0)))
+      (cond (ofTree (λ t. isFaulty (shapeOf (schemaOf (x .track)) t)) d) 6
+      (cond (ofTree (λ t. not (eqb (crowdedIn (x .track) t) 0)) d) 7
+      (cond (ofTree (λ t. ltb (length (x .answerList)) (length (entriesOf (x .track) t))) d) 8 0)))
   last-four refused = refl
-  last-four (read t l) = by (shapeOf (schemaOf track) t)
+  last-four (read t l) = by (shapeOf (schemaOf (x .track)) t)
     where
-      x : Bool
-      x = not (eqb (crowdedIn track t) 0)
+      crowded : Bool
+      crowded = not (eqb (crowdedIn (x .track) t) 0)
 
-      y : Bool
-      y = ltb (length answerList) (length (entriesOf track t))
+      short : Bool
+      short = ltb (length (x .answerList)) (length (entriesOf (x .track) t))
 
-      by : (f : Shape) → byShape sub track year quarter reg answerList t f .answer ≡ cond (isFaulty f) 6 (cond x 7 (cond y 8 0))
+      by : (f : Shape) → byShape x reg t f .answer ≡ cond (isFaulty f) 6 (cond crowded 7 (cond short 8 0))
       by (faulty n place) = refl
       by (fine n) =
-          spread x (refuse 7 (crowdedIn track t)) (cond y (refuse 8 0) (taken sub track year quarter reg answerList (entriesOf track t)))
-          ∙ ap (λ (a : ℕ). cond x 7 a) (spread y (refuse 8 0) (taken sub track year quarter reg answerList (entriesOf track t)))
+          spread crowded (refuse 7 (crowdedIn (x .track) t)) (cond short (refuse 8 0) (takenFile x reg (entriesOf (x .track) t)))
+          ∙ ap (λ (a : ℕ). cond crowded 7 a) (spread short (refuse 8 0) (takenFile x reg (entriesOf (x .track) t)))
 
-  pub answer-is : call .answer ≡ first (fileChecks sub track year quarter reg answerList) (document sub)
+  pub answer-is : call .answer ≡ first (fileChecks x reg) (document (x .file))
   unfolding submitted first
   answer-is =
-      spread (not (isPeriod year quarter)) (refuse 1 0) from2
-      ∙ ap (λ (a : ℕ). cond (not (isPeriod year quarter)) 1 a)
-      (spread (not (eqb track 1 || eqb track 2)) (refuse 2 0) from3
-      ∙ ap (λ (a : ℕ). cond (not (eqb track 1 || eqb track 2)) 2 a)
+      spread (not (isPeriod (x .year) (x .quarter))) (refuse 1 0) from2
+      ∙ ap (λ (a : ℕ). cond (not (isPeriod (x .year) (x .quarter))) 1 a)
+      (spread (not (eqb (x .track) 1 || eqb (x .track) 2)) (refuse 2 0) from3
+      ∙ ap (λ (a : ℕ). cond (not (eqb (x .track) 1 || eqb (x .track) 2)) 2 a)
       (spread (not (isSound reg)) (refuse 3 0) from4
       ∙ ap (λ (a : ℕ). cond (not (isSound reg)) 3 a)
-      (spread (ltb longest (length sub)) (refuse 4 0) from5 ∙ ap (λ (a : ℕ). cond (ltb longest (length sub)) 4 a) (last-four (document sub)))))
+      (spread (ltb longest (length (x .file))) (refuse 4 0) from5 ∙ ap (λ (a : ℕ). cond (ltb longest (length (x .file))) 4 a) (last-four (document (x .file))))))
 
-  well : numbered (fileChecks sub track year quarter reg answerList) ≡ true
+  well : numbered (fileChecks x reg) ≡ true
   unfolding all
   well = refl
 
   -- 0 is given exactly when none of the eight tests holds
-  pub answer-zero : call .answer ≡ 0 ↔ NoneHolds (fileChecks sub track year quarter reg answerList) (document sub)
+  pub answer-zero : call .answer ≡ 0 ↔ NoneHolds (fileChecks x reg) (document (x .file))
   answer-zero =
-      let a = accepted-iff (fileChecks sub track year quarter reg answerList) (document sub) well in
+      let a = accepted-iff (fileChecks x reg) (document (x .file)) well in
       (λ e. a .0 (sym answer-is ∙ e), λ h. answer-is ∙ a .1 h)
 
   -- and else the number of the first that holds
-  pub answer-order : (n : ℕ) → n ≢ 0 → call .answer ≡ n ↔ FirstIs (fileChecks sub track year quarter reg answerList) (document sub) n
+  pub answer-order : (n : ℕ) → n ≢ 0 → call .answer ≡ n ↔ FirstIs (fileChecks x reg) (document (x .file)) n
   answer-order n z =
-      let a = refused-iff (fileChecks sub track year quarter reg answerList) (document sub) n z in
+      let a = refused-iff (fileChecks x reg) (document (x .file)) n z in
       (λ e. a .0 (sym answer-is ∙ e), λ h. answer-is ∙ a .1 h)
 
   -- 3 is given of no sound register
   pub sound-not-3 : isSound reg ≡ true → call .answer ≢ 3
   unfolding first any
-  sound-not-3 s e = go (not (isPeriod year quarter)) (not (eqb track 1 || eqb track 2)) (rw s at (sym answer-is ∙ e))
+  sound-not-3 s e = go (not (isPeriod (x .year) (x .quarter))) (not (eqb (x .track) 1 || eqb (x .track) 2)) (rw s at (sym answer-is ∙ e))
     where
       rest : List (Check (Read Tree))
-      rest = drop 3 (fileChecks sub track year quarter reg answerList)
+      rest = drop 3 (fileChecks x reg)
 
-      go : (p k : Bool) → cond p 1 (cond k 2 (first rest (document sub))) ≡ 3 → ⊥
+      go : (p k : Bool) → cond p 1 (cond k 2 (first rest (document (x .file)))) ≡ 3 → ⊥
       go true k h = omega arith
       go false true h = omega arith
-      go false false h = only 3 rest (document sub) (λ z. omega arith) refl h
+      go false false h = only 3 rest (document (x .file)) (λ z. omega arith) refl h

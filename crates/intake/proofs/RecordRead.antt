@@ -6,28 +6,31 @@ use mathlib.Core.List.{List, [], append-nil}
 use native.Mathlib.Omega.{arith}
 use lib.Dec.{eqb}
 use lib.ListN.{length, length-take, length-drop}
-use Rattle.rows.specs.Pack.{num}
-use Rattle.rows.specs.Row.{Key, keyFields, keyOf, keyNumber, rowNumber, KeyFits}
-use Rattle.rows.proofs.Table.{key-of}
 use Rattle.markup.specs.Elements.{Tree}
 use Rattle.markup.specs.View.{part}
+use Rattle.schema.specs.Shape.{faultOf}
+use Rattle.nodes.specs.declared.Six.{Six}
+use Rattle.schemas.specs.Track1.{track1}
+use Rattle.schemas.specs.Track2.{track2}
+use Rattle.rows.specs.Packing.{num, rowNumber}
 use Rattle.register.specs.Search as search
 use Rattle.register.proofs.Keys.{probe-key}
-use Rattle.schema.specs.Shape.{faultOf}
-use Rattle.tracks.specs.Track1.{track1}
-use Rattle.tracks.specs.Track2.{track2}
-use Rattle.tracks.specs.Record.{Record, admission, events, headOf, admissionOf, eventsOf, recordOf}
+use Rattle.home_care.specs.Row.{Key, keyFields, keyNumber, rowBytes, keyBits}
+use Rattle.home_care.specs.Fits.{keyWith, KeyFits}
+use Rattle.home_care.proofs.Table.{key-of}
+use Rattle.home_care.specs.Record.{Record, admission, events}
+use Rattle.home_care.specs.Anomalies.{Context}
+use Rattle.tracks.specs.Record.{headOf, admissionOf, allSaid, recordOf}
 use Rattle.tracks.specs.View.{eachOf, IsHead}
 use Rattle.tracks.specs.Top.{TopOf}
 use Rattle.tracks.specs.WellRead.{WellRead}
 use Rattle.tracks.specs.declared.record.HeadRead.{HeadRead}
 use Rattle.checks.specs.Flow.{headIn}
-use Rattle.checks.specs.Tests.{Context}
 use Rattle.checks.specs.Readable.{Readable}
 use Rattle.checks.proofs.WellReadable.{readable}
 use Rattle.judge.specs.View.{IsOf}
-use Rattle.nodes.specs.declared.Six.{Six}
-use Rattle.intake.specs.Taking.{Here, Took}
+use Rattle.intake.specs.Driving.{Took}
+use Rattle.intake.specs.Taking.{Here, siadDriver}
 
 -- ---- a record of either track
 
@@ -50,14 +53,14 @@ module _ (j k : ℕ) (e : eqb j 1 ≡ eqb k 1) (a : Tree) where
         tops = h .tops;
       }
 
-  pub same-took : {c : Context} {before later : List ℕ} {r : ℕ} → Took k c before a r later → Took j c before a r later
-  same-took t = record { answer = rw same-record (t .answer); register = rw same-record (t .register) }
+  pub same-took : (c : Context) {before later : List ℕ} {r : ℕ} → Took (siadDriver k c) before a r later → Took (siadDriver j c) before a r later
+  same-took c t = record { answer = rw same-record (t .answer); register = rw same-record (t .register) }
 
 pub record-1 : (a : Tree) → recordOf 1 a ≡ admission (headOf a) (admissionOf a)
 unfolding recordOf
 record-1 a = refl
 
-pub record-2 : (a : Tree) → recordOf 2 a ≡ events (headOf a) (eventsOf a)
+pub record-2 : (a : Tree) → recordOf 2 a ≡ events (headOf a) (allSaid a)
 unfolding recordOf
 record-2 a = refl
 
@@ -69,13 +72,13 @@ head-is : (k : ℕ) (a : Tree) → headIn (recordOf k a) ≡ headOf a
 unfolding recordOf
 head-is k a = go (eqb k 1)
   where
-    go : (b : Bool) → headIn (cond b (admission (headOf a) (admissionOf a)) (events (headOf a) (eventsOf a))) ≡ headOf a
+    go : (b : Bool) → headIn (cond b (admission (headOf a) (admissionOf a)) (events (headOf a) (allSaid a))) ≡ headOf a
     go true = refl
     go false = refl
 
 -- a packed key is found again in the row's first bits
-probe-is : (k : Key) (row : List ℕ) → KeyFits k → length row ≡ 91 → num row ≡ rowNumber 91 (keyFields k) → search.keyOf 91 662 row ≡ keyNumber k
-probe-is k row f l e = sym (probe-key 91 662 row l) ∙ key-of row 91 k [] f tt l (omega arith) (e ∙ ap (rowNumber 91) (sym (append-nil (keyFields k))))
+probe-is : (k : Key) (row : List ℕ) → KeyFits k → length row ≡ rowBytes → num row ≡ rowNumber rowBytes (keyFields k) → search.probeKey rowBytes keyBits row ≡ keyNumber k
+probe-is k row f l e = sym (probe-key rowBytes keyBits row l) ∙ key-of row rowBytes k [] f tt l (omega arith) (e ∙ ap (rowNumber rowBytes) (sym (append-nil (keyFields k))))
 
 -- a part that is as long as it was asked for lies within
 within : (s : List ℕ) (at n : ℕ) → 0 < n → length (part s at (at + n)) ≡ n → at + n ≤ length s
@@ -97,7 +100,7 @@ module _ (s : List ℕ) (top : Six) (r : HeadRead)
   id-within = within s (r .id) 88 (omega arith) (ap length (is-head .id) ∙ fits .id-length)
 
   module _ (asl id : List ℕ) (ea : asl ≡ part s (r .asl) (r .asl + 3)) (ei : id ≡ part s (r .id) (r .id + 88)) where
-    key-is : headOf a .key ≡ keyOf (r .region) asl (r .day) id
+    key-is : headOf a .key ≡ keyWith (r .region) asl (r .day) id
     key-is = λ i.
         record {
           region = sym (is-head .region) i;
@@ -106,10 +109,10 @@ module _ (s : List ℕ) (top : Six) (r : HeadRead)
           id = sym (ei ∙ is-head .id) i;
         }
 
-    pub key-fits : KeyFits (keyOf (r .region) asl (r .day) id)
+    pub key-fits : KeyFits (keyWith (r .region) asl (r .day) id)
     key-fits = subst KeyFits key-is fits
 
     -- the probe that the key was packed into, the type and the taking in are the record's
-    pub head-held : (probe : List ℕ) → length probe ≡ 91 → num probe ≡ rowNumber 91 (keyFields (keyOf (r .region) asl (r .day) id)) →
+    pub head-held : (probe : List ℕ) → length probe ≡ rowBytes → num probe ≡ rowNumber rowBytes (keyFields (keyWith (r .region) asl (r .day) id)) →
         IsOf probe (r .tipo) (r .day) (headOf a)
     head-held probe l e = record { key = probe-is _ probe key-fits l e ∙ sym (ap keyNumber key-is); tipo = is-head .tipo; taken = is-head .taken }

@@ -6,20 +6,23 @@ use mathlib.Core.List.{List}
 use native.Mathlib.Omega.{arith}
 use lib.ListN.{length}
 use borrow.Author.Tests.{eq-eqb, ne-eqb}
-use Rattle.rows.specs.Pack.{each, Fit}
+use Rattle.markup.specs.Elements.{Tree}
 use Rattle.model.specs.Checks.{first}
 use Rattle.model.specs.Flow.{State, machine}
-use Rattle.markup.specs.Elements.{Tree}
-use Rattle.register.specs.Layout.{siad}
-use Rattle.register.specs.Bytes.{rowAt, casesHeld, eventsHeld, stateOf, encode}
-use Rattle.register.specs.Sound.{isSound}
+use Rattle.rows.specs.Packing.{each, Fit}
+use Rattle.register.specs.Layout.{rowAt, casesHeld, eventsHeld}
+use Rattle.register.specs.State.{stateOf, encode}
 use Rattle.register.specs.Stored.{Stored}
+use Rattle.home_care.specs.Row.{siad}
+use Rattle.home_care.specs.Record.{Record}
+use Rattle.home_care.specs.Anomalies.{Context}
+use Rattle.tracks.specs.Record.{recordOf}
+use Rattle.soundness.specs.Sound.{isSound}
 use Rattle.soundness.proofs.Deciding.{sound-told}
-use Rattle.tracks.specs.Record.{Record, recordOf}
 use Rattle.checks.specs.Flow.{next}
-use Rattle.checks.specs.Tests.{Context}
 use Rattle.checks.specs.Checks.{checksOf, siadMachine}
-use Rattle.intake.specs.Taking.{Took}
+use Rattle.intake.specs.Driving.{Took}
+use Rattle.intake.specs.Taking.{siadDriver}
 use Rattle.intake.proofs.SoundBytes.{sound-stored}
 
 -- the rows of a sound register lie within it
@@ -35,7 +38,7 @@ module _ (k : ℕ) (a : Tree) (r : Record) (is : recordOf k a ≡ r) (c : Contex
   unfolding machine
   answer-is = rw is judged
 
-  pub discarded : (n ≡ 0 → ⊥) → Took k c before a n before
+  pub discarded : (n ≡ 0 → ⊥) → Took (siadDriver k c) before a n before
   unfolding machine
   discarded z =
       record {
@@ -43,7 +46,7 @@ module _ (k : ℕ) (a : Tree) (r : Record) (is : recordOf k a ≡ r) (c : Contex
         register = rw (is, ne-eqb (first (checksOf c r) s) 0 (λ q. z (judged ∙ q))) (sound-stored before f sound .bytes);
       }
 
-  pub accepted : (later : List ℕ) → n ≡ 0 → Stored siad later (next r s) → length later ≡ length before → Took k c before a n later
+  pub accepted : (later : List ℕ) → n ≡ 0 → Stored siad later (next r s) → length later ≡ length before → Took (siadDriver k c) before a n later
   unfolding machine
   accepted later z t l =
       record {

@@ -8,35 +8,39 @@ use native.Mathlib.Omega.{arith}
 use lib.Dec.{eqb}
 use lib.ListN.{length}
 use borrow.Author.Tests.{eqb-true}
-use Rattle.rows.specs.Pack.{each, Fit}
 use Rattle.markup.specs.Reading.Read.{read}
 use Rattle.markup.specs.Elements.{Tree}
 use Rattle.markup.specs.Document.{document}
-use Rattle.reading.specs.Within as within
-use Rattle.model.specs.Machine as machine
+use Rattle.reading.specs.Everywhere as within
+use Rattle.schema.specs.Shape.{recordsOf, fine, shapeOf}
+use Rattle.schemas.specs.Track1.{track1}
+use Rattle.schemas.specs.Track2.{track2}
+use Rattle.schemas.specs.Schemas.{schemaOf}
+use Rattle.model.specs.Log as machine
 use Rattle.model.specs.Machine.{Machine, run}
 use Rattle.model.specs.Flow as flows
 use Rattle.model.specs.Flow.{State}
 use Rattle.model.proofs.MachineLaws.{Every, run-keeps-ok, taken-zeros}
-use Rattle.register.specs.Layout.{siad}
-use Rattle.register.specs.Bytes.{room, stateOf, encode}
+use Rattle.rows.specs.Packing.{each, Fit}
+use Rattle.register.specs.Layout.{room}
+use Rattle.register.specs.State.{stateOf, encode}
 use Rattle.register.specs.Stored.{Stored}
-use Rattle.register.specs.Sound.{isSound}
-use Rattle.register.proofs.States.{laid-siad, cases-held, events-held}
-use Rattle.schema.specs.Shape.{recordsOf, fine, shapeOf}
-use Rattle.tracks.specs.Track1.{track1}
-use Rattle.tracks.specs.Track2.{track2}
-use Rattle.tracks.specs.Record.{Record, recordOf, schemaOf}
+use Rattle.register.proofs.States.{cases-held, events-held}
+use Rattle.home_care.specs.Row.{siad}
+use Rattle.home_care.proofs.Laid.{laid-siad}
+use Rattle.home_care.specs.Record.{Record}
+use Rattle.home_care.specs.Anomalies.{Context}
+use Rattle.tracks.specs.Record.{recordOf}
 use Rattle.tracks.specs.WellRead.{WellRead}
 use Rattle.tracks.proofs.WellRead.{file-read-1, file-read-2}
-use Rattle.checks.specs.Tests.{Context}
+use Rattle.soundness.specs.Sound.{isSound}
 use Rattle.checks.specs.Checks.{siadMachine}
 use Rattle.checks.specs.Readable.{Readable}
 use Rattle.checks.proofs.Accepted.{siad-discarded, siad-conserved}
 use Rattle.checks.proofs.Valid.{Sound, sound-state}
 use Rattle.checks.proofs.Kept.{kept}
 use Rattle.checks.proofs.WellReadable.{readable}
-use Rattle.intake.specs.Submitted.{Submitted, entriesOf, contextOf, submitted}
+use Rattle.intake.specs.Submitted.{Call, Submitted, entriesOf, contextOf, submitted}
 use Rattle.intake.specs.Order.{recordsIn}
 use Rattle.intake.specs.Demands.{Conserved}
 use Rattle.intake.proofs.Outcome.{Passed, Outcome, stopped, passed, outcome}
@@ -53,20 +57,20 @@ pub either : (a b : Bool) → a || b ≡ true → (a ≡ true) ⊎ (b ≡ true)
 either true b h = inl refl
 either false b h = inr h
 
-pub all-readable : (sub : List ℕ) (track : ℕ) (t : Tree) (l : List ℕ) (n : ℕ) → eqb track 1 || eqb track 2 ≡ true →
-    document sub ≡ read t l → shapeOf (schemaOf track) t ≡ fine n → Every Readable (recordsIn track sub)
-all-readable sub track t l n k d f =
-    rw d (⊎-elim (λ e. first-track (eqb-true track 1 e)) (λ e. second-track (eqb-true track 2 e)) (either (eqb track 1) (eqb track 2) k))
+pub all-readable : (x : Call) (t : Tree) (l : List ℕ) (n : ℕ) → eqb (x .track) 1 || eqb (x .track) 2 ≡ true →
+    document (x .file) ≡ read t l → shapeOf (schemaOf (x .track)) t ≡ fine n → Every Readable (recordsIn x)
+all-readable x t l n k d f =
+    rw d (⊎-elim (λ e. first-track (eqb-true (x .track) 1 e)) (λ e. second-track (eqb-true (x .track) 2 e)) (either (eqb (x .track) 1) (eqb (x .track) 2) k))
   where
-    first-track : track ≡ 1 → Every Readable (entriesOf track t)
+    first-track : x .track ≡ 1 → Every Readable (entriesOf (x .track) t)
     first-track e =
         subst (λ (j : ℕ). Every Readable (entriesOf j t)) (sym e)
-        (each-record 1 (recordsOf track1 t) (file-read-1 sub t l n d (subst (λ (j : ℕ). shapeOf (schemaOf j) t ≡ fine n) e f)))
+        (each-record 1 (recordsOf track1 t) (file-read-1 (x .file) t l n d (subst (λ (j : ℕ). shapeOf (schemaOf j) t ≡ fine n) e f)))
 
-    second-track : track ≡ 2 → Every Readable (entriesOf track t)
+    second-track : x .track ≡ 2 → Every Readable (entriesOf (x .track) t)
     second-track e =
         subst (λ (j : ℕ). Every Readable (entriesOf j t)) (sym e)
-        (each-record 2 (recordsOf track2 t) (file-read-2 sub t l n d (subst (λ (j : ℕ). shapeOf (schemaOf j) t ≡ fine n) e f)))
+        (each-record 2 (recordsOf track2 t) (file-read-2 (x .file) t l n d (subst (λ (j : ℕ). shapeOf (schemaOf j) t ≡ fine n) e f)))
 
 -- ---- a run of readable records keeps a state sound
 
@@ -85,24 +89,24 @@ discarded-keeps c n s r z = ap (encode siad n) (siad-discarded c .as-it-was s r 
 
 -- ---- one call
 
-module _ (sub : List ℕ) (track year quarter : ℕ) (reg answerList : List ℕ) (f : Fit (each 8 reg)) where
+module _ (x : Call) (reg : List ℕ) (f : Fit (each 8 reg)) where
   abbrev call : Submitted
-  call = submitted sub track year quarter reg answerList
+  call = submitted x reg
 
   abbrev m : Machine (State ℕ ℕ) Record
-  m = siadMachine (contextOf year quarter (length reg))
+  m = siadMachine (contextOf x (length reg))
 
   abbrev s : State ℕ ℕ
   s = stateOf siad reg
 
   abbrev t : State ℕ ℕ
-  t = run m s (recordsIn track sub)
+  t = run m s (recordsIn x)
 
-  module _ (p : Passed sub track year quarter reg answerList) where
+  module _ (p : Passed x reg) where
     left-sound : Sound (length reg) t
     left-sound =
-        run-kept (contextOf year quarter (length reg)) (length reg) refl s (recordsIn track sub) (sound-state reg f (p .sound))
-        (all-readable sub track (p .tree) (p .left) (p .records) (p .track-is) (p .markup) (p .shape))
+        run-kept (contextOf x (length reg)) (length reg) refl s (recordsIn x) (sound-state reg f (p .sound))
+        (all-readable x (p .tree) (p .left) (p .records) (p .track-is) (p .markup) (p .shape))
 
     register-is : call .register ≡ encode siad (length reg) t
     register-is = ap (λ (r : Submitted). r .register) (p .gives)
@@ -113,33 +117,33 @@ module _ (sub : List ℕ) (track year quarter : ℕ) (reg answerList : List ℕ)
 
   -- a register that is sound before a call is sound after it, of the same length, and bytes
   pub sound-kept : isSound reg ≡ true → isSound (call .register) ≡ true
-  sound-kept h = go (outcome sub track year quarter reg answerList)
+  sound-kept h = go (outcome x reg)
     where
-      go : Outcome sub track year quarter reg answerList → isSound (call .register) ≡ true
+      go : Outcome x reg → isSound (call .register) ≡ true
       go (stopped a n e _ _) = ap (λ (r : Submitted). isSound (r .register)) e ∙ h
       go (passed p) = ap isSound (register-is p) ∙ state-sound (length reg) (sound-long reg f h) t (left-sound p)
 
   pub length-kept : length (call .register) ≡ length reg
-  length-kept = go (outcome sub track year quarter reg answerList)
+  length-kept = go (outcome x reg)
     where
-      go : Outcome sub track year quarter reg answerList → length (call .register) ≡ length reg
+      go : Outcome x reg → length (call .register) ≡ length reg
       go (stopped a n e _ _) = ap (λ (r : Submitted). length (r .register)) e
       go (passed p) = ap length (register-is p) ∙ state-long (length reg) (sound-long reg f (p .sound)) t (left-sound p)
 
   pub bytes-kept : Fit (each 8 (call .register))
-  bytes-kept = go (outcome sub track year quarter reg answerList)
+  bytes-kept = go (outcome x reg)
     where
-      go : Outcome sub track year quarter reg answerList → Fit (each 8 (call .register))
+      go : Outcome x reg → Fit (each 8 (call .register))
       go (stopped a n e _ _) = subst (λ (r : Submitted). Fit (each 8 (r .register))) (sym e) f
       go (passed p) = subst (λ (b : List ℕ). Fit (each 8 b)) (sym (register-is p)) (encode-fit (length reg) t)
 
   -- "Conserved by each file"
-  pub file-conserved : call .answer ≡ 0 → Conserved sub track year quarter reg answerList call
+  pub file-conserved : call .answer ≡ 0 → Conserved x reg call
   file-conserved z =
-      let p = taken-passed sub track year quarter reg answerList z in
+      let p = taken-passed x reg z in
       let b = sound-stored reg f (p .sound) in
       let a = left-stored p in
-      let c = siad-conserved (contextOf year quarter (length reg)) s (recordsIn track sub) (b .good) in
+      let c = siad-conserved (contextOf x (length reg)) s (recordsIn x) (b .good) in
       record {
         cases =
             omega (arith, cases-held siad laid-siad (call .register) t a, cases-held siad laid-siad reg s b, c .cases);
@@ -150,16 +154,16 @@ module _ (sub : List ℕ) (track year quarter : ℕ) (reg answerList : List ℕ)
   -- where no record is accepted, every byte of the register is as it was
   pub none-accepted : call .accepted ≡ 0 → call .register ≡ reg
   unfolding run
-  none-accepted z = go (outcome sub track year quarter reg answerList)
+  none-accepted z = go (outcome x reg)
     where
       nil : (rs : List Record) → length rs ≡ 0 → rs ≡ []
       nil [] e = refl
       nil (r ∷ rs) e = absurd (omega arith)
 
-      go : Outcome sub track year quarter reg answerList → call .register ≡ reg
+      go : Outcome x reg → call .register ≡ reg
       go (stopped a n e _ _) = ap (λ (r : Submitted). r .register) e
       go (passed p) =
-          let rs : List Record = recordsIn track sub in
-          let none : machine.taken m s rs ≡ [] = nil (machine.taken m s rs) (taken-zeros m s rs ∙ sym (ap (λ (r : Submitted). r .accepted) (p .gives)) ∙ z) in
-          let same : t ≡ s = sym (siad-discarded (contextOf year quarter (length reg)) .without s rs) ∙ ap (run m s) none in
+          let rs : List Record = recordsIn x in
+          let none : machine.acceptedBy m s rs ≡ [] = nil (machine.acceptedBy m s rs) (taken-zeros m s rs ∙ sym (ap (λ (r : Submitted). r .accepted) (p .gives)) ∙ z) in
+          let same : t ≡ s = sym (siad-discarded (contextOf x (length reg)) .without s rs) ∙ ap (run m s) none in
           register-is p ∙ ap (encode siad (length reg)) same ∙ sym (sound-stored reg f (p .sound) .bytes)

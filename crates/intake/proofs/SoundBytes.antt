@@ -8,18 +8,22 @@ use lib.Dec.{leb}
 use lib.ListN.{length, replicate, length-replicate}
 use borrow.Author.Tests.{le-leb}
 use Rattle.laws.specs.Lists.{all}
-use Rattle.rows.specs.Pack.{each, digits, Fit}
-use Rattle.rows.proofs.Packing.{fit-append}
-use Rattle.rows.proofs.Bytes.{each-append, digits-fit}
+use Rattle.laws.proofs.Every.{and-tell}
 use Rattle.model.specs.Map.{Map}
 use Rattle.model.specs.Flow.{State, empty}
-use Rattle.register.specs.Layout.{siad, caseRest, eventRest}
-use Rattle.register.specs.Bytes.{rowNumber, room, stateOf, rowsBytes, used, encode}
+use Rattle.rows.specs.Packing.{each, digits, Fit}
+use Rattle.rows.proofs.Packing.{fit-append}
+use Rattle.rows.proofs.Bytes.{each-append, digits-fit}
+use Rattle.register.specs.Layout.{caseRest, eventRest, room}
+use Rattle.register.specs.State.{unsplit, stateOf, rowsBytes, used, encode}
 use Rattle.register.specs.Stored.{Stored, Fits}
-use Rattle.register.specs.Sound.{valid, siadRules, ascending, isSound}
-use Rattle.register.proofs.States.{laid-siad, room-holds, encode-length, state-encode, stored-empty}
-use Rattle.register.proofs.Every.{and-tell}
-use Rattle.register.proofs.SoundLaws.{sound-of, sound-is-stored}
+use Rattle.register.specs.Sound.{valid, ascending}
+use Rattle.register.proofs.States.{room-holds, encode-length, state-encode, stored-empty}
+use Rattle.register.proofs.SoundLaws.{sound-of}
+use Rattle.home_care.specs.Row.{siad}
+use Rattle.home_care.proofs.Laid.{laid-siad}
+use Rattle.soundness.specs.Sound.{siadRules, isSound}
+use Rattle.soundness.proofs.SoundLaws.{sound-is-stored}
 use Rattle.checks.proofs.Valid.{Sound, Parts, parts-of}
 
 -- ---- from the bytes to the state
@@ -44,7 +48,7 @@ join a b f g = rw (each-append 8 a b) (fit-append (each 8 a) (each 8 b) f g)
 rows-fit : (w : ℕ) (m : Map ℕ) → Fit (each 8 (rowsBytes siad w m))
 unfolding rowsBytes
 rows-fit w [] = tt
-rows-fit w (r ∷ m) = join (digits (siad .bytes) (rowNumber w r)) (rowsBytes siad w m) (digits-fit (siad .bytes) (rowNumber w r)) (rows-fit w m)
+rows-fit w (r ∷ m) = join (digits (siad .bytes) (unsplit w r)) (rowsBytes siad w m) (digits-fit (siad .bytes) (unsplit w r)) (rows-fit w m)
 
 -- the bytes of a state are bytes
 pub encode-fit : (n : ℕ) (s : State ℕ ℕ) → Fit (each 8 (encode siad n s))

@@ -12,18 +12,19 @@ use Rattle.days.specs.declared.quarters.Quarter.{Quarter}
 use Rattle.days.specs.declared.quarters.Quarter.the-variants as quarters
 use Rattle.markup.specs.Reading.{Read, then}
 use Rattle.markup.specs.Reading.Read.{refused, read}
-use Rattle.markup.specs.Elements.{Tree, element}
-use Rattle.markup.specs.Document.{depth, document, inMarkup}
-use Rattle.reading.specs.Within.{Every}
+use Rattle.markup.specs.Elements.{Tree, element, depth}
+use Rattle.markup.specs.Document.{document, inMarkup}
+use Rattle.reading.specs.Everywhere.{Every}
 use Rattle.reading.proofs.Cut.{never}
-use Rattle.register.specs.Bytes.{room}
-use Rattle.register.specs.Layout.{siad}
-use Rattle.register.specs.Sound.{isSound}
 use Rattle.schema.specs.Shape.{Shape, fine, faulty, recordsOf, shapeOf}
 use Rattle.schema.specs.Counted.{good, bad, over, heldBy}
-use Rattle.tracks.specs.Record.{recordOf, schemaOf, crowdedIn}
-use Rattle.intake.specs.Submitted.{Submitted, longest, entriesOf, contextOf, refusal, taken, ofShape, byShape, byMarkup, submitted}
-use Rattle.intake.specs.Taking.{Good}
+use Rattle.schemas.specs.Schemas.{schemaOf}
+use Rattle.register.specs.Layout.{room}
+use Rattle.home_care.specs.Row.{siad}
+use Rattle.tracks.specs.Record.{recordOf, crowdedIn}
+use Rattle.soundness.specs.Sound.{isSound}
+use Rattle.intake.specs.Submitted.{Call, Submitted, longest, entriesOf, contextOf, refusal, takenFile, ofShape, byShape, byMarkup, submitted}
+use Rattle.intake.specs.Taking.{GoodRecord}
 use Rattle.intake.specs.Kids.{Whole, uncounted}
 use Rattle.intake.specs.View.{Says}
 use Rattle.intake.specs.declared.Report.{Report}
@@ -50,8 +51,9 @@ a-period y q {a} {b} e = go (isPeriod y q) refl
     go false p = let w = quarter-cases y q false p e in never cc
 
 -- the context that the code judges in
-pub context-is : (y q n : ℕ) {a b r : ℕ} → a ≡ firstDay y q → b ≡ lastDay y q → r ≡ room siad n → record { first = a; last = b; room = r } ≡ contextOf y q n
-context-is y q n e f g = rw (e, f, g)
+pub context-is : (x : Call) (n : ℕ) {a b r : ℕ} → a ≡ firstDay (x .year) (x .quarter) → b ≡ lastDay (x .year) (x .quarter) → r ≡ room siad n →
+    record { first = a; last = b; room = r } ≡ contextOf x n
+context-is x n e f g = rw (e, f, g)
 
 -- 5: the root stands at the place
 pub record Rooted (s : List ℕ) (root : ℕ) : Type 0 where
@@ -93,86 +95,91 @@ held-good (fine m) k {n} e = go (eqb k 0) refl e
     go false q e = never cc
 held-good (faulty i z) k e = never cc
 
+-- a file that passed 1 to 7: its records are good, and as many as were counted
+module _ (track : ℕ) {s : List ℕ} {root n : ℕ} (o : Rooted s root) (k : eqb track 1 || eqb track 2 ≡ true)
+    (h : good n ≡ heldBy (shapeOf (schemaOf track) (o .tree)) (crowdedIn track (o .tree))) where
+  fine-few : (shapeOf (schemaOf track) (o .tree) ≡ fine n) × (crowdedIn track (o .tree) ≡ 0)
+  fine-few = held-good (shapeOf (schemaOf track) (o .tree)) (crowdedIn track (o .tree)) h
+
+  sure : Every (GoodRecord track) (recordsOf (schemaOf track) (o .tree)) × (n ≡ length (recordsOf (schemaOf track) (o .tree)))
+  sure = all-good s (o .tree) [] n (o .whole) track k (fine-few .0) (fine-few .1)
+
+  as-many : length (entriesOf track (o .tree)) ≡ n
+  as-many = length-map (recordsOf (schemaOf track) (o .tree)) (recordOf track) ∙ sym (sure .1)
+
+  pub whole-file : {long : ℕ} → n ≤ long → Whole track s root n long (o .tree)
+  whole-file q = record { after = o .after; reads = o .reads; good = sure .0; count = sure .1; fits = q }
+
 -- ---- what the call gives
 
-module _ (sub : List ℕ) (track year quarter : ℕ) (reg list : List ℕ) where
+module _ (x : Call) (reg : List ℕ) where
   abbrev refuse : ℕ → ℕ → Submitted
-  refuse a n = refusal sub track year quarter reg list a n
+  refuse a n = refusal x reg a n
 
   abbrev call : Submitted
-  call = submitted sub track year quarter reg list
+  call = submitted x reg
 
   abbrev from5 : Submitted
-  from5 = byMarkup sub track year quarter reg list (document sub)
+  from5 = byMarkup x reg (document (x .file))
 
   -- a refusal, as the code reports it
-  says : {v : Submitted} {r : Report} (a n : ℕ) → v ≡ refuse a n → r ≡ uncounted a n → Says v r reg list
+  says : {v : Submitted} {r : Report} (a n : ℕ) → v ≡ refuse a n → r ≡ uncounted a n → Says v r reg (x .answerList)
   says a n e f = rw (e, f) (record { answer = refl; number = refl; records = refl; accepted = refl; discarded = refl; register = refl; answers = refl })
 
-  pub says-1 : {r : Report} → isPeriod year quarter ≡ false → r ≡ uncounted 1 0 → Says call r reg list
+  pub says-1 : {r : Report} → isPeriod (x .year) (x .quarter) ≡ false → r ≡ uncounted 1 0 → Says call r reg (x .answerList)
   unfolding submitted
   says-1 p e = says 1 0 (rw p) e
 
-  module _ (p : isPeriod year quarter ≡ true) where
-    pub says-2 : {r : Report} → eqb track 1 || eqb track 2 ≡ false → r ≡ uncounted 2 0 → Says call r reg list
+  module _ (p : isPeriod (x .year) (x .quarter) ≡ true) where
+    pub says-2 : {r : Report} → eqb (x .track) 1 || eqb (x .track) 2 ≡ false → r ≡ uncounted 2 0 → Says call r reg (x .answerList)
     unfolding submitted
     says-2 k e = says 2 0 (rw (p, k)) e
 
-    module _ (k : eqb track 1 || eqb track 2 ≡ true) where
-      pub says-3 : {r : Report} → isSound reg ≡ false → r ≡ uncounted 3 0 → Says call r reg list
+    module _ (k : eqb (x .track) 1 || eqb (x .track) 2 ≡ true) where
+      pub says-3 : {r : Report} → isSound reg ≡ false → r ≡ uncounted 3 0 → Says call r reg (x .answerList)
       unfolding submitted
       says-3 s e = says 3 0 (rw (p, k, s)) e
 
       module _ (s : isSound reg ≡ true) where
-        pub says-4 : {r : Report} → longest < length sub → r ≡ uncounted 4 0 → Says call r reg list
+        pub says-4 : {r : Report} → longest < length (x .file) → r ≡ uncounted 4 0 → Says call r reg (x .answerList)
         unfolding submitted
-        says-4 h e = says 4 0 (rw (p, k, s, lt-ltb longest (length sub) h)) e
+        says-4 h e = says 4 0 (rw (p, k, s, lt-ltb longest (length (x .file)) h)) e
 
-        pub says-on : {r : Report} {later told : List ℕ} → length sub ≤ longest → Says from5 r later told → Says call r later told
+        pub says-on : {r : Report} {later told : List ℕ} → length (x .file) ≤ longest → Says from5 r later told → Says call r later told
         unfolding submitted
-        says-on h e = rw (p, k, s, le-ltb longest (length sub) h) e
+        says-on h e = rw (p, k, s, le-ltb longest (length (x .file)) h) e
 
-  pub says-5 : {r : Report} → refused ≡ document sub → r ≡ uncounted 5 0 → Says from5 r reg list
+  pub says-5 : {r : Report} → refused ≡ document (x .file) → r ≡ uncounted 5 0 → Says from5 r reg (x .answerList)
   says-5 d e = says 5 0 (rw (← d)) e
 
-  module _ {root : ℕ} (o : Rooted sub root) where
+  module _ {root : ℕ} (o : Rooted (x .file) root) where
     abbrev t : Tree
     t = o .tree
 
     abbrev f : Shape
-    f = shapeOf (schemaOf track) t
+    f = shapeOf (schemaOf (x .track)) t
 
-    shape-is : from5 ≡ byShape sub track year quarter reg list t f
-    shape-is = ap (byMarkup sub track year quarter reg list) (o .whole)
+    shape-is : from5 ≡ byShape x reg t f
+    shape-is = ap (byMarkup x reg) (o .whole)
 
-    pub says-6 : {i z : ℕ} {r : Report} → bad i z ≡ heldBy f (crowdedIn track t) → r ≡ uncounted 6 i → Says from5 r reg list
-    says-6 {i} h e = says 6 i (shape-is ∙ ap (byShape sub track year quarter reg list t) (held-bad f (crowdedIn track t) h)) e
+    pub says-6 : {i z : ℕ} {r : Report} → bad i z ≡ heldBy f (crowdedIn (x .track) t) → r ≡ uncounted 6 i → Says from5 r reg (x .answerList)
+    says-6 {i} h e = says 6 i (shape-is ∙ ap (byShape x reg t) (held-bad f (crowdedIn (x .track) t) h)) e
 
-    pub says-7 : {k : ℕ} {r : Report} → over k ≡ heldBy f (crowdedIn track t) → r ≡ uncounted 7 k → Says from5 r reg list
+    pub says-7 : {k : ℕ} {r : Report} → over k ≡ heldBy f (crowdedIn (x .track) t) → r ≡ uncounted 7 k → Says from5 r reg (x .answerList)
     says-7 {k} h e =
-        let w = held-over f (crowdedIn track t) h in
-        let g : ofShape sub track year quarter reg list t ≡ refuse 7 k = rw (w .2, w .3) in
-        says 7 k (shape-is ∙ ap (byShape sub track year quarter reg list t) (w .1) ∙ g) e
+        let w = held-over f (crowdedIn (x .track) t) h in
+        let g : ofShape x reg t ≡ refuse 7 k = rw (w .2, w .3) in
+        says 7 k (shape-is ∙ ap (byShape x reg t) (w .1) ∙ g) e
 
-    module _ {n : ℕ} (k : eqb track 1 || eqb track 2 ≡ true) (h : good n ≡ heldBy f (crowdedIn track t)) where
-      fine-is : from5 ≡ ofShape sub track year quarter reg list t
-      fine-is = shape-is ∙ ap (byShape sub track year quarter reg list t) (held-good f (crowdedIn track t) h .0)
+    module _ {n : ℕ} (k : eqb (x .track) 1 || eqb (x .track) 2 ≡ true) (h : good n ≡ heldBy f (crowdedIn (x .track) t)) where
+      fine-is : from5 ≡ ofShape x reg t
+      fine-is = shape-is ∙ ap (byShape x reg t) (fine-few (x .track) o k h .0)
 
-      few : crowdedIn track t ≡ 0
-      few = held-good f (crowdedIn track t) h .1
+      few : crowdedIn (x .track) t ≡ 0
+      few = fine-few (x .track) o k h .1
 
-      sure : Every (Good track) (recordsOf (schemaOf track) t) × (n ≡ length (recordsOf (schemaOf track) t))
-      sure = all-good sub t [] n (o .whole) track k (held-good f (crowdedIn track t) h .0) few
+      pub says-8 : {r : Report} → length (x .answerList) < n → r ≡ uncounted 8 0 → Says from5 r reg (x .answerList)
+      says-8 q e = says 8 0 (fine-is ∙ rw (few, lt-ltb (length (x .answerList)) (length (entriesOf (x .track) t)) (rw (as-many (x .track) o k h) q))) e
 
-      as-many : length (entriesOf track t) ≡ n
-      as-many = length-map (recordsOf (schemaOf track) t) (recordOf track) ∙ sym (sure .1)
-
-      pub says-8 : {r : Report} → length list < n → r ≡ uncounted 8 0 → Says from5 r reg list
-      says-8 q e = says 8 0 (fine-is ∙ rw (few, lt-ltb (length list) (length (entriesOf track t)) (rw as-many q))) e
-
-      module _ (q : n ≤ length list) where
-        pub whole-file : Whole track sub root n (length list) t
-        whole-file = record { after = o .after; reads = o .reads; good = sure .0; count = sure .1; fits = q }
-
-        pub says-0 : {r : Report} {later told : List ℕ} → Says (taken sub track year quarter reg list (entriesOf track t)) r later told → Says from5 r later told
-        says-0 e = rw (fine-is, few, le-ltb (length list) (length (entriesOf track t)) (rw as-many q)) e
+      pub says-0 : {r : Report} {later told : List ℕ} → n ≤ length (x .answerList) → Says (takenFile x reg (entriesOf (x .track) t)) r later told → Says from5 r later told
+      says-0 q e = rw (fine-is, few, le-ltb (length (x .answerList)) (length (entriesOf (x .track) t)) (rw (as-many (x .track) o k h) q)) e

@@ -9,11 +9,13 @@ use Rattle.markup.specs.Reading.{Read}
 use Rattle.markup.specs.Reading.Read.{refused, read}
 use Rattle.markup.specs.Elements.{Tree}
 use Rattle.markup.specs.Document.{document}
-use Rattle.model.specs.Checks.{Check, check}
-use Rattle.register.specs.Sound.{isSound}
 use Rattle.schema.specs.Shape.{Shape, fine, faulty, shapeOf}
-use Rattle.tracks.specs.Record.{Record, schemaOf, crowdedIn}
-use Rattle.intake.specs.Submitted.{longest, entriesOf}
+use Rattle.model.specs.Checks.{Check, check}
+use Rattle.home_care.specs.Record.{Record}
+use Rattle.schemas.specs.Schemas.{schemaOf}
+use Rattle.tracks.specs.Record.{crowdedIn}
+use Rattle.soundness.specs.Sound.{isSound}
+use Rattle.intake.specs.Submitted.{Call, longest, entriesOf}
 
 -- "not in the markup above"
 abbrev pub isRefused : Read Tree → Bool
@@ -35,18 +37,18 @@ abbrev pub recordsRead : ℕ → Read Tree → List Record
 recordsRead track refused = []
 recordsRead track (read t l) = entriesOf track t
 
-abbrev pub recordsIn : ℕ → List ℕ → List Record
-recordsIn track sub = recordsRead track (document sub)
+abbrev pub recordsIn : Call → List Record
+recordsIn x = recordsRead (x .track) (document (x .file))
 
-module _ (sub : List ℕ) (track year quarter : ℕ) (reg answerList : List ℕ) where
+module _ (x : Call) (reg : List ℕ) where
   abbrev pub fileChecks : List (Check (Read Tree))
   fileChecks =
-      check 1 (λ d. not (isPeriod year quarter)) ∷
-      check 2 (λ d. not (eqb track 1 || eqb track 2)) ∷
+      check 1 (λ d. not (isPeriod (x .year) (x .quarter))) ∷
+      check 2 (λ d. not (eqb (x .track) 1 || eqb (x .track) 2)) ∷
       check 3 (λ d. not (isSound reg)) ∷
-      check 4 (λ d. ltb longest (length sub)) ∷
+      check 4 (λ d. ltb longest (length (x .file))) ∷
       check 5 isRefused ∷
-      check 6 (ofTree (λ t. isFaulty (shapeOf (schemaOf track) t))) ∷
-      check 7 (ofTree (λ t. not (eqb (crowdedIn track t) 0))) ∷
-      check 8 (ofTree (λ t. ltb (length answerList) (length (entriesOf track t)))) ∷
+      check 6 (ofTree (λ t. isFaulty (shapeOf (schemaOf (x .track)) t))) ∷
+      check 7 (ofTree (λ t. not (eqb (crowdedIn (x .track) t) 0))) ∷
+      check 8 (ofTree (λ t. ltb (length (x .answerList)) (length (entriesOf (x .track) t)))) ∷
       []

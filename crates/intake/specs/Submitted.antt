@@ -9,14 +9,30 @@ use Rattle.markup.specs.Reading.{Read}
 use Rattle.markup.specs.Reading.Read.{refused, read}
 use Rattle.markup.specs.Elements.{Tree}
 use Rattle.markup.specs.Document.{document}
-use Rattle.model.specs.Machine.{run, answers, zeros, others}
-use Rattle.register.specs.Layout.{siad}
-use Rattle.register.specs.Bytes.{room, stateOf, encode}
-use Rattle.register.specs.Sound.{isSound}
 use Rattle.schema.specs.Shape.{Shape, fine, faulty, shapeOf, recordsOf}
-use Rattle.tracks.specs.Record.{Record, recordOf, schemaOf, crowdedIn}
-use Rattle.checks.specs.Tests.{Context}
+use Rattle.schemas.specs.Schemas.{schemaOf}
+use Rattle.model.specs.Machine.{run, answers, zeros, others}
+use Rattle.register.specs.Layout.{room}
+use Rattle.register.specs.State.{stateOf, encode}
+use Rattle.home_care.specs.Row.{siad}
+use Rattle.home_care.specs.Record.{Record}
+use Rattle.home_care.specs.Anomalies.{Context}
+use Rattle.tracks.specs.Record.{recordOf, crowdedIn}
+use Rattle.soundness.specs.Sound.{isSound}
 use Rattle.checks.specs.Checks.{siadMachine}
+
+-- what a call is given besides the register
+pub record Call : Type 0 where
+  pub file : List ℕ
+  pub track : ℕ
+  pub year : ℕ
+  pub quarter : ℕ
+  pub answerList : List ℕ
+
+-- the call of these values
+abbrev pub callOf : List ℕ → ℕ → ℕ → ℕ → List ℕ → Call
+callOf file track year quarter answerList =
+    record { file = file; track = track; year = year; quarter = quarter; answerList = answerList }
 
 -- what a call gives: the file's answer, the record number, the counts, and the lent bytes afterwards
 pub record Submitted : Type 0 where
@@ -36,20 +52,22 @@ longest = 1048576
 abbrev pub entriesOf : ℕ → Tree → List Record
 entriesOf track t = map (recordOf track) (recordsOf (schemaOf track) t)
 
-abbrev pub contextOf : ℕ → ℕ → ℕ → Context
-contextOf year quarter n = record { first = firstDay year quarter; last = lastDay year quarter; room = room siad n }
+-- the quarter of a call, and the room of a register of n bytes
+abbrev pub contextOf : Call → ℕ → Context
+contextOf x n = record { first = firstDay (x .year) (x .quarter); last = lastDay (x .year) (x .quarter); room = room siad n }
 
-module _ (sub : List ℕ) (track year quarter : ℕ) (reg answerList : List ℕ) where
+-- of a call x, and the register before it
+module _ (x : Call) (reg : List ℕ) where
   -- "Answers 1 to 8 report all counts 0 and change no lent byte"
   abbrev pub refusal : ℕ → ℕ → Submitted
   refusal answer number =
-      record { answer = answer; number = number; records = 0; accepted = 0; discarded = 0; register = reg; answers = answerList }
+      record { answer = answer; number = number; records = 0; accepted = 0; discarded = 0; register = reg; answers = x .answerList }
 
   -- "Records are applied in file order, each judged against the register that the earlier ones left"; "byte i of the answer list is record i's answer; later
   -- bytes stay"
-  abbrev pub taken : List Record → Submitted
-  taken rs =
-      let m = siadMachine (contextOf year quarter (length reg)) in
+  abbrev pub takenFile : List Record → Submitted
+  takenFile rs =
+      let m = siadMachine (contextOf x (length reg)) in
       let ns = answers m (stateOf siad reg) rs in
       record {
         answer = 0;
@@ -58,14 +76,14 @@ module _ (sub : List ℕ) (track year quarter : ℕ) (reg answerList : List ℕ)
         accepted = zeros ns;
         discarded = others ns;
         register = encode siad (length reg) (run m (stateOf siad reg) rs);
-        answers = ns ++ drop (length rs) answerList;
+        answers = ns ++ drop (length rs) (x .answerList);
       }
 
   -- 7, 8, 0
   abbrev pub ofShape : Tree → Submitted
   ofShape t =
-      cond (not (eqb (crowdedIn track t) 0)) (refusal 7 (crowdedIn track t))
-      (cond (ltb (length answerList) (length (entriesOf track t))) (refusal 8 0) (taken (entriesOf track t)))
+      cond (not (eqb (crowdedIn (x .track) t) 0)) (refusal 7 (crowdedIn (x .track) t))
+      (cond (ltb (length (x .answerList)) (length (entriesOf (x .track) t))) (refusal 8 0) (takenFile (entriesOf (x .track) t)))
 
   -- 6
   abbrev pub byShape : Tree → Shape → Submitted
@@ -75,12 +93,12 @@ module _ (sub : List ℕ) (track year quarter : ℕ) (reg answerList : List ℕ)
   -- 5
   abbrev pub byMarkup : Read Tree → Submitted
   byMarkup refused = refusal 5 0
-  byMarkup (read t l) = byShape t (shapeOf (schemaOf track) t)
+  byMarkup (read t l) = byShape t (shapeOf (schemaOf (x .track)) t)
 
   unfoldable pub submitted : Submitted
   submitted =
-      cond (not (isPeriod year quarter)) (refusal 1 0)
-      (cond (not (eqb track 1 || eqb track 2)) (refusal 2 0)
+      cond (not (isPeriod (x .year) (x .quarter))) (refusal 1 0)
+      (cond (not (eqb (x .track) 1 || eqb (x .track) 2)) (refusal 2 0)
       (cond (not (isSound reg)) (refusal 3 0)
-      (cond (ltb longest (length sub)) (refusal 4 0)
-      (byMarkup (document sub)))))
+      (cond (ltb longest (length (x .file))) (refusal 4 0)
+      (byMarkup (document (x .file))))))

@@ -4,25 +4,26 @@ ghost use mathlib.Core.Bool.{true};
 ghost use lib.ListN.{length};
 ghost use Rattle.days.specs.Table.{Firsts};
 ghost use Rattle.markup.specs.Elements.{Tree};
-ghost use Rattle.register.specs.Bytes.{room};
-ghost use Rattle.register.specs.Layout.{siad};
-ghost use Rattle.register.specs.Sound.{isSound};
+ghost use Rattle.register.specs.Layout.{room};
+ghost use Rattle.home_care.specs.Row.{siad};
+ghost use Rattle.soundness.specs.Sound.{isSound};
 ghost use Rattle.judge.specs.View.{contextIn};
-ghost use Rattle.intake.specs.Taking.{Here, Took};
+ghost use Rattle.intake.specs.Driving.{Took};
+ghost use Rattle.intake.specs.Taking.{Here, siadDriver};
 use apply::apply_case;
+use home_care::layout::ROW;
+use home_care::pack::pack_key;
 use judge::Limits;
 use judge::judge::judge_admission;
 use markup::bytes::part;
 use nodes::Six;
-use register::layout::ROW;
-use rows::pack::pack_key;
 use tracks::record::admission;
 use tracks::record::head;
 
 // The record of Track 1 whose children are at hand: its answer.
 pub fn take_admission(t: &[u32; 2400], l: Limits, s: &[u8], top: Six, reg: &mut [u8]) -> u8
     requires { ⌜ Firsts (now t) × ((a : Tree) × Here 1 (now s) top a) × (isSound (now reg) ≡ true) × (l .room ≡ room siad (length (now reg))) ⌝ }
-    ensures { λ r. ⌜ ((a : Tree) → Here 1 (now (s .entry)) top a → Took 1 (contextIn l) (now (reg .entry)) a r (now (reg .exit))) ⌝ }
+    ensures { λ r. ⌜ ((a : Tree) → Here 1 (now (s .entry)) top a → Took (siadDriver 1 (contextIn l)) (now (reg .entry)) a r (now (reg .exit))) ⌝ }
 {
     let h = head(t, s, top);
     let a = admission(s, top);

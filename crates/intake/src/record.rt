@@ -3,11 +3,12 @@ ghost use mathlib.Core.Path.{_≡_};
 ghost use mathlib.Core.Bool.{true};
 ghost use lib.ListN.{length};
 ghost use Rattle.markup.specs.Elements.{Tree};
-ghost use Rattle.register.specs.Bytes.{room};
-ghost use Rattle.register.specs.Layout.{siad};
-ghost use Rattle.register.specs.Sound.{isSound};
+ghost use Rattle.register.specs.Layout.{room};
+ghost use Rattle.home_care.specs.Row.{siad};
+ghost use Rattle.soundness.specs.Sound.{isSound};
 ghost use Rattle.judge.specs.View.{contextIn};
-ghost use Rattle.intake.specs.Taking.{Here, Took};
+ghost use Rattle.intake.specs.Driving.{Took};
+ghost use Rattle.intake.specs.Taking.{Here, siadDriver};
 use crate::admission::take_admission;
 use crate::events::take_events;
 use days::table::make;
@@ -18,7 +19,7 @@ use nodes::Six;
 // have the stack to themselves.
 pub fn take_record(l: Limits, track: u64, s: &[u8], top: Six, reg: &mut [u8]) -> u8
     requires { ⌜ ((a : Tree) × Here track (now s) top a) × (isSound (now reg) ≡ true) × (l .room ≡ room siad (length (now reg))) ⌝ }
-    ensures { λ r. ⌜ ((a : Tree) → Here track (now (s .entry)) top a → Took track (contextIn l) (now (reg .entry)) a r (now (reg .exit))) ⌝ }
+    ensures { λ r. ⌜ ((a : Tree) → Here track (now (s .entry)) top a → Took (siadDriver track (contextIn l)) (now (reg .entry)) a r (now (reg .exit))) ⌝ }
 {
     let t = make();
     if track == 1 {

@@ -2,19 +2,19 @@
 ghost use mathlib.Core.Path.{_≡_};
 ghost use mathlib.Core.Bool.{true};
 ghost use lib.ListN.{length, drop};
-ghost use Rattle.markup.specs.Elements.{Inside, Tree};
+ghost use Rattle.markup.specs.Elements.{Inside, Tree, kids};
 ghost use Rattle.markup.specs.View.{part};
 ghost use Rattle.reading.specs.Many.{belowRoot};
-ghost use Rattle.reading.specs.Within.{kids};
-ghost use Rattle.nodes.specs.Stands.{Holds};
-ghost use Rattle.register.specs.Bytes.{room};
-ghost use Rattle.register.specs.Layout.{siad};
-ghost use Rattle.register.specs.Sound.{isSound};
 ghost use Rattle.schema.specs.Shape.{namedIn, recordsOf};
-ghost use Rattle.tracks.specs.Record.{schemaOf};
+ghost use Rattle.nodes.specs.Stands.{Holds};
+ghost use Rattle.schemas.specs.Schemas.{schemaOf};
+ghost use Rattle.register.specs.Layout.{room};
+ghost use Rattle.home_care.specs.Row.{siad};
+ghost use Rattle.soundness.specs.Sound.{isSound};
 ghost use Rattle.judge.specs.View.{contextIn};
-ghost use Rattle.intake.specs.Taking.{TookAll};
-ghost use Rattle.intake.specs.Kids.{assistenza, Next, TookKid, Stretch, Whole};
+ghost use Rattle.intake.specs.Driving.{TookAll, TookKid, Stretch};
+ghost use Rattle.intake.specs.Taking.{assistenza, siadDriver};
+ghost use Rattle.intake.specs.Kids.{Next, Whole};
 use crate::record::take_record;
 use judge::Limits;
 use markup::Ending;
@@ -46,7 +46,7 @@ fn take_kid(
     answers: &mut [u8],
 ) -> Tally
     requires { ⌜ ((a : Tree) × Next track (now s) at top before (length (now answers)) a) × (isSound (now reg) ≡ true) × (l .room ≡ room siad (length (now reg))) ⌝ }
-    ensures { λ r. ⌜ ((a : Tree) → Next track (now (s .entry)) at top before (length (now (answers .entry))) a → TookKid track (contextIn l) before (now (reg .entry)) (now (answers .entry)) a r (now (reg .exit)) (now (answers .exit))) ⌝ }
+    ensures { λ r. ⌜ ((a : Tree) → Next track (now (s .entry)) at top before (length (now (answers .entry))) a → TookKid (siadDriver track (contextIn l)) before (now (reg .entry)) (now (answers .entry)) a r (now (reg .exit)) (now (answers .exit))) ⌝ }
 {
     if !is_named(s, at, b"Assistenza") {
         return before;
@@ -77,8 +77,8 @@ fn take_all(
     reg: &mut [u8],
     answers: &mut [u8],
 ) -> usize
-    requires { ⌜ ((i : Inside) × Stretch track (part (now s) name «name_end») (drop from (now s)) (length (now answers)) i) × (isSound (now reg) ≡ true) × (l .room ≡ room siad (length (now reg))) ⌝ }
-    ensures { λ r. ⌜ ((i : Inside) → Holds belowRoot (part (now (s .entry)) name «name_end») (drop from (now (s .entry))) i → TookAll track (contextIn l) (now (reg .entry)) (now (answers .entry)) (namedIn assistenza (kids i)) r (now (reg .exit)) (now (answers .exit))) ⌝ }
+    requires { ⌜ ((i : Inside) × Stretch (siadDriver track (contextIn l)) (part (now s) name «name_end») (drop from (now s)) (length (now answers)) i) × (isSound (now reg) ≡ true) × (l .room ≡ room siad (length (now reg))) ⌝ }
+    ensures { λ r. ⌜ ((i : Inside) → Holds belowRoot (part (now (s .entry)) name «name_end») (drop from (now (s .entry))) i → TookAll (siadDriver track (contextIn l)) (now (reg .entry)) (now (answers .entry)) (namedIn assistenza (kids i)) r (now (reg .exit)) (now (answers .exit))) ⌝ }
 {
     let mut at = from;
     let mut tally = Tally {
@@ -109,7 +109,7 @@ pub fn take_file(
     answers: &mut [u8],
 ) -> usize
     requires { ⌜ ((tree : Tree) × Whole track (now s) root records (length (now answers)) tree) × (isSound (now reg) ≡ true) × (l .room ≡ room siad (length (now reg))) ⌝ }
-    ensures { λ r. ⌜ ((tree : Tree) → Whole track (now (s .entry)) root records (length (now (answers .entry))) tree → TookAll track (contextIn l) (now (reg .entry)) (now (answers .entry)) (recordsOf (schemaOf track) tree) r (now (reg .exit)) (now (answers .exit))) ⌝ }
+    ensures { λ r. ⌜ ((tree : Tree) → Whole track (now (s .entry)) root records (length (now (answers .entry))) tree → TookAll (siadDriver track (contextIn l)) (now (reg .entry)) (now (answers .entry)) (recordsOf (schemaOf track) tree) r (now (reg .exit)) (now (answers .exit))) ⌝ }
 {
     let Got::Text { start, end, next } = head(s, root) else {
         return 0;

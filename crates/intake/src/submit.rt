@@ -1,17 +1,16 @@
 // The whole call: a file answered, and taken into the register where nothing is wrong with it.
 ghost use mathlib.Core.Path.{_≡_};
 ghost use mathlib.Core.Bool.{true, _||_};
-ghost use Prim.Native.Nat.{ℕ};
 ghost use lib.Dec.{eqb};
 ghost use lib.ListN.{length};
 ghost use Rattle.markup.specs.Elements.{Tree};
 ghost use Rattle.markup.specs.Document.{document};
-ghost use Rattle.register.specs.Bytes.{room};
-ghost use Rattle.register.specs.Layout.{siad};
-ghost use Rattle.register.specs.Sound.{isSound};
+ghost use Rattle.register.specs.Layout.{room};
+ghost use Rattle.home_care.specs.Row.{siad};
+ghost use Rattle.soundness.specs.Sound.{isSound};
 ghost use Rattle.judge.specs.View.{contextIn};
-ghost use Rattle.intake.specs.Submitted.{entriesOf, contextOf, taken, byMarkup, submitted};
-ghost use Rattle.intake.specs.Kids.{Whole, uncounted};
+ghost use Rattle.intake.specs.Submitted.{Call, callOf, entriesOf, contextOf, takenFile, byMarkup, submitted};
+ghost use Rattle.intake.specs.Kids.{Whole, callWith, uncounted};
 ghost use Rattle.intake.specs.View.{Says};
 use crate::Report;
 use crate::records::take_file;
@@ -52,7 +51,7 @@ fn taken(
     answers: &mut [u8],
 ) -> Report
     requires { ⌜ ((tree : Tree) × Whole track (now s) root records (length (now answers)) tree) × (isSound (now reg) ≡ true) × (l .room ≡ room siad (length (now reg))) ⌝ }
-    ensures { λ r. ⌜ ((tree : Tree) (year quarter : ℕ) → Whole track (now (s .entry)) root records (length (now (answers .entry))) tree → contextIn l ≡ contextOf year quarter (length (now (reg .entry))) → Says (taken (now (s .entry)) track year quarter (now (reg .entry)) (now (answers .entry)) (entriesOf track tree)) r (now (reg .exit)) (now (answers .exit))) ⌝ }
+    ensures { λ r. ⌜ ((tree : Tree) (x : Call) → Whole track (now (s .entry)) root records (length (now (answers .entry))) tree → contextIn l ≡ contextOf x (length (now (reg .entry))) → Says (takenFile (callWith x (now (s .entry)) track (now (answers .entry))) (now (reg .entry)) (entriesOf track tree)) r (now (reg .exit)) (now (answers .exit))) ⌝ }
 {
     let accepted = take_file(l, track, s, root, records, reg, answers);
     Report {
@@ -67,7 +66,7 @@ fn taken(
 // From 5 on.
 fn by_markup(l: Limits, track: u64, sub: &[u8], reg: &mut [u8], answers: &mut [u8]) -> Report
     requires { ⌜ ((eqb track 1 || eqb track 2) ≡ true) × (isSound (now reg) ≡ true) × (l .room ≡ room siad (length (now reg))) ⌝ }
-    ensures { λ r. ⌜ ((year quarter : ℕ) → contextIn l ≡ contextOf year quarter (length (now (reg .entry))) → Says (byMarkup (now (sub .entry)) track year quarter (now (reg .entry)) (now (answers .entry)) (document (now (sub .entry)))) r (now (reg .exit)) (now (answers .exit))) ⌝ }
+    ensures { λ r. ⌜ ((x : Call) → contextIn l ≡ contextOf x (length (now (reg .entry))) → Says (byMarkup (callWith x (now (sub .entry)) track (now (answers .entry))) (now (reg .entry)) (document (now (sub .entry)))) r (now (reg .exit)) (now (answers .exit))) ⌝ }
 {
     let Document::Root(c) = document(sub) else {
         return refused(5, 0);
@@ -95,7 +94,7 @@ pub fn submit(
     reg: &mut [u8],
     answers: &mut [u8],
 ) -> Report
-    ensures { λ r. ⌜ Says (submitted (now (sub .entry)) track year quarter (now (reg .entry)) (now (answers .entry))) r (now (reg .exit)) (now (answers .exit)) ⌝ }
+    ensures { λ r. ⌜ Says (submitted (callOf (now (sub .entry)) track year quarter (now (answers .entry))) (now (reg .entry))) r (now (reg .exit)) (now (answers .exit)) ⌝ }
 {
     let Quarter::Days { first, last } = quarter_days(year, quarter) else {
         return refused(1, 0);

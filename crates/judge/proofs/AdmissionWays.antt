@@ -7,7 +7,7 @@ use lib.Dec.{eqb, ltb}
 use borrow.Author.Tests.{eq-eqb, ne-eqb}
 use Rattle.laws.proofs.Order.{Tri, below, equal, above, tri}
 use Rattle.model.specs.Transmission.{Kind, isInsert, isCancel}
-use Rattle.checks.specs.Tests.{Context}
+use Rattle.home_care.specs.Anomalies.{Context}
 use Rattle.judge.specs.Chain.{answerAdmission}
 
 -- ---- the record by itself

@@ -10,8 +10,8 @@ use lib.ListN.{length, getD, List·getD-eq-default}
 use Rattle.laws.specs.Lists.{same}
 use Rattle.laws.specs.Text.{bytes}
 use Rattle.days.specs.Calendar.{yearOf}
-use Rattle.rows.specs.Row.{Key, Case}
-use Rattle.checks.specs.Tests.{t11, t12, isItaly}
+use Rattle.home_care.specs.Row.{Key, Case}
+use Rattle.home_care.specs.Anomalies.{t11, t12, isItaly}
 
 pub birth-is : (taken birth year : ℕ) → year ≡ yearOf taken → (k : Key) (c : Case) → taken ≡ k .taken → birth ≡ c .birth → ltb birth 1880 || ltb year birth ≡ t11 k c
 birth-is taken birth year y k c e f = rw (y, e, f)

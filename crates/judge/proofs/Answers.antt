@@ -8,18 +8,16 @@ use lib.Dec.{eqb, ltb}
 use lib.ListN.{length}
 use borrow.Author.Tests.{ne-eqb}
 use Rattle.laws.specs.Lists.{all, any}
-use Rattle.rows.specs.Row.{keyNumber}
 use Rattle.model.specs.Map.{Map, has, keep, anyIn, allIn}
 use Rattle.model.specs.Checks.{first}
 use Rattle.model.specs.Transmission.{isInsert, isCancel}
 use Rattle.model.specs.Flow.{State}
-use Rattle.register.specs.Layout.{siad, caseOf}
-use Rattle.register.specs.Fields.{eventIn}
+use Rattle.register.specs.Layout.{caseNamed}
 use Rattle.register.specs.Sound.{eventsOf}
-use Rattle.tracks.specs.Flags.{zeroWritten, badConferma}
-use Rattle.tracks.specs.Record.{Head, Admission, Said, admission, events}
-use Rattle.checks.specs.Flow.{kindOf, eventRows}
-use Rattle.checks.specs.Tests.{Context, outOfQuarter, t11, t12, zeroKept, eventsIn}
+use Rattle.home_care.specs.Row.{keyNumber, siad, eventNumberIn}
+use Rattle.home_care.specs.Anomalies.{zeroWritten, badConferma, Context, outOfQuarter, t11, t12, zeroKept}
+use Rattle.home_care.specs.Record.{Head, Admission, Said, admission, events, eventNumbers}
+use Rattle.checks.specs.Flow.{typeOf, eventRows}
 use Rattle.checks.specs.Checks.{checksOf}
 use Rattle.checks.specs.Readable.{Readable}
 use Rattle.checks.proofs.Valid.{Sound}
@@ -34,32 +32,32 @@ asks : {a b : Bool} {x y : ℕ} → a ≡ b → (n : ℕ) → (b ≡ false → x
 asks {b = true} p n q = rw p
 asks {b = false} p n q = rw p (q refl)
 
-length-events : (es : List Said) → length (eventsIn es) ≡ length es
-unfolding eventsIn
+length-events : (es : List Said) → length (eventNumbers es) ≡ length es
+unfolding eventNumbers
 length-events [] = refl
 length-events (e ∷ es) = ap suc (length-events es)
 
-length-rows : (c : ℕ) (es : List Said) → length (eventRows c es) ≡ length (eventsIn es)
-unfolding eventRows eventsIn
+length-rows : (c : ℕ) (es : List Said) → length (eventRows c es) ≡ length (eventNumbers es)
+unfolding eventRows eventNumbers
 length-rows c [] = refl
 length-rows c (e ∷ es) = ap suc (length-rows c es)
 
 module _ (n : ℕ) (s : State ℕ ℕ) (v : Sound n s) (c : Context) (h : Head) (es : List Said) (r : Readable (events h es)) where
   pub answer-events : first (checksOf c (events h es)) s
-      ≡ answerEvents c (isInsert (kindOf (h .tipo))) (isCancel (kindOf (h .tipo))) (h .key .taken) (eventsIn es) (any badConferma es) (any zeroWritten es)
-      (has (keyNumber (h .key)) (s .cases)) (length (s .cases) + length (s .events)) (map eventIn (eventsOf siad (keyNumber (h .key)) (s .events)))
+      ≡ answerEvents c (isInsert (typeOf (h .tipo))) (isCancel (typeOf (h .tipo))) (h .key .taken) (eventNumbers es) (any badConferma es) (any zeroWritten es)
+      (has (keyNumber (h .key)) (s .cases)) (length (s .cases) + length (s .events)) (map eventNumberIn (eventsOf siad (keyNumber (h .key)) (s .events)))
   unfolding first answerEvents againstStanding any all anyIn allIn
   answer-events =
       let k : ℕ = keyNumber (h .key) in
-      let inserts : Bool = isInsert (kindOf (h .tipo)) in
+      let inserts : Bool = isInsert (typeOf (h .tipo)) in
       let rows : ℕ = length (s .cases) + length (s .events) in
-      let more : 0 + length (eventRows k es) ≡ length (eventsIn es) = omega (arith, length-rows k es) in
+      let more : 0 + length (eventRows k es) ≡ length (eventNumbers es) = omega (arith, length-rows k es) in
       asks (ap (λ (l : ℕ). eqb l 0) (sym (length-events es))) 20 (λ _.
-      asks {a = any (wrong 10 c (h .key .taken)) (eventsIn es)} refl 10 (λ _.
+      asks {a = any (wrong 10 c (h .key .taken)) (eventNumbers es)} refl 10 (λ _.
       asks {a = any badConferma es} refl 21 (λ _.
       asks {a = any zeroWritten es} refl 13 (λ _.
       asks (is22 h es (r .1)) 22 (λ once.
-      asks {a = any (wrong 23 c (h .key .taken)) (eventsIn es)} refl 23 (λ _.
+      asks {a = any (wrong 23 c (h .key .taken)) (eventNumbers es)} refl 23 (λ _.
       asks {a = not (has k (s .cases))} refl 24 (λ _.
       asks (ap (λ (b : Bool). inserts && b) (is14 k es (r .1) (s .events) (v .events-fit))) 14 (λ _.
       asks (ap (λ (b : Bool). not inserts && b) (is15 k es (r .1) (s .events) (v .events-fit))) 15 (λ _.
@@ -72,31 +70,31 @@ module _ (n : ℕ) (s : State ℕ ℕ) (v : Sound n s) (c : Context) (h : Head) 
 -- ---- Track 1
 
 -- some event of a case stands just where it has not none
-any-some : (p : ℕ → Bool) (m : Map ℕ) → any (λ e. p (e .key)) m ≡ not (eqb (length (map eventIn (keep p m))) 0)
+any-some : (p : ℕ → Bool) (m : Map ℕ) → any (λ e. p (e .key)) m ≡ not (eqb (length (map eventNumberIn (keep p m))) 0)
 unfolding any keep
 any-some p [] = refl
 any-some p (x ∷ m) = go (p (x .key)) (any-some p m)
   where
-    go : (b : Bool) → any (λ e. p (e .key)) m ≡ not (eqb (length (map eventIn (keep p m))) 0) →
-        b || any (λ e. p (e .key)) m ≡ not (eqb (length (map eventIn (cond b (x ∷ keep p m) (keep p m)))) 0)
-    go true ih = ap not (sym (ne-eqb (suc (length (map eventIn (keep p m)))) 0 (λ e. omega arith)))
+    go : (b : Bool) → any (λ e. p (e .key)) m ≡ not (eqb (length (map eventNumberIn (keep p m))) 0) →
+        b || any (λ e. p (e .key)) m ≡ not (eqb (length (map eventNumberIn (cond b (x ∷ keep p m) (keep p m)))) 0)
+    go true ih = ap not (sym (ne-eqb (suc (length (map eventNumberIn (keep p m)))) 0 (λ e. omega arith)))
     go false ih = ih
 
 pub answer-admission : (s : State ℕ ℕ) (c : Context) (h : Head) (a : Admission) →
     first (checksOf c (admission h a)) s
-    ≡ answerAdmission c (isInsert (kindOf (h .tipo))) (isCancel (kindOf (h .tipo))) (outOfQuarter c (h .key .taken)) (t11 (h .key) (a .case)) (t12 (a .residence))
+    ≡ answerAdmission c (isInsert (typeOf (h .tipo))) (isCancel (typeOf (h .tipo))) (outOfQuarter c (h .key .taken)) (t11 (h .key) (a .case)) (t12 (a .residence))
     (zeroKept (a .case .prevalente)) (has (keyNumber (h .key)) (s .cases)) (length (s .cases) + length (s .events))
-    (length (map eventIn (eventsOf siad (keyNumber (h .key)) (s .events))))
+    (length (map eventNumberIn (eventsOf siad (keyNumber (h .key)) (s .events))))
 unfolding first answerAdmission any all anyIn allIn
 answer-admission s c h a =
     let k : ℕ = keyNumber (h .key) in
     let stands : Bool = has k (s .cases) in
-    let inserts : Bool = isInsert (kindOf (h .tipo)) in
+    let inserts : Bool = isInsert (typeOf (h .tipo)) in
     asks {a = outOfQuarter c (h .key .taken)} refl 10 (λ _.
     asks {a = t11 (h .key) (a .case)} refl 11 (λ _.
     asks {a = t12 (a .residence)} refl 12 (λ _.
     asks {a = zeroKept (a .case .prevalente)} refl 13 (λ _.
     asks (ap (λ (b : Bool). inserts && b) (or-false (stands || false) ∙ or-false stands)) 14 (λ _.
     asks (ap (λ (b : Bool). not inserts && not b) (and-true (stands && true) ∙ and-true stands)) 15 (λ _.
-    asks (ap (λ (b : Bool). isCancel (kindOf (h .tipo)) && b) (any-some (λ j. eqb (caseOf siad j) k) (s .events))) 16 (λ _.
+    asks (ap (λ (b : Bool). isCancel (typeOf (h .tipo)) && b) (any-some (λ j. eqb (caseNamed siad j) k) (s .events))) 16 (λ _.
     asks {a = inserts && ltb (c .room) (length (s .cases) + length (s .events) + 1)} refl 17 (λ _. refl))))))))

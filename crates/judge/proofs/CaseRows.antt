@@ -7,20 +7,21 @@ use native.Mathlib.Omega.{arith}
 use lib.Dec.{eqb, ltb}
 use lib.ListN.{length}
 use borrow.Author.Tests.{ltb-false}
-use Rattle.rows.specs.Pack.{each, Fit}
 use Rattle.model.specs.Map.{Row, Map, has}
-use Rattle.register.specs.Layout.{siad, caseRest, eventRest, caseOf}
-use Rattle.register.specs.Bytes.{split, rowAt, rowIn, casesHeld, eventsHeld, eventsFrom, stateOf}
-use Rattle.register.specs.Fields.{takenIn, eventIn, eventKeyOf, dateOf, endOf}
-use Rattle.register.specs.Events.{isSuspension, shareDay}
-use Rattle.register.specs.Search.{keyAt, keyOf, Placed, Ranged}
-use Rattle.register.specs.Sound.{eventsOf, eventsFree, isSound}
+use Rattle.rows.specs.Packing.{each, Fit}
+use Rattle.register.specs.Layout.{caseRest, eventRest, caseNamed, rowAt, rowIn, casesHeld, eventsHeld}
+use Rattle.register.specs.State.{split, eventsFrom, stateOf}
+use Rattle.register.specs.Search.{keyAt, probeKey, Placed, Ranged}
+use Rattle.register.specs.Sound.{eventsOf}
 use Rattle.register.specs.Stored.{Stored, cases}
 use Rattle.register.proofs.Found.{stands-has, case-at, cases-rise, range-events}
 use Rattle.register.proofs.From.{from-length}
 use Rattle.register.proofs.Halving.{at-key}
-use Rattle.register.proofs.SoundLaws.{sound-is-stored}
-use Rattle.register.proofs.States.{laid-siad}
+use Rattle.home_care.specs.Row.{siad, takenIn, eventNumberIn, eventKeyOf, dateOf, endOf, rowBytes, keyBits}
+use Rattle.home_care.specs.Anomalies.{isSuspension, shareDay}
+use Rattle.home_care.proofs.Laid.{laid-siad}
+use Rattle.soundness.specs.Sound.{eventsFree, isSound}
+use Rattle.soundness.proofs.SoundLaws.{sound-is-stored}
 use Rattle.soundness.proofs.FindPlace.{keys-rise}
 use Rattle.checks.proofs.Valid.{sound-state, parts-of, free-any}
 use Rattle.judge.specs.Standing.{eventAt, standingIn, Climbs, Settled, OfCase}
@@ -42,32 +43,32 @@ module _ (reg : List ℕ) (f : Fit (each 8 reg)) (h : isSound reg ≡ true) wher
   -- ---- whether the case stands
 
   pub stands-is : (probe : List ℕ) (n i : ℕ) (stand : Bool) → n ≡ casesHeld reg →
-      Placed (keyAt 91 662 reg) (keyOf 91 662 probe + 0) 0 n i → stand ≡ ltb i n && eqb (keyAt 91 662 reg i) (keyOf 91 662 probe) →
-      stand ≡ has (keyOf 91 662 probe) (stateOf siad reg .cases)
+      Placed (keyAt rowBytes keyBits reg) (probeKey rowBytes keyBits probe + 0) 0 n i → stand ≡ ltb i n && eqb (keyAt rowBytes keyBits reg i) (probeKey rowBytes keyBits probe) →
+      stand ≡ has (probeKey rowBytes keyBits probe) (stateOf siad reg .cases)
   stands-is probe n i stand e p t =
-      t ∙ stands-has siad laid-siad cases reg (stateOf siad reg) stored (keyOf 91 662 probe) n i (omega (arith, cases-count reg))
-      (at-key (keyAt 91 662 reg) (keyOf 91 662 probe) 0 n i p)
+      t ∙ stands-has siad laid-siad cases reg (stateOf siad reg) stored (probeKey rowBytes keyBits probe) n i (omega (arith, cases-count reg))
+      (at-key (keyAt rowBytes keyBits reg) (probeKey rowBytes keyBits probe) 0 n i p)
 
   -- ---- its events
 
-  module _ (v lo hi : ℕ) (r : Ranged (keyAt 91 662 reg) v (casesHeld reg) (casesHeld reg + eventsHeld reg) lo hi) where
+  module _ (v lo hi : ℕ) (r : Ranged (keyAt rowBytes keyBits reg) v (casesHeld reg) (casesHeld reg + eventsHeld reg) lo hi) where
     abbrev row : ℕ → Row ℕ
     row j = split (eventRest siad) (rowIn siad reg j)
 
-    ranged : Ranged (keyAt 91 662 reg) v (length (stateOf siad reg .cases)) (length (stateOf siad reg .cases) + length (stateOf siad reg .events)) lo hi
+    ranged : Ranged (keyAt rowBytes keyBits reg) v (length (stateOf siad reg .cases)) (length (stateOf siad reg .cases) + length (stateOf siad reg .events)) lo hi
     ranged = rw (cases-count reg, events-count reg) r
 
     pub events-are : eventsOf siad v (stateOf siad reg .events) ≡ eventsFrom siad reg lo (hi - lo)
     events-are = range-events siad laid-siad reg (stateOf siad reg) stored v lo hi ranged
 
-    of-case : (j : ℕ) → lo ≤ j → j < hi → caseOf siad (row j .key) ≡ v
+    of-case : (j : ℕ) → lo ≤ j → j < hi → caseNamed siad (row j .key) ≡ v
     of-case j a b =
         sym (case-at siad laid-siad reg (stateOf siad reg) stored j)
         ∙ ranged .inside (cases-rise siad laid-siad reg (stateOf siad reg) stored) j a b
 
     -- in one case's rows the events' own part of the key decides
-    own-part : (m n : ℕ) → caseOf siad (m / 2 ^ 47) ≡ v → caseOf siad (n / 2 ^ 47) ≡ v → m / 2 ^ 47 < n / 2 ^ 47 →
-        eventKeyOf (eventIn (split 47 m)) < eventKeyOf (eventIn (split 47 n))
+    own-part : (m n : ℕ) → caseNamed siad (m / 2 ^ 47) ≡ v → caseNamed siad (n / 2 ^ 47) ≡ v → m / 2 ^ 47 < n / 2 ^ 47 →
+        eventKeyOf (eventNumberIn (split 47 m)) < eventKeyOf (eventNumberIn (split 47 n))
     own-part m n a b h = omega arith
 
     events-climb : Climbs reg lo hi
@@ -79,7 +80,7 @@ module _ (reg : List ℕ) (f : Fit (each 8 reg)) (h : isSound reg ≡ true) wher
     clear : Clear (takenIn v) (standingIn reg lo hi)
     clear =
         clear-of (takenIn v) (standingIn reg lo hi)
-        (ap (λ (m : Map ℕ). eventsFree (takenIn v) (map eventIn m)) (sym events-are)
+        (ap (λ (m : Map ℕ). eventsFree (takenIn v) (map eventNumberIn m)) (sym events-are)
         ∙ free-any (length reg) (stateOf siad reg) (parts-of (length reg) (stateOf siad reg) (sound-state reg f h .is-valid)) v)
 
     pub events-settled : Settled reg lo hi
@@ -94,7 +95,7 @@ module _ (reg : List ℕ) (f : Fit (each 8 reg)) (h : isSound reg ≡ true) wher
 
 -- what the search for the case's rows tells
 pub case-rows : (reg : List ℕ) (v n rows lo hi : ℕ) → Fit (each 8 reg) → n ≡ casesHeld reg → rows ≡ casesHeld reg + eventsHeld reg →
-    rowAt siad (casesHeld reg + eventsHeld reg) ≤ length reg → Ranged (keyAt 91 662 reg) v n rows lo hi → OfCase v reg lo hi
+    rowAt siad (casesHeld reg + eventsHeld reg) ≤ length reg → Ranged (keyAt rowBytes keyBits reg) v n rows lo hi → OfCase v reg lo hi
 case-rows reg v n rows lo hi f e g w r =
     record {
       mid = r .mid;
@@ -103,5 +104,5 @@ case-rows reg v n rows lo hi f e g w r =
       are = λ h. events-are reg f h v lo hi held;
     }
   where
-    held : Ranged (keyAt 91 662 reg) v (casesHeld reg) (casesHeld reg + eventsHeld reg) lo hi
+    held : Ranged (keyAt rowBytes keyBits reg) v (casesHeld reg) (casesHeld reg + eventsHeld reg) lo hi
     held = rw (← g, ← e) r

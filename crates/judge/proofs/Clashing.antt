@@ -4,9 +4,8 @@ use mathlib.Core.Path.{_≡_, sym, ap, _∙_}
 use mathlib.Core.Bool.{Bool, true, false, not, _&&_, _||_, or-true}
 use mathlib.Core.List.{List}
 use lib.ListN.{length, drop, getD, drop-of-length-le}
-use Rattle.laws.specs.Lists.{any}
+use Rattle.laws.specs.Lists.{any, somePair}
 use Rattle.laws.proofs.Places.{front}
-use Rattle.register.specs.Events.{pair}
 use Rattle.judge.specs.Against.{clash, keyAmong}
 use Rattle.judge.specs.Standing.{standingIn, Settled, Outside}
 use Rattle.judge.proofs.Rows.{part-enough}
@@ -17,11 +16,11 @@ unreplaced p es a b = p a b && not (keyAmong es b)
 
 -- what is left from the record's event i on
 abbrev pub freshFrom : (ℕ → ℕ → Bool) → List ℕ → List ℕ → ℕ → Bool
-freshFrom p es ms i = pair p (drop i es) || any (λ a. any (unreplaced p es a) ms) (drop i es)
+freshFrom p es ms i = somePair p (drop i es) || any (λ a. any (unreplaced p es a) ms) (drop i es)
 
 module _ (p : ℕ → ℕ → Bool) (es ms : List ℕ) (i : ℕ) (target : Bool) (inv : target ≡ freshFrom p es ms i) where
   pub fresh-end : length es ≤ i → false ≡ target
-  unfolding any pair
+  unfolding any somePair
   fresh-end h = sym (inv ∙ rw (drop-of-length-le es h))
 
   module _ (h : i < length es) where
@@ -31,15 +30,15 @@ module _ (p : ℕ → ℕ → Bool) (es ms : List ℕ) (i : ℕ) (target : Bool)
     abbrev stands : Bool
     stands = any (unreplaced p es (getD es i 0)) ms
 
-    step : target ≡ ((later || pair p (drop (i + 1) es)) || (stands || any (λ a. any (unreplaced p es a) ms) (drop (i + 1) es)))
-    unfolding any pair
+    step : target ≡ ((later || somePair p (drop (i + 1) es)) || (stands || any (λ a. any (unreplaced p es a) ms) (drop (i + 1) es)))
+    unfolding any somePair
     step = inv ∙ rw (front es i h)
 
     pub fresh-later : true ≡ later → true ≡ target
     fresh-later e = sym (step ∙ rw (sym e))
 
     pub fresh-stands : true ≡ stands → true ≡ target
-    fresh-stands e = sym (step ∙ rw (sym e) (or-true (later || pair p (drop (i + 1) es))))
+    fresh-stands e = sym (step ∙ rw (sym e) (or-true (later || somePair p (drop (i + 1) es))))
 
     pub fresh-next : false ≡ later → false ≡ stands → target ≡ freshFrom p es ms (i + 1)
     fresh-next e f = step ∙ rw (sym e, sym f)

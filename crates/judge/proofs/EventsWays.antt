@@ -7,10 +7,9 @@ use native.Mathlib.Omega.{arith}
 use lib.Dec.{ltb}
 use lib.ListN.{length}
 use borrow.Author.Tests.{eq-eqb, ne-eqb}
-use Rattle.laws.specs.Lists.{any}
+use Rattle.laws.specs.Lists.{any, somePair}
 use Rattle.model.specs.Transmission.{Kind, insert, vary, cancel, isInsert, isCancel}
-use Rattle.register.specs.Events.{pair}
-use Rattle.checks.specs.Tests.{Context}
+use Rattle.home_care.specs.Anomalies.{Context}
 use Rattle.judge.specs.Against.{wrong, clash, keyAmong, fresh}
 use Rattle.judge.specs.Chain.{againstStanding}
 use Rattle.judge.proofs.InOrder.{answerEvents}
@@ -24,14 +23,14 @@ unfolding any
 none-stands p es [] = refl
 none-stands p es (x ∷ fs) = none-stands p es fs
 
-fresh-none : (p : ℕ → ℕ → Bool) (es : List ℕ) → fresh p es [] ≡ pair p es
-fresh-none p es = ap (λ (b : Bool). pair p es || b) (none-stands p es es) ∙ or-false (pair p es)
+fresh-none : (p : ℕ → ℕ → Bool) (es : List ℕ) → fresh p es [] ≡ somePair p es
+fresh-none p es = ap (λ (b : Bool). somePair p es || b) (none-stands p es es) ∙ or-false (somePair p es)
 
 no-rows : (reg : List ℕ) → Settled reg 0 0
 no-rows reg =
     record { climbs = λ x y a b c. absurd (omega arith); forward = λ k a b. absurd (omega arith); apart = λ x y a b c. absurd (omega arith) }
 
-pub only-own : (p : ℕ → ℕ → Bool) (es reg : List ℕ) (r : Bool) → (Settled reg 0 0 → r ≡ fresh p es (standingIn reg 0 0)) → r ≡ pair p es
+pub only-own : (p : ℕ → ℕ → Bool) (es reg : List ℕ) (r : Bool) → (Settled reg 0 0 → r ≡ fresh p es (standingIn reg 0 0)) → r ≡ somePair p es
 only-own p es reg r h =
     h (no-rows reg) ∙ ap (fresh p es) (no-row reg 0 0 (omega arith)) ∙ fresh-none p es
 
@@ -61,11 +60,11 @@ module _ (c : Context) (inserts cancels : Bool) (taken : ℕ) (es : List ℕ) (b
         at-13 e = rw (ne-eqb (length es) 0 some, dated, confirmed, e)
 
         module _ (ill : zero ≡ false) where
-          pub at-22 : pair (clash 22) es ≡ true → 22 ≡ answer
+          pub at-22 : somePair (clash 22) es ≡ true → 22 ≡ answer
           unfolding answerEvents
           at-22 e = rw (ne-eqb (length es) 0 some, dated, confirmed, ill, e)
 
-          module _ (once : pair (clash 22) es ≡ false) where
+          module _ (once : somePair (clash 22) es ≡ false) where
             pub at-23 : any (wrong 23 c taken) es ≡ true → 23 ≡ answer
             unfolding answerEvents
             at-23 e = rw (ne-eqb (length es) 0 some, dated, confirmed, ill, once, e)
@@ -87,63 +86,67 @@ not-both insert e = sym e
 not-both vary e = refl
 not-both cancel e = refl
 
-module _ (c : Context) (k : Kind) (taken : ℕ) (es : List ℕ) (rows : ℕ) (standing : List ℕ) (new some : Bool) (n : new ≡ isInsert k)
-    (told : some ≡ any (λ e. cond new (keyAmong standing e) (not (keyAmong standing e))) es) where
-  abbrev against : ℕ
+-- a test that held gives its number, one that did not the checks after it
+pub out : {x n : ℕ} {b : Bool} (m : ℕ) → x ≡ cond b n m → b ≡ true → n ≡ x
+out m e h = sym (rw h at e)
+
+pub past : {x m : ℕ} {b : Bool} (n : ℕ) → x ≡ cond b n m → b ≡ false → x ≡ m
+past n e h = rw h at e
+
+module _ (c : Context) (k : Kind) (taken : ℕ) (es : List ℕ) (rows : ℕ) (standing : List ℕ) where
+  abbrev pub against : ℕ
   against = againstStanding c (isInsert k) (isCancel k) taken es rows standing
 
-  -- an insertion asks whether some event stands, any other record whether some does not
-  asked : (b : Bool) → new ≡ b → some ≡ any (λ e. cond b (keyAmong standing e) (not (keyAmong standing e))) es
-  asked b e = rw e at told
+  -- of a record that cancels nothing, the checks from each on
+  abbrev pub from17 : ℕ
+  from17 = cond (isInsert k && ltb (c .room) (rows + length es)) 17 0
 
-  pub at-14 : some ≡ true → new ≡ true → 14 ≡ against
-  unfolding againstStanding
-  at-14 s e = rw (sym n ∙ e, sym (asked true e) ∙ s)
+  abbrev pub from28 : ℕ
+  from28 = cond (fresh (clash 28) es standing) 28 from17
 
-  pub at-15 : some ≡ true → new ≡ false → 15 ≡ against
-  unfolding againstStanding
-  at-15 s e = rw (sym n ∙ e, sym (asked false e) ∙ s)
+  abbrev pub from27 : ℕ
+  from27 = cond (fresh (clash 27) es standing) 27 from28
 
-  -- the checks after those two
-  abbrev later : ℕ
-  later =
-      cond (not (isCancel k) && any (wrong 25 c taken) es) 25
-      (cond (not (isCancel k) && fresh (clash 26) es standing) 26
-      (cond (not (isCancel k) && fresh (clash 27) es standing) 27
-      (cond (not (isCancel k) && fresh (clash 28) es standing) 28 (cond (isInsert k && ltb (c .room) (rows + length es)) 17 0))))
+  abbrev pub from26 : ℕ
+  from26 = cond (fresh (clash 26) es standing) 26 from27
 
-  module _ (s : some ≡ false) where
-    passed : against ≡ later
+  abbrev pub from25 : ℕ
+  from25 = cond (any (wrong 25 c taken) es) 25 from26
+
+  -- the ways out by the kind, and the way on
+  pub record Kinds (new some : Bool) : Type 0 where
+    pub at-14 : some ≡ true → new ≡ true → 14 ≡ against
+    pub at-15 : some ≡ true → new ≡ false → 15 ≡ against
+    pub at-end : some ≡ false → isCancel k ≡ true → 0 ≡ against
+    pub on-25 : some ≡ false → isCancel k ≡ false → against ≡ from25
+
+  module _ (new some : Bool) (n : new ≡ isInsert k) (told : some ≡ any (λ e. cond new (keyAmong standing e) (not (keyAmong standing e))) es) where
+    -- an insertion asks whether some event stands, any other record whether some does not
+    asked : (b : Bool) → new ≡ b → some ≡ any (λ e. cond b (keyAmong standing e) (not (keyAmong standing e))) es
+    asked b e = rw e at told
+
+    -- the checks after those two
+    abbrev later : ℕ
+    later =
+        cond (not (isCancel k) && any (wrong 25 c taken) es) 25
+        (cond (not (isCancel k) && fresh (clash 26) es standing) 26
+        (cond (not (isCancel k) && fresh (clash 27) es standing) 27
+        (cond (not (isCancel k) && fresh (clash 28) es standing) 28 from17)))
+
+    passed : some ≡ false → against ≡ later
     unfolding againstStanding
-    passed = go new refl
+    passed s = go new refl
       where
         go : (b : Bool) → new ≡ b → against ≡ later
         go true e = rw (sym n ∙ e, sym (asked true e) ∙ s)
         go false e = rw (sym n ∙ e, sym (asked false e) ∙ s)
 
-    module _ (gone : Bool) (g : gone ≡ isCancel k) where
-      pub at-end : gone ≡ true → 0 ≡ against
-      at-end e = sym (passed ∙ rw (sym g ∙ e, not-both k (sym g ∙ e)))
-
-      module _ (stays : gone ≡ false) where
-        pub at-25 : any (wrong 25 c taken) es ≡ true → 25 ≡ against
-        at-25 e = sym (passed ∙ rw (sym g ∙ stays, e))
-
-        module _ (dated : any (wrong 25 c taken) es ≡ false) where
-          pub at-26 : fresh (clash 26) es standing ≡ true → 26 ≡ against
-          at-26 e = sym (passed ∙ rw (sym g ∙ stays, dated, e))
-
-          module _ (apart : fresh (clash 26) es standing ≡ false) where
-            pub at-27 : fresh (clash 27) es standing ≡ true → 27 ≡ against
-            at-27 e = sym (passed ∙ rw (sym g ∙ stays, dated, apart, e))
-
-            module _ (one : fresh (clash 27) es standing ≡ false) where
-              pub at-28 : fresh (clash 28) es standing ≡ true → 28 ≡ against
-              at-28 e = sym (passed ∙ rw (sym g ∙ stays, dated, apart, one, e))
-
-              module _ (last : fresh (clash 28) es standing ≡ false) where
-                pub at-17 : new && ltb (c .room) (rows + length es) ≡ true → 17 ≡ against
-                at-17 e = sym (passed ∙ rw (sym g ∙ stays, dated, apart, one, last, ← n, e))
-
-                pub at-0 : new && ltb (c .room) (rows + length es) ≡ false → 0 ≡ against
-                at-0 e = sym (passed ∙ rw (sym g ∙ stays, dated, apart, one, last, ← n, e))
+    pub kinds : Kinds new some
+    unfolding againstStanding
+    kinds =
+        record {
+          at-14 = λ s e. rw (sym n ∙ e, sym (asked true e) ∙ s);
+          at-15 = λ s e. rw (sym n ∙ e, sym (asked false e) ∙ s);
+          at-end = λ s e. sym (passed s ∙ rw (e, not-both k e));
+          on-25 = λ s e. passed s ∙ rw e;
+        }

@@ -4,9 +4,8 @@ use mathlib.Core.Bool.{Bool, cond, not}
 use mathlib.Core.List.{List}
 use lib.Dec.{eqb}
 use lib.ListN.{length}
-use Rattle.laws.specs.Lists.{any}
-use Rattle.register.specs.Events.{pair}
-use Rattle.checks.specs.Tests.{Context}
+use Rattle.laws.specs.Lists.{any, somePair}
+use Rattle.home_care.specs.Anomalies.{Context}
 use Rattle.judge.specs.Against.{wrong, clash}
 use Rattle.judge.specs.Chain.{againstStanding}
 
@@ -17,6 +16,6 @@ answerEvents c inserts cancels taken es bad zero stands rows standing =
     (cond (any (wrong 10 c taken) es) 10
     (cond bad 21
     (cond zero 13
-    (cond (pair (clash 22) es) 22
+    (cond (somePair (clash 22) es) 22
     (cond (any (wrong 23 c taken) es) 23
     (cond (not stands) 24 (againstStanding c inserts cancels taken es rows standing)))))))

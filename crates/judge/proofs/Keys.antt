@@ -7,32 +7,29 @@ use mathlib.Core.Option.{some}
 use native.Mathlib.Omega.{arith}
 use lib.Dec.{eqb, ltb}
 use borrow.Author.Tests.{eqb-true, eq-eqb, ltb-true}
-use Rattle.laws.specs.Lists.{all, any}
+use Rattle.laws.specs.Lists.{all, any, somePair}
 use Rattle.laws.proofs.Order.{eqb-sym}
 use Rattle.laws.proofs.Truth.{and-left}
-use Rattle.rows.specs.Row.{eventBits, eventKeyBits, keyNumber}
+use Rattle.laws.proofs.Every.{Every, every-map, all-told, same-truth}
 use Rattle.model.specs.Map.{Row, Map, isSome, find, has, keep, anyIn, allIn, twice}
 use Rattle.model.specs.Flow.{t22}
 use Rattle.model.proofs.Lists.{any-same, not-all}
 use Rattle.model.proofs.MapLaws.{find-keep}
-use Rattle.register.specs.Layout.{siad, caseOf, eventRest}
-use Rattle.register.specs.Fields.{eventIn, eventKeyOf}
-use Rattle.register.specs.Events.{pair}
-use Rattle.register.specs.Allowed.{eventAllowed}
+use Rattle.register.specs.Layout.{caseNamed, eventRest}
 use Rattle.register.specs.Sound.{eventsOf}
 use Rattle.register.specs.Stored.{Fits}
-use Rattle.register.proofs.Every.{Every, every-map, all-told, same-truth}
-use Rattle.tracks.specs.Record.{Head, Said, events}
+use Rattle.home_care.specs.Row.{eventBits, eventKeyBits, keyNumber, siad, eventNumberIn, eventKeyOf, eventIn}
+use Rattle.home_care.specs.Allowed.{eventAllowed}
+use Rattle.home_care.specs.Record.{Head, Said, events, eventNumbers}
+use Rattle.home_care.proofs.ReadBack.{event-case, event-read, event-val-lt}
 use Rattle.checks.specs.Flow.{flow, eventRows}
-use Rattle.checks.specs.Tests.{eventsIn}
 use Rattle.checks.specs.Readable.{eventReadable}
-use Rattle.checks.proofs.ReadBack.{event-case, event-read, event-val-lt}
 use Rattle.judge.specs.Against.{clash, keyAmong}
 use Rattle.judge.proofs.Pairs.{any-agree, any-map}
 
 -- a row of the case c, with no bits beyond its own
 pub record Own (c : ℕ) (r : Row ℕ) : Type 0 where
-  pub of : caseOf siad (r .key) ≡ c
+  pub of : caseNamed siad (r .key) ≡ c
   pub small : r .val < 2 ^ eventRest siad
 
 has-any : (k : ℕ) (m : Map ℕ) → has k m ≡ any (λ r. eqb k (r .key)) m
@@ -49,10 +46,10 @@ has-any k (x ∷ m) = go (eqb k (x .key)) (has-any k m)
 pub own-standing : (c : ℕ) (m : Map ℕ) → Fits eventKeyBits (eventRest siad) m → Every (Own c) (eventsOf siad c m)
 unfolding Fits keep
 own-standing c [] f = tt
-own-standing c (r ∷ m) f = go (eqb (caseOf siad (r .key)) c) refl (own-standing c m (f .1))
+own-standing c (r ∷ m) f = go (eqb (caseNamed siad (r .key)) c) refl (own-standing c m (f .1))
   where
-    go : (b : Bool) → eqb (caseOf siad (r .key)) c ≡ b → Every (Own c) (eventsOf siad c m) → Every (Own c) (cond b (r ∷ eventsOf siad c m) (eventsOf siad c m))
-    go true e ih = (record { of = eqb-true (caseOf siad (r .key)) c e; small = f .0 .1 }, ih)
+    go : (b : Bool) → eqb (caseNamed siad (r .key)) c ≡ b → Every (Own c) (eventsOf siad c m) → Every (Own c) (cond b (r ∷ eventsOf siad c m) (eventsOf siad c m))
+    go true e ih = (record { of = eqb-true (caseNamed siad (r .key)) c e; small = f .0 .1 }, ih)
     go false e ih = ih
 
 -- of 52 bits each
@@ -61,7 +58,7 @@ Narrow es = Every (λ e. e .event < 2 ^ eventBits) es
 
 are-narrow : (es : List Said) → all eventReadable es ≡ true → Narrow es
 are-narrow es w =
-    every-map es (λ e r. ltb-true (e .event) (2 ^ eventBits) (and-left (ltb (e .event) (2 ^ eventBits)) (eventAllowed (e .event)) r)) (all-told eventReadable es w)
+    every-map es (λ e r. ltb-true (e .event) (2 ^ eventBits) (and-left (ltb (e .event) (2 ^ eventBits)) (eventAllowed (eventIn (e .event))) r)) (all-told eventReadable es w)
 
 module _ (c : ℕ) where
   own-of : (es : List Said) → Narrow es → Every (Own c) (eventRows c es)
@@ -69,76 +66,76 @@ module _ (c : ℕ) where
   own-of [] w = tt
   own-of (e ∷ es) w = (record { of = event-case c (e .event) (w .0); small = event-val-lt c (e .event) (w .0) }, own-of es (w .1))
 
-  back : (es : List Said) → Narrow es → map eventIn (eventRows c es) ≡ eventsIn es
-  unfolding eventRows eventsIn
+  back : (es : List Said) → Narrow es → map eventNumberIn (eventRows c es) ≡ eventNumbers es
+  unfolding eventRows eventNumbers
   back [] w = refl
   back (e ∷ es) w = ap₂ (λ (x : ℕ) (l : List ℕ). x ∷ l) (event-read c (e .event) (w .0)) (back es (w .1))
 
   pub own-rows : (es : List Said) → all eventReadable es ≡ true → Every (Own c) (eventRows c es)
   own-rows es w = own-of es (are-narrow es w)
 
-  pub rows-back : (es : List Said) → all eventReadable es ≡ true → map eventIn (eventRows c es) ≡ eventsIn es
+  pub rows-back : (es : List Said) → all eventReadable es ≡ true → map eventNumberIn (eventRows c es) ≡ eventNumbers es
   rows-back es w = back es (are-narrow es w)
 
   -- ---- keys of rows, and of their 52 bits
 
-  key-own : (x y : Row ℕ) → Own c x → Own c y → eqb (x .key) (y .key) ≡ eqb (eventKeyOf (eventIn y)) (eventKeyOf (eventIn x))
+  key-own : (x y : Row ℕ) → Own c x → Own c y → eqb (x .key) (y .key) ≡ eqb (eventKeyOf (eventNumberIn y)) (eventKeyOf (eventNumberIn x))
   key-own x y a b =
       let o = a .of in
       let s = a .small in
       let p = b .of in
       let t = b .small in
-      same-truth (eqb (x .key) (y .key)) (eqb (eventKeyOf (eventIn y)) (eventKeyOf (eventIn x)))
-      (λ h. let e : x .key ≡ y .key = eqb-true (x .key) (y .key) h in eq-eqb (eventKeyOf (eventIn y)) (eventKeyOf (eventIn x)) (omega arith))
-      (λ h. let e : eventKeyOf (eventIn y) ≡ eventKeyOf (eventIn x) = eqb-true (eventKeyOf (eventIn y)) (eventKeyOf (eventIn x)) h in eq-eqb (x .key) (y .key) (omega arith))
+      same-truth (eqb (x .key) (y .key)) (eqb (eventKeyOf (eventNumberIn y)) (eventKeyOf (eventNumberIn x)))
+      (λ h. let e : x .key ≡ y .key = eqb-true (x .key) (y .key) h in eq-eqb (eventKeyOf (eventNumberIn y)) (eventKeyOf (eventNumberIn x)) (omega arith))
+      (λ h. let e : eventKeyOf (eventNumberIn y) ≡ eventKeyOf (eventNumberIn x) = eqb-true (eventKeyOf (eventNumberIn y)) (eventKeyOf (eventNumberIn x)) h in eq-eqb (x .key) (y .key) (omega arith))
 
   -- a key stands in the case's rows just where its 52 bits' key is among theirs
-  pub has-own : (x : Row ℕ) (m : Map ℕ) → Own c x → Every (Own c) m → has (x .key) m ≡ keyAmong (map eventIn m) (eventIn x)
+  pub has-own : (x : Row ℕ) (m : Map ℕ) → Own c x → Every (Own c) m → has (x .key) m ≡ keyAmong (map eventNumberIn m) (eventNumberIn x)
   has-own x m o g =
       has-any (x .key) m
-      ∙ any-agree (λ r. eqb (x .key) (r .key)) (λ r. eqb (eventKeyOf (eventIn r)) (eventKeyOf (eventIn x))) m (λ r q. key-own x r o q) g
-      ∙ sym (any-map eventIn (λ b. eqb (eventKeyOf b) (eventKeyOf (eventIn x))) m)
+      ∙ any-agree (λ r. eqb (x .key) (r .key)) (λ r. eqb (eventKeyOf (eventNumberIn r)) (eventKeyOf (eventNumberIn x))) m (λ r q. key-own x r o q) g
+      ∙ sym (any-map eventNumberIn (λ b. eqb (eventKeyOf b) (eventKeyOf (eventNumberIn x))) m)
 
   -- and in all rows just where it stands in the case's
   has-case : (x : Row ℕ) (m : Map ℕ) → Own c x → has (x .key) m ≡ has (x .key) (eventsOf siad c m)
-  has-case x m o = sym (simp (find-keep (x .key) (λ k. eqb (caseOf siad k) c) m, eq-eqb (caseOf siad (x .key)) c (o .of)))
+  has-case x m o = sym (simp (find-keep (x .key) (λ k. eqb (caseNamed siad k) c) m, eq-eqb (caseNamed siad (x .key)) c (o .of)))
 
-  twice-own : (rs : Map ℕ) → Every (Own c) rs → twice rs ≡ pair (clash 22) (map eventIn rs)
-  unfolding twice pair
+  twice-own : (rs : Map ℕ) → Every (Own c) rs → twice rs ≡ somePair (clash 22) (map eventNumberIn rs)
+  unfolding twice somePair
   twice-own [] g = refl
   twice-own (x ∷ rs) g =
       ap₂ (λ (a b : Bool). a || b)
-      (has-own x rs (g .0) (g .1) ∙ any-same _ _ (map eventIn rs) (λ b. eqb-sym (eventKeyOf b) (eventKeyOf (eventIn x))))
+      (has-own x rs (g .0) (g .1) ∙ any-same _ _ (map eventNumberIn rs) (λ b. eqb-sym (eventKeyOf b) (eventKeyOf (eventNumberIn x))))
       (twice-own rs (g .1))
 
 -- ---- 22, 14, 15
 
-pub twice-rows : (c : ℕ) (es : List Said) → all eventReadable es ≡ true → twice (eventRows c es) ≡ pair (clash 22) (eventsIn es)
-twice-rows c es w = twice-own c (eventRows c es) (own-rows c es w) ∙ ap (pair (clash 22)) (rows-back c es w)
+pub twice-rows : (c : ℕ) (es : List Said) → all eventReadable es ≡ true → twice (eventRows c es) ≡ somePair (clash 22) (eventNumbers es)
+twice-rows c es w = twice-own c (eventRows c es) (own-rows c es w) ∙ ap (somePair (clash 22)) (rows-back c es w)
 
-pub is22 : (h : Head) (es : List Said) → all eventReadable es ≡ true → t22 flow (events h es) ≡ pair (clash 22) (eventsIn es)
+pub is22 : (h : Head) (es : List Said) → all eventReadable es ≡ true → t22 flow (events h es) ≡ somePair (clash 22) (eventNumbers es)
 unfolding twice
 is22 h es w = twice-rows (keyNumber (h .key)) es w
 
 module _ (c : ℕ) (es : List Said) (w : all eventReadable es ≡ true) (m : Map ℕ) (f : Fits eventKeyBits (eventRest siad) m) where
   abbrev standing : List ℕ
-  standing = map eventIn (eventsOf siad c m)
+  standing = map eventNumberIn (eventsOf siad c m)
 
   -- a key of the record's rows
-  has-row : (x : Row ℕ) → Own c x → has (x .key) m ≡ keyAmong standing (eventIn x)
+  has-row : (x : Row ℕ) → Own c x → has (x .key) m ≡ keyAmong standing (eventNumberIn x)
   has-row x o = has-case c x m o ∙ has-own c x (eventsOf siad c m) o (own-standing c m f)
 
-  pub is14 : anyIn (eventRows c es) m ≡ any (keyAmong standing) (eventsIn es)
+  pub is14 : anyIn (eventRows c es) m ≡ any (keyAmong standing) (eventNumbers es)
   unfolding anyIn
   is14 =
-      any-agree (λ r. has (r .key) m) (λ r. keyAmong standing (eventIn r)) (eventRows c es) has-row (own-rows c es w)
-      ∙ sym (any-map eventIn (keyAmong standing) (eventRows c es))
+      any-agree (λ r. has (r .key) m) (λ r. keyAmong standing (eventNumberIn r)) (eventRows c es) has-row (own-rows c es w)
+      ∙ sym (any-map eventNumberIn (keyAmong standing) (eventRows c es))
       ∙ ap (any (keyAmong standing)) (rows-back c es w)
 
-  pub is15 : not (allIn (eventRows c es) m) ≡ any (λ e. not (keyAmong standing e)) (eventsIn es)
+  pub is15 : not (allIn (eventRows c es) m) ≡ any (λ e. not (keyAmong standing e)) (eventNumbers es)
   unfolding allIn
   is15 =
       not-all (λ r. has (r .key) m) (eventRows c es)
-      ∙ any-agree (λ r. not (has (r .key) m)) (λ r. not (keyAmong standing (eventIn r))) (eventRows c es) (λ x o. ap not (has-row x o)) (own-rows c es w)
-      ∙ sym (any-map eventIn (λ e. not (keyAmong standing e)) (eventRows c es))
+      ∙ any-agree (λ r. not (has (r .key) m)) (λ r. not (keyAmong standing (eventNumberIn r))) (eventRows c es) (λ x o. ap not (has-row x o)) (own-rows c es w)
+      ∙ sym (any-map eventNumberIn (λ e. not (keyAmong standing e)) (eventRows c es))
       ∙ ap (any (λ e. not (keyAmong standing e))) (rows-back c es w)

@@ -4,10 +4,8 @@ use mathlib.Core.Path.{_≡_, _∙_}
 use mathlib.Core.Bool.{Bool, true, false, cond, not, _&&_, _||_, Bool·beq}
 use lib.Dec.{eqb, ltb}
 use borrow.Author.Tests.{ne-eqb, not-true, not-false}
-use Rattle.rows.specs.Row.{never}
-use Rattle.register.specs.Fields.{kindOf, dateOf, endOf, eventKeyOf}
-use Rattle.register.specs.Events.{shareDay, afterConclusion}
-use Rattle.checks.specs.Tests.{Context, dayFor, outOfQuarter}
+use Rattle.home_care.specs.Row.{never, kindOf, dateOf, endOf, eventKeyOf}
+use Rattle.home_care.specs.Anomalies.{shareDay, afterConclusion, Context, dayFor, outOfQuarter}
 use Rattle.judge.specs.Against.{wrong, clash}
 
 -- ---- the day for 10

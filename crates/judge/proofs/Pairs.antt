@@ -5,14 +5,13 @@ use mathlib.Core.Bool.{Bool, true, false, cond, not, _&&_, _||_, true≢false, a
 use mathlib.Core.List.{List, [], _∷_, map}
 use mathlib.Core.Option.{Option, none, some}
 use lib.Dec.{eqb}
-use Rattle.laws.specs.Lists.{any}
+use Rattle.laws.specs.Lists.{any, somePair}
 use Rattle.laws.proofs.Order.{Tri, below, equal, above, tri}
 use Rattle.laws.proofs.Truth.{or-left, or-right}
+use Rattle.laws.proofs.Every.{Every}
 use Rattle.model.specs.Map.{Row, Map, isSome, orElse, find, has, put, putAll, delAll, keep, Asc, anyIn, twice}
 use Rattle.model.proofs.Lists.{any-same}
 use Rattle.model.proofs.MapLaws.{find-keep, find-putAll, asc-keep, asc-putAll, ext}
-use Rattle.register.specs.Events.{pair}
-use Rattle.register.proofs.Every.{Every}
 use Rattle.checks.proofs.RowTests.{has-more, has-first}
 
 or-swap : (a b c : Bool) → a || (b || c) ≡ b || (a || c)
@@ -39,15 +38,15 @@ module _ {A : Type 0} where
   any-or p q (x ∷ l) = ap (λ (b : Bool). (p x || q x) || b) (any-or p q l) ∙ or-mix (p x) (q x) (any p l) (any q l)
 
   -- some element with some element, where none goes with itself: some two, one way round or the other
-  pub all-pairs : (p : A → A → Bool) (l : List A) → Every (λ x. p x x ≡ false) l → any (λ c. any (p c) l) l ≡ pair (λ a b. p a b || p b a) l
-  unfolding any pair
+  pub all-pairs : (p : A → A → Bool) (l : List A) → Every (λ x. p x x ≡ false) l → any (λ c. any (p c) l) l ≡ somePair (λ a b. p a b || p b a) l
+  unfolding any somePair
   all-pairs p [] h = refl
   all-pairs p (x ∷ l) h =
       let back : Bool = any (λ c. p c x) l in
       ap (λ (b : Bool). (b || any (p x) l) || any (λ c. p c x || any (p c) l) l) (h .0)
       ∙ ap (λ (b : Bool). any (p x) l || b) (any-or (λ c. p c x) (λ c. any (p c) l) l ∙ ap (λ (b : Bool). back || b) (all-pairs p l (h .1)))
-      ∙ sym (or-assoc (any (p x) l) back (pair (λ a b. p a b || p b a) l))
-      ∙ ap (λ (b : Bool). b || pair (λ a b. p a b || p b a) l) (sym (any-or (p x) (λ b. p b x) l))
+      ∙ sym (or-assoc (any (p x) l) back (somePair (λ a b. p a b || p b a) l))
+      ∙ ap (λ (b : Bool). b || somePair (λ a b. p a b || p b a) l) (sym (any-or (p x) (λ b. p b x) l))
 
 module _ {A B : Type 0} (f : A → B) where
   pub any-map : (q : B → Bool) (l : List A) → any q (map f l) ≡ any (λ x. q (f x)) l
@@ -55,8 +54,8 @@ module _ {A B : Type 0} (f : A → B) where
   any-map q [] = refl
   any-map q (x ∷ l) = ap (λ (b : Bool). q (f x) || b) (any-map q l)
 
-  pub pair-map : (p : B → B → Bool) (l : List A) → pair p (map f l) ≡ pair (λ x y. p (f x) (f y)) l
-  unfolding pair
+  pub pair-map : (p : B → B → Bool) (l : List A) → somePair p (map f l) ≡ somePair (λ x y. p (f x) (f y)) l
+  unfolding somePair
   pair-map p [] = refl
   pair-map p (x ∷ l) = ap₂ (λ (a b : Bool). a || b) (any-map (p (f x)) l) (pair-map p l)
 
@@ -157,49 +156,49 @@ module _ {F : Type 0} where
       ∙ less (λ j. not (eqb j (r .key))) (keep f (delAll rs m)) (fails-less t less f rs m e)
 
   module _ (p : Row F → Row F → Bool) where
-    pub pair-keep : (f : ℕ → Bool) (m : Map F) → pair p m ≡ false → pair p (keep f m) ≡ false
-    unfolding pair keep
+    pub pair-keep : (f : ℕ → Bool) (m : Map F) → somePair p m ≡ false → somePair p (keep f m) ≡ false
+    unfolding somePair keep
     pair-keep f [] h = refl
-    pair-keep f (x ∷ m) h = go (f (x .key)) (pair-keep f m (or-right (any (p x) m) (pair p m) h))
+    pair-keep f (x ∷ m) h = go (f (x .key)) (pair-keep f m (or-right (any (p x) m) (somePair p m) h))
       where
-        go : (b : Bool) → pair p (keep f m) ≡ false → pair p (cond b (x ∷ keep f m) (keep f m)) ≡ false
-        go true ih = rw (any-keep (p x) f m (or-left (any (p x) m) (pair p m) h)) ih
+        go : (b : Bool) → somePair p (keep f m) ≡ false → somePair p (cond b (x ∷ keep f m) (keep f m)) ≡ false
+        go true ih = rw (any-keep (p x) f m (or-left (any (p x) m) (somePair p m) h)) ih
         go false ih = ih
 
     module _ (mirror : (x y : Row F) → p x y ≡ p y x) where
-      pair-put : (r : Row F) (m : Map F) → has (r .key) m ≡ false → pair p (put r m) ≡ any (p r) m || pair p m
-      unfolding any pair put find
+      pair-put : (r : Row F) (m : Map F) → has (r .key) m ≡ false → somePair p (put r m) ≡ any (p r) m || somePair p m
+      unfolding any somePair put find
       pair-put r [] h = refl
       pair-put r (x ∷ m) h = go (tri (r .key) (x .key)) (pair-put r m)
         where
-          go : Tri (r .key) (x .key) → (has (r .key) m ≡ false → pair p (put r m) ≡ any (p r) m || pair p m) →
-              pair p (put r (x ∷ m)) ≡ any (p r) (x ∷ m) || pair p (x ∷ m)
+          go : Tri (r .key) (x .key) → (has (r .key) m ≡ false → somePair p (put r m) ≡ any (p r) m || somePair p m) →
+              somePair p (put r (x ∷ m)) ≡ any (p r) (x ∷ m) || somePair p (x ∷ m)
           go (below l a b) ih = simp (a, b)
           go (equal l a b) ih = absurd (true≢false (simp b at h))
           go (above l a b) ih =
-              simp (a, b, any-put (p x) r m (simp b at h), ih (simp b at h), mirror x r) (or-mix (p r x) (any (p x) m) (any (p r) m) (pair p m))
+              simp (a, b, any-put (p x) r m (simp b at h), ih (simp b at h), mirror x r) (or-mix (p r x) (any (p x) m) (any (p r) m) (somePair p m))
 
       -- some two of rs, or one of rs and one of m
       abbrev across : Map F → Map F → Bool
-      across rs m = pair p rs || any (λ x. any (p x) m) rs
+      across rs m = somePair p rs || any (λ x. any (p x) m) rs
 
-      pair-all : (rs m : Map F) → twice rs ≡ false → anyIn rs m ≡ false → pair p (putAll rs m) ≡ across rs m || pair p m
-      unfolding any pair putAll twice anyIn
+      pair-all : (rs m : Map F) → twice rs ≡ false → anyIn rs m ≡ false → somePair p (putAll rs m) ≡ across rs m || somePair p m
+      unfolding any somePair putAll twice anyIn
       pair-all [] m t a = refl
       pair-all (r ∷ rs) m t a =
           let u = or-right (has (r .key) rs) (twice rs) t in
           let b = or-right (has (r .key) m) (anyIn rs m) a in
           pair-put r (putAll rs m) (neither (r .key) rs m (or-left (has (r .key) rs) (twice rs) t) (or-left (has (r .key) m) (anyIn rs m) a))
           ∙ ap₂ (λ (c d : Bool). c || d) (any-all (p r) rs m u b) (pair-all rs m u b)
-          ∙ sym (or-assoc (any (p r) rs || any (p r) m) (across rs m) (pair p m))
-          ∙ ap (λ (c : Bool). c || pair p m) (or-mix (any (p r) rs) (any (p r) m) (pair p rs) (any (λ x. any (p x) m) rs))
+          ∙ sym (or-assoc (any (p r) rs || any (p r) m) (across rs m) (somePair p m))
+          ∙ ap (λ (c : Bool). c || somePair p m) (or-mix (any (p r) rs) (any (p r) m) (somePair p rs) (any (λ x. any (p x) m) rs))
 
       -- a test of two rows that no two of m pass: enough to look at those with a row put in
-      pub pair-putAll : (rs m : Map F) → twice rs ≡ false → Asc 0 m → pair p m ≡ false →
-          pair p (putAll rs m) ≡ pair p rs || any (λ x. any (λ y. p x y && not (has (y .key) rs)) m) rs
+      pub pair-putAll : (rs m : Map F) → twice rs ≡ false → Asc 0 m → somePair p m ≡ false →
+          somePair p (putAll rs m) ≡ somePair p rs || any (λ x. any (λ y. p x y && not (has (y .key) rs)) m) rs
       pair-putAll rs m t h e =
-          ap (pair p) (same-put rs m h)
+          ap (somePair p) (same-put rs m h)
           ∙ pair-all rs (others rs m) t (apart rs rs m (λ k g. g))
           ∙ ap (λ (b : Bool). across rs (others rs m) || b) (pair-keep (λ k. not (has k rs)) m e)
           ∙ or-false (across rs (others rs m))
-          ∙ ap (λ (b : Bool). pair p rs || b) (any-same _ _ rs (λ x. any-kept (p x) (λ k. not (has k rs)) m))
+          ∙ ap (λ (b : Bool). somePair p rs || b) (any-same _ _ rs (λ x. any-kept (p x) (λ k. not (has k rs)) m))

@@ -7,8 +7,8 @@ use native.Mathlib.Omega.{arith}
 use lib.Dec.{eqb}
 use borrow.Author.Tests.{eqb-true, ne-eqb, not-true}
 use Rattle.laws.proofs.Truth.{or-left, or-right}
-use Rattle.register.specs.Fields.{kindOf}
-use Rattle.register.specs.Events.{isConclusion, shareDay}
+use Rattle.home_care.specs.Row.{kindOf}
+use Rattle.home_care.specs.Anomalies.{isConclusion, shareDay}
 use Rattle.judge.specs.Against.{clash}
 use Rattle.judge.specs.Standing.{Outside}
 

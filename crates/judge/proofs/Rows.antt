@@ -7,27 +7,26 @@ use native.Mathlib.Omega.{arith}
 use lib.Dec.{eqb}
 use lib.ListN.{length}
 use borrow.Author.Tests.{ne-eqb, eq-eqb}
-use Rattle.laws.specs.Lists.{any}
+use Rattle.laws.specs.Lists.{any, somePair}
 use Rattle.laws.proofs.Order.{Tri, below, equal, above, tri}
 use Rattle.laws.proofs.Truth.{or-left, or-right}
+use Rattle.laws.proofs.Every.{any-tell}
 use Rattle.model.specs.Map.{Row, Map}
-use Rattle.register.specs.Layout.{siad, eventRest}
-use Rattle.register.specs.Bytes.{from, split, rowIn, eventsFrom}
-use Rattle.register.specs.Events.{pair}
-use Rattle.register.specs.Fields.{kindOf, eventIn, eventKeyOf}
+use Rattle.register.specs.Layout.{eventRest, rowIn}
+use Rattle.register.specs.State.{from, split, eventsFrom}
 use Rattle.register.specs.Search.{Rises, Placed}
-use Rattle.register.proofs.Every.{any-tell}
 use Rattle.register.proofs.From.{from-length, from-cut}
 use Rattle.register.proofs.Walks.{from-next, from-none, from-every}
+use Rattle.home_care.specs.Row.{siad, kindOf, eventNumberIn, eventKeyOf}
 use Rattle.judge.specs.Against.{keyAmong}
 use Rattle.judge.specs.Standing.{eventAt, eventKeyAt, standingIn, Climbs, Settled, Outside}
 
 -- ---- the events in some rows
 
-map-from : (f : ℕ → Row ℕ) (i k : ℕ) → map eventIn (from f i k) ≡ from (λ j. eventIn (f j)) i k
+map-from : (f : ℕ → Row ℕ) (i k : ℕ) → map eventNumberIn (from f i k) ≡ from (λ j. eventNumberIn (f j)) i k
 unfolding from
 map-from f i zero = refl
-map-from f i (suc k) = ap (λ (l : List ℕ). eventIn (f i) ∷ l) (map-from f (suc i) k)
+map-from f i (suc k) = ap (λ (l : List ℕ). eventNumberIn (f i) ∷ l) (map-from f (suc i) k)
 
 any-append : (q : ℕ → Bool) (a b : List ℕ) → any q (a ++ b) ≡ (any q a || any q b)
 unfolding any
@@ -39,10 +38,10 @@ module _ (reg : List ℕ) where
   rows i k = map-from (λ j. split (eventRest siad) (rowIn siad reg j)) i (k - i)
 
   pub next-row : (i hi : ℕ) → i < hi → standingIn reg i hi ≡ eventAt reg i ∷ standingIn reg (i + 1) hi
-  next-row i hi h = ap (map eventIn) (from-next (λ j. split (eventRest siad) (rowIn siad reg j)) i hi h)
+  next-row i hi h = ap (map eventNumberIn) (from-next (λ j. split (eventRest siad) (rowIn siad reg j)) i hi h)
 
   pub no-row : (i hi : ℕ) → hi ≤ i → standingIn reg i hi ≡ []
-  no-row i hi h = ap (map eventIn) (from-none (λ j. split (eventRest siad) (rowIn siad reg j)) i hi h)
+  no-row i hi h = ap (map eventNumberIn) (from-none (λ j. split (eventRest siad) (rowIn siad reg j)) i hi h)
 
   module _ (q : ℕ → Bool) where
     any-cut : (lo i hi : ℕ) → lo ≤ i → i ≤ hi → any q (standingIn reg lo hi) ≡ (any q (standingIn reg lo i) || any q (standingIn reg i hi))
@@ -68,14 +67,14 @@ module _ (reg : List ℕ) where
         go false t = t
 
   -- where no two rows pass, these two do not
-  pub pair-not : (t : ℕ → ℕ → Bool) (n lo p q hi : ℕ) → p ≡ lo + n → p < q → q < hi → pair t (standingIn reg lo hi) ≡ false → t (eventAt reg p) (eventAt reg q) ≡ false
-  unfolding pair
+  pub pair-not : (t : ℕ → ℕ → Bool) (n lo p q hi : ℕ) → p ≡ lo + n → p < q → q < hi → somePair t (standingIn reg lo hi) ≡ false → t (eventAt reg p) (eventAt reg q) ≡ false
+  unfolding somePair
   pair-not t zero lo p q hi e h g none =
       let a : p ≡ lo = omega arith in
-      let here = or-left (any (t (eventAt reg lo)) (standingIn reg (lo + 1) hi)) _ (ap (pair t) (sym (next-row lo hi (omega arith))) ∙ none) in
+      let here = or-left (any (t (eventAt reg lo)) (standingIn reg (lo + 1) hi)) _ (ap (somePair t) (sym (next-row lo hi (omega arith))) ∙ none) in
       rw a (any-not (t (eventAt reg lo)) (lo + 1) q hi (omega arith) g here)
   pair-not t (suc n) lo p q hi e h g none =
-      let rest = or-right (any (t (eventAt reg lo)) (standingIn reg (lo + 1) hi)) _ (ap (pair t) (sym (next-row lo hi (omega arith))) ∙ none) in
+      let rest = or-right (any (t (eventAt reg lo)) (standingIn reg (lo + 1) hi)) _ (ap (somePair t) (sym (next-row lo hi (omega arith))) ∙ none) in
       pair-not t n (lo + 1) p q hi (omega arith) h g rest
 
 -- where only a part of the rows can pass, the part is enough
@@ -129,6 +128,6 @@ kind-rows reg lo hi kind a e p q =
     }
 
 -- as many events as rows
-pub rows-length : (reg : List ℕ) (lo hi : ℕ) (m : Map ℕ) → m ≡ eventsFrom siad reg lo (hi - lo) → length (map eventIn m) ≡ hi - lo
+pub rows-length : (reg : List ℕ) (lo hi : ℕ) (m : Map ℕ) → m ≡ eventsFrom siad reg lo (hi - lo) → length (map eventNumberIn m) ≡ hi - lo
 rows-length reg lo hi m e =
-    ap (λ (l : Map ℕ). length (map eventIn l)) e ∙ ap length (rows reg lo hi) ∙ from-length (eventAt reg) lo (hi - lo)
+    ap (λ (l : Map ℕ). length (map eventNumberIn l)) e ∙ ap length (rows reg lo hi) ∙ from-length (eventAt reg) lo (hi - lo)

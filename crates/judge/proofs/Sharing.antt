@@ -7,10 +7,10 @@ use native.Mathlib.Omega.{arith}
 use lib.Dec.{leb}
 use borrow.Author.Tests.{eqb-true, eq-eqb, leb-false, le-leb, lt-leb}
 use Rattle.laws.proofs.Truth.{and-right}
-use Rattle.register.specs.Fields.{kindOf, dateOf, endOf, eventKeyOf}
-use Rattle.register.specs.Events.{isSuspension, shareDay}
+use Rattle.laws.proofs.Every.{both-false}
 use Rattle.register.specs.Search.{Placed}
-use Rattle.register.proofs.Every.{both-false}
+use Rattle.home_care.specs.Row.{kindOf, dateOf, endOf, eventKeyOf}
+use Rattle.home_care.specs.Anomalies.{isSuspension, shareDay}
 use Rattle.judge.specs.Standing.{eventAt, eventKeyAt, Settled, Outside}
 use Rattle.judge.proofs.Rows.{climb-rises}
 

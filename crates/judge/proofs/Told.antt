@@ -4,20 +4,21 @@ use mathlib.Core.Path.{_≡_, _∙_}
 use mathlib.Core.Bool.{Bool, true}
 use mathlib.Core.List.{List, map}
 use lib.ListN.{length}
-use Rattle.rows.specs.Pack.{each, Fit}
 use Rattle.model.specs.Checks.{first}
 use Rattle.model.specs.Map.{has}
 use Rattle.model.specs.Transmission.{isInsert, isCancel}
-use Rattle.register.specs.Layout.{siad}
-use Rattle.register.specs.Bytes.{casesHeld, eventsHeld, stateOf}
-use Rattle.register.specs.Fields.{eventIn}
-use Rattle.register.specs.Search.{keyOf}
-use Rattle.register.specs.Sound.{eventsOf, isSound}
-use Rattle.tracks.specs.Record.{Head, Admission, Said, admission, events}
+use Rattle.rows.specs.Packing.{each, Fit}
+use Rattle.register.specs.Layout.{casesHeld, eventsHeld}
+use Rattle.register.specs.State.{stateOf}
+use Rattle.register.specs.Search.{probeKey}
+use Rattle.register.specs.Sound.{eventsOf}
+use Rattle.home_care.specs.Row.{siad, eventNumberIn, rowBytes, keyBits}
+use Rattle.home_care.specs.Record.{Head, Admission, Said, admission, events}
+use Rattle.home_care.specs.Anomalies.{Context, outOfQuarter, t11, t12, zeroKept}
+use Rattle.soundness.specs.Sound.{isSound}
 use Rattle.checks.specs.Checks.{checksOf}
-use Rattle.checks.specs.Flow.{kindOf}
+use Rattle.checks.specs.Flow.{typeOf}
 use Rattle.checks.specs.Readable.{Readable}
-use Rattle.checks.specs.Tests.{Context, outOfQuarter, t11, t12, zeroKept}
 use Rattle.checks.proofs.Valid.{sound-state}
 use Rattle.judge.specs.Chain.{answerAdmission}
 use Rattle.judge.proofs.InOrder.{answerEvents}
@@ -27,17 +28,17 @@ use Rattle.judge.proofs.CaseRows.{cases-count, events-count}
 
 module _ (reg : List ℕ) (c : Context) (tipo taken : ℕ) (probe : List ℕ) where
   abbrev stands : Bool
-  stands = has (keyOf 91 662 probe) (stateOf siad reg .cases)
+  stands = has (probeKey rowBytes keyBits probe) (stateOf siad reg .cases)
 
   abbrev rows : ℕ
   rows = casesHeld reg + eventsHeld reg
 
   abbrev standing : List ℕ
-  standing = map eventIn (eventsOf siad (keyOf 91 662 probe) (stateOf siad reg .events))
+  standing = map eventNumberIn (eventsOf siad (probeKey rowBytes keyBits probe) (stateOf siad reg .events))
 
   -- Track 2
   abbrev pub eventsAnswer : List ℕ → Bool → Bool → ℕ
-  eventsAnswer evs bad zero = answerEvents c (isInsert (kindOf tipo)) (isCancel (kindOf tipo)) taken evs bad zero stands rows standing
+  eventsAnswer evs bad zero = answerEvents c (isInsert (typeOf tipo)) (isCancel (typeOf tipo)) taken evs bad zero stands rows standing
 
   pub events-told : Fit (each 8 reg) → (evs : List ℕ) (bad zero : Bool) (r : ℕ) → (isSound reg ≡ true → r ≡ eventsAnswer evs bad zero) →
       (h : Head) (es : List Said) → IsOf probe tipo taken h → IsSaid evs bad zero es → Readable (events h es) → isSound reg ≡ true →
@@ -58,7 +59,7 @@ module _ (reg : List ℕ) (c : Context) (tipo taken : ℕ) (probe : List ℕ) wh
   -- Track 1
   abbrev pub admissionAnswer : (out early abroad zero : Bool) → ℕ
   admissionAnswer out early abroad zero =
-      answerAdmission c (isInsert (kindOf tipo)) (isCancel (kindOf tipo)) out early abroad zero stands rows (length standing)
+      answerAdmission c (isInsert (typeOf tipo)) (isCancel (typeOf tipo)) out early abroad zero stands rows (length standing)
 
   pub admission-told : (birth : ℕ) (main region asl comune stato : List ℕ) (r : ℕ) (h : Head) (a : Admission) → IsOf probe tipo taken h → IsAdmitted birth main region asl comune stato a →
       r ≡ admissionAnswer (outOfQuarter c taken) (t11 (h .key) (a .case)) (t12 (record { region = region; asl = asl; comune = comune; stato = stato })) (zeroKept main) →

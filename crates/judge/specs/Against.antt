@@ -4,10 +4,9 @@ use Prim.Native.Nat.{ℕ}
 use mathlib.Core.Bool.{Bool, cond, not, _&&_, _||_}
 use mathlib.Core.List.{List}
 use lib.Dec.{eqb, ltb}
-use Rattle.laws.specs.Lists.{any}
-use Rattle.register.specs.Fields.{dateOf, endOf, eventKeyOf}
-use Rattle.register.specs.Events.{pair, isSuspension, isConclusion, shareDay, afterConclusion}
-use Rattle.checks.specs.Tests.{Context, outOfQuarter, dayFor}
+use Rattle.laws.specs.Lists.{any, somePair}
+use Rattle.home_care.specs.Row.{dateOf, endOf, eventKeyOf}
+use Rattle.home_care.specs.Anomalies.{isSuspension, isConclusion, shareDay, afterConclusion, Context, outOfQuarter, dayFor}
 
 -- what 10, 23 and 25 ask of one event
 abbrev pub wrong : ℕ → Context → ℕ → ℕ → Bool
@@ -28,4 +27,4 @@ keyAmong es b = any (λ a. eqb (eventKeyOf a) (eventKeyOf b)) es
 
 -- some two of the record's events, or one of them and one that stands and is not replaced: enough, where no two that stand do
 abbrev pub fresh : (ℕ → ℕ → Bool) → List ℕ → List ℕ → Bool
-fresh p es standing = pair p es || any (λ a. any (λ b. p a b && not (keyAmong es b)) standing) es
+fresh p es standing = somePair p es || any (λ a. any (λ b. p a b && not (keyAmong es b)) standing) es

@@ -5,7 +5,7 @@ use mathlib.Core.List.{List}
 use lib.Dec.{eqb, ltb}
 use lib.ListN.{length}
 use Rattle.laws.specs.Lists.{any}
-use Rattle.checks.specs.Tests.{Context}
+use Rattle.home_care.specs.Anomalies.{Context}
 use Rattle.judge.specs.Against.{wrong, clash, keyAmong, fresh}
 
 -- Track 2: what a record brings (its type, its taking in, its events' 52 bits) against what stands (the rows, its case's events)

@@ -4,22 +4,23 @@ use mathlib.Core.Path.{_≡_}
 use mathlib.Core.Bool.{Bool, true, false}
 use mathlib.Core.List.{List, map}
 use lib.ListN.{length}
-use Rattle.register.specs.Layout.{siad, eventRest}
-use Rattle.register.specs.Bytes.{split, rowAt, rowIn, eventsFrom, stateOf}
-use Rattle.register.specs.Fields.{eventIn, eventKeyOf, dateOf, endOf}
-use Rattle.register.specs.Events.{isSuspension, shareDay}
-use Rattle.register.specs.Sound.{eventsOf, isSound}
+use Rattle.register.specs.Layout.{eventRest, rowAt, rowIn}
+use Rattle.register.specs.State.{split, eventsFrom, stateOf}
+use Rattle.register.specs.Sound.{eventsOf}
+use Rattle.home_care.specs.Row.{siad, eventNumberIn, eventKeyOf, dateOf, endOf}
+use Rattle.home_care.specs.Anomalies.{isSuspension, shareDay}
+use Rattle.soundness.specs.Sound.{isSound}
 
 -- the 52 bits of the event in row i, and its part of the key
 abbrev pub eventAt : List ℕ → ℕ → ℕ
-eventAt reg i = eventIn (split (eventRest siad) (rowIn siad reg i))
+eventAt reg i = eventNumberIn (split (eventRest siad) (rowIn siad reg i))
 
 abbrev pub eventKeyAt : List ℕ → ℕ → ℕ
 eventKeyAt reg i = eventKeyOf (eventAt reg i)
 
 -- the events in the rows from lo up to hi
 abbrev pub standingIn : List ℕ → ℕ → ℕ → List ℕ
-standingIn reg lo hi = map eventIn (eventsFrom siad reg lo (hi - lo))
+standingIn reg lo hi = map eventNumberIn (eventsFrom siad reg lo (hi - lo))
 
 -- their keys ascend, as those of one case's events do
 abbrev pub Climbs : List ℕ → ℕ → ℕ → Type 0

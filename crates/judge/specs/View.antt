@@ -4,11 +4,10 @@ use mathlib.Core.Path.{_≡_}
 use mathlib.Core.Bool.{Bool}
 use mathlib.Core.List.{List}
 use Rattle.laws.specs.Lists.{any}
-use Rattle.rows.specs.Row.{rowBytes, keyBits, keyNumber}
-use Rattle.register.specs.Search.{keyOf}
-use Rattle.tracks.specs.Flags.{zeroWritten, badConferma}
-use Rattle.tracks.specs.Record.{Head, Admission, Said}
-use Rattle.checks.specs.Tests.{Context, eventsIn}
+use Rattle.register.specs.Search.{probeKey}
+use Rattle.home_care.specs.Row.{rowBytes, keyBits, keyNumber}
+use Rattle.home_care.specs.Anomalies.{zeroWritten, badConferma, Context}
+use Rattle.home_care.specs.Record.{Head, Admission, Said, eventNumbers}
 use Rattle.judge.specs.declared.Limits.{Limits}
 
 abbrev pub contextIn : Limits → Context
@@ -16,13 +15,13 @@ contextIn l = record { first = l .first; last = l .last; room = l .room }
 
 -- the type, the case's key in the first bits of a probe row, the taking in
 pub record IsOf (probe : List ℕ) (t day : ℕ) (h : Head) : Type 0 where
-  pub key : keyOf rowBytes keyBits probe ≡ keyNumber (h .key)
+  pub key : probeKey rowBytes keyBits probe ≡ keyNumber (h .key)
   pub tipo : t ≡ h .tipo
   pub taken : day ≡ h .key .taken
 
 -- the events' 52 bits, and the two tests of reading
 pub record IsSaid (evs : List ℕ) (b z : Bool) (es : List Said) : Type 0 where
-  pub events : evs ≡ eventsIn es
+  pub events : evs ≡ eventNumbers es
   pub bad : b ≡ any badConferma es
   pub zero : z ≡ any zeroWritten es
 

@@ -3,8 +3,8 @@ ghost use mathlib.Core.Path.{_≡_};
 ghost use Prim.Native.Nat.{_<_};
 ghost use Rattle.days.specs.Calendar.{dayCount};
 ghost use Rattle.days.specs.Table.{Firsts};
-ghost use Rattle.rows.specs.Row.{Key, Case};
-ghost use Rattle.checks.specs.Tests.{t11, t12, isItaly, zeroKept};
+ghost use Rattle.home_care.specs.Row.{Key, Case};
+ghost use Rattle.home_care.specs.Anomalies.{t11, t12, isItaly, zeroKept};
 use markup::bytes::same;
 
 // 11: the birth year against the year of taking in.

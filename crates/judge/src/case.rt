@@ -3,16 +3,16 @@ ghost use mathlib.Core.Path.{_≡_};
 ghost use mathlib.Core.Bool.{true};
 ghost use Prim.Native.Nat.{_+_, _≤_, _<_};
 ghost use lib.ListN.{length};
-ghost use Rattle.rows.specs.Row.{rowBytes, keyBits};
 ghost use Rattle.model.specs.Map.{has};
-ghost use Rattle.register.specs.Bytes.{rowAt, casesHeld, eventsHeld, stateOf};
-ghost use Rattle.register.specs.Layout.{siad};
-ghost use Rattle.register.specs.Search.{keyOf};
-ghost use Rattle.register.specs.Sound.{isSound};
+ghost use Rattle.register.specs.Layout.{rowAt, casesHeld, eventsHeld};
+ghost use Rattle.register.specs.State.{stateOf};
+ghost use Rattle.register.specs.Search.{probeKey};
+ghost use Rattle.home_care.specs.Row.{rowBytes, keyBits, siad};
+ghost use Rattle.soundness.specs.Sound.{isSound};
 ghost use Rattle.judge.specs.Standing.{OfCase};
+use home_care::layout::CASE_KEY;
+use home_care::layout::ROW;
 use register::counts::count;
-use register::layout::CASE_KEY;
-use register::layout::ROW;
 use register::search::Span;
 use register::search::case_range;
 use register::search::place;
@@ -29,7 +29,7 @@ pub fn rows_held(reg: &[u8]) -> usize
 // Whether the probe's case stands.
 pub fn case_stands(reg: &[u8], probe: &[u8]) -> bool
     requires { ⌜ (4 ≤ length (now reg)) × (rowAt siad (casesHeld (now reg) + eventsHeld (now reg)) ≤ length (now reg)) × (length (now probe) ≡ rowBytes) ⌝ }
-    ensures { λ r. ⌜ (isSound (now (reg .entry)) ≡ true → r ≡ has (keyOf rowBytes keyBits (now (probe .entry))) (stateOf siad (now (reg .entry)) .cases)) ⌝ }
+    ensures { λ r. ⌜ (isSound (now (reg .entry)) ≡ true → r ≡ has (probeKey rowBytes keyBits (now (probe .entry))) (stateOf siad (now (reg .entry)) .cases)) ⌝ }
 {
     let cases = count(reg, 0);
     let i = place(reg, ROW, 0, cases, probe, CASE_KEY, 0);
@@ -39,7 +39,7 @@ pub fn case_stands(reg: &[u8], probe: &[u8]) -> bool
 // The rows of its events.
 pub fn case_events(reg: &[u8], probe: &[u8]) -> Span
     requires { ⌜ (4 ≤ length (now reg)) × (rowAt siad (casesHeld (now reg) + eventsHeld (now reg)) ≤ length (now reg)) × (length (now probe) ≡ rowBytes) ⌝ }
-    ensures { λ r. ⌜ OfCase (keyOf rowBytes keyBits (now (probe .entry))) (now (reg .entry)) (r .lo) (r .hi) ⌝ }
+    ensures { λ r. ⌜ OfCase (probeKey rowBytes keyBits (now (probe .entry))) (now (reg .entry)) (r .lo) (r .hi) ⌝ }
 {
     let cases = count(reg, 0);
     let rows = rows_held(reg);

@@ -2,8 +2,8 @@
 ghost use mathlib.Core.Path.{_≡_};
 ghost use Prim.Native.Nat.{_≤_};
 ghost use lib.ListN.{length};
-ghost use Rattle.register.specs.Bytes.{rowAt};
-ghost use Rattle.register.specs.Layout.{siad};
+ghost use Rattle.register.specs.Layout.{rowAt};
+ghost use Rattle.home_care.specs.Row.{siad};
 ghost use Rattle.judge.specs.Against.{clash, fresh};
 ghost use Rattle.judge.specs.Standing.{standingIn, Settled};
 use crate::events::clash;

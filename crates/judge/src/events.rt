@@ -2,24 +2,25 @@
 ghost use mathlib.Core.Path.{_≡_};
 ghost use mathlib.Core.Bool.{not, _&&_};
 ghost use Rattle.laws.specs.Lists.{any};
-ghost use Rattle.register.specs.Events.{afterConclusion};
-ghost use Rattle.checks.specs.Tests.{outOfQuarter, dayFor};
+ghost use Rattle.home_care.specs.Anomalies.{afterConclusion, outOfQuarter, dayFor};
 ghost use Rattle.judge.specs.Against.{wrong, clash, keyAmong};
 ghost use Rattle.judge.specs.View.{contextIn};
 use crate::Limits;
-use register::layout::NEVER;
-use soundness::fields::date_of;
-use soundness::fields::end_of;
-use soundness::fields::event_key_of;
-use soundness::fields::kind_of;
-use soundness::together::share_day;
+use codes::lists::CONCLUSION;
+use codes::lists::SUSPENSION;
+use home_care::event::date_of;
+use home_care::event::end_of;
+use home_care::event::event_key_of;
+use home_care::event::kind_of;
+use home_care::event::share_day;
+use home_care::layout::NEVER;
 
 // The day that 10 asks for: a suspension's end, or its begin where that is missing.
 fn day_for(e: u64) -> u64
     ensures { λ r. ⌜ r ≡ dayFor e ⌝ }
 {
     let end = end_of(e);
-    if (kind_of(e) == 2) & (end != NEVER) {
+    if (kind_of(e) == SUSPENSION) & (end != NEVER) {
         return end;
     }
     date_of(e)
@@ -40,7 +41,7 @@ fn wrong(number: u64, l: Limits, taken: u64, e: u64) -> bool
     }
     let date = date_of(e);
     if number == 23 {
-        return (kind_of(e) == 2) & (end_of(e) < date);
+        return (kind_of(e) == SUSPENSION) & (end_of(e) < date);
     }
     date < taken
 }
@@ -65,7 +66,7 @@ fn after_conclusion(c: u64, e: u64) -> bool
 {
     let last = date_of(c);
     let end = end_of(e);
-    (kind_of(c) == 3) & ((last < date_of(e)) | ((end != NEVER) & (last < end)))
+    (kind_of(c) == CONCLUSION) & ((last < date_of(e)) | ((end != NEVER) & (last < end)))
 }
 
 // What 22, 26, 27 and 28 ask of two events.
@@ -79,7 +80,7 @@ pub fn clash(number: u64, a: u64, b: u64) -> bool
         return share_day(a, b);
     }
     if number == 27 {
-        return (kind_of(a) == 3) & (kind_of(b) == 3);
+        return (kind_of(a) == CONCLUSION) & (kind_of(b) == CONCLUSION);
     }
     after_conclusion(a, b) | after_conclusion(b, a)
 }

@@ -4,20 +4,20 @@ ghost use mathlib.Core.Bool.{true, false};
 ghost use mathlib.Core.List.{List, map};
 ghost use Prim.Native.Nat.{_+_, _≤_, _<_};
 ghost use lib.ListN.{length};
-ghost use Rattle.rows.specs.Row.{rowBytes, keyBits};
+ghost use Rattle.days.specs.Calendar.{dayCount};
+ghost use Rattle.days.specs.Table.{Firsts};
 ghost use Rattle.model.specs.Checks.{first};
 ghost use Rattle.model.specs.Map.{has};
 ghost use Rattle.model.specs.Transmission.{isInsert, isCancel};
-ghost use Rattle.days.specs.Calendar.{dayCount};
-ghost use Rattle.days.specs.Table.{Firsts};
-ghost use Rattle.register.specs.Bytes.{rowAt, casesHeld, eventsHeld, stateOf};
-ghost use Rattle.register.specs.Fields.{eventIn};
-ghost use Rattle.register.specs.Layout.{siad};
-ghost use Rattle.register.specs.Search.{keyOf};
-ghost use Rattle.register.specs.Sound.{eventsOf, isSound};
-ghost use Rattle.tracks.specs.Record.{Head, Admission, Said, admission, events};
+ghost use Rattle.register.specs.Layout.{rowAt, casesHeld, eventsHeld};
+ghost use Rattle.register.specs.State.{stateOf};
+ghost use Rattle.register.specs.Search.{probeKey};
+ghost use Rattle.register.specs.Sound.{eventsOf};
+ghost use Rattle.home_care.specs.Row.{rowBytes, keyBits, eventNumberIn, siad};
+ghost use Rattle.home_care.specs.Record.{Head, Admission, Said, admission, events};
+ghost use Rattle.soundness.specs.Sound.{isSound};
 ghost use Rattle.checks.specs.Checks.{checksOf};
-ghost use Rattle.checks.specs.Flow.{kindOf};
+ghost use Rattle.checks.specs.Flow.{typeOf};
 ghost use Rattle.checks.specs.Readable.{Readable};
 ghost use Rattle.judge.specs.Chain.{againstStanding, answerAdmission};
 ghost use Rattle.judge.specs.Standing.{standingIn, Settled};
@@ -49,7 +49,7 @@ fn against_standing(
 ) -> u8
     requires { ⌜ (lo ≤ hi) × (rowAt siad hi ≤ length (now reg)) × (rows < 131072) × (length (now evs) ≤ 128) ⌝ }
     ensures { λ r. ⌜ (Settled (now (reg .entry)) lo hi
-        → r ≡ againstStanding (contextIn l) (isInsert (kindOf tipo)) (isCancel (kindOf tipo)) taken (now (evs .entry)) rows (standingIn (now (reg .entry)) lo hi)) ⌝ }
+        → r ≡ againstStanding (contextIn l) (isInsert (typeOf tipo)) (isCancel (typeOf tipo)) taken (now (evs .entry)) rows (standingIn (now (reg .entry)) lo hi)) ⌝ }
 {
     // an insertion must find none of its events standing, any other record all of them
     let new = inserts(tipo);
@@ -125,9 +125,9 @@ pub fn judge_events(
 fn against_case(reg: &[u8], l: Limits, tipo: u8, probe: &[u8]) -> u8
     requires { ⌜ (4 ≤ length (now reg)) × (rowAt siad (casesHeld (now reg) + eventsHeld (now reg)) ≤ length (now reg)) × (length (now probe) ≡ rowBytes) ⌝ }
     ensures { λ r. ⌜ (isSound (now (reg .entry)) ≡ true
-        → r ≡ answerAdmission (contextIn l) (isInsert (kindOf tipo)) (isCancel (kindOf tipo)) false false false false
-        (has (keyOf rowBytes keyBits (now (probe .entry))) (stateOf siad (now (reg .entry)) .cases)) (casesHeld (now (reg .entry)) + eventsHeld (now (reg .entry)))
-        (length (map eventIn (eventsOf siad (keyOf rowBytes keyBits (now (probe .entry))) (stateOf siad (now (reg .entry)) .events))))) ⌝ }
+        → r ≡ answerAdmission (contextIn l) (isInsert (typeOf tipo)) (isCancel (typeOf tipo)) false false false false
+        (has (probeKey rowBytes keyBits (now (probe .entry))) (stateOf siad (now (reg .entry)) .cases)) (casesHeld (now (reg .entry)) + eventsHeld (now (reg .entry)))
+        (length (map eventNumberIn (eventsOf siad (probeKey rowBytes keyBits (now (probe .entry))) (stateOf siad (now (reg .entry)) .events))))) ⌝ }
 {
     let new = inserts(tipo);
     let stands = case_stands(reg, probe);

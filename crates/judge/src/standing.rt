@@ -5,25 +5,27 @@ ghost use Prim.Native.Nat.{_+_, _≤_, _<_, _^_};
 ghost use lib.Dec.{eqb};
 ghost use lib.ListN.{length};
 ghost use Rattle.laws.specs.Lists.{any};
-ghost use Rattle.register.specs.Bytes.{rowAt};
-ghost use Rattle.register.specs.Events.{shareDay};
-ghost use Rattle.register.specs.Fields.{kindOf};
-ghost use Rattle.register.specs.Layout.{siad};
+ghost use Rattle.register.specs.Layout.{rowAt};
 ghost use Rattle.register.specs.Search.{Placed};
+ghost use Rattle.home_care.specs.Anomalies.{shareDay};
+ghost use Rattle.home_care.specs.Row.{eventBits, kindOf, siad};
 ghost use Rattle.judge.specs.Against.{clash, keyAmong};
 ghost use Rattle.judge.specs.Standing.{eventAt, eventKeyAt, standingIn, Climbs, Outside};
+use codes::lists::CONCLUSION;
+use codes::lists::SUSPENSION;
+use home_care::event::date_of;
+use home_care::event::end_of;
+use home_care::event::event_key_of;
+use home_care::event::event_of;
+use home_care::event::kind_of;
+use home_care::layout::DATES;
+use home_care::row::row_at;
 use register::search::Span;
-use soundness::allowed::event_of;
-use soundness::fields::date_of;
-use soundness::fields::end_of;
-use soundness::fields::event_key_of;
-use soundness::fields::kind_of;
-use soundness::fields::row_at;
 
 // The event in row i.
 pub fn event_at(reg: &[u8], i: usize) -> u64
     requires { ⌜ rowAt siad (i + 1) ≤ length (now reg) ⌝ }
-    ensures { λ r. ⌜ (r ≡ eventAt (now (reg .entry)) i) × (r < 2 ^ 52) ⌝ }
+    ensures { λ r. ⌜ (r ≡ eventAt (now (reg .entry)) i) × (r < 2 ^ eventBits) ⌝ }
 {
     event_of(row_at(reg, i))
 }
@@ -80,8 +82,8 @@ fn of_kind(reg: &[u8], lo: usize, hi: usize, kind: u64) -> Span
     requires { ⌜ (lo ≤ hi) × (rowAt siad hi ≤ length (now reg)) × (kind < 4) ⌝ }
     ensures { λ r. ⌜ Outside (λ b. eqb (kindOf b) kind) (now (reg .entry)) lo hi (r .lo) (r .hi) ⌝ }
 {
-    let a = event_place(reg, lo, hi, kind * 131072);
-    let e = event_place(reg, a, hi, (kind + 1) * 131072);
+    let a = event_place(reg, lo, hi, kind * DATES);
+    let e = event_place(reg, a, hi, (kind + 1) * DATES);
     Span { lo: a, hi: e }
 }
 
@@ -91,8 +93,8 @@ fn sharing(reg: &[u8], lo: usize, hi: usize, a: u64) -> Span
     requires { ⌜ (lo ≤ hi) × (rowAt siad hi ≤ length (now reg)) ⌝ }
     ensures { λ r. ⌜ Outside (shareDay a) (now (reg .entry)) lo hi (r .lo) (r .hi) ⌝ }
 {
-    let from = event_place(reg, lo, hi, 2 * 131072 + date_of(a));
-    let to = event_place(reg, from, hi, 2 * 131072 + end_of(a) + 1);
+    let from = event_place(reg, lo, hi, SUSPENSION * DATES + date_of(a));
+    let to = event_place(reg, from, hi, SUSPENSION * DATES + end_of(a) + 1);
     if lo < from {
         return Span {
             lo: from - 1,
@@ -108,14 +110,14 @@ pub fn rivals(number: u64, reg: &[u8], lo: usize, hi: usize, a: u64) -> Span
     ensures { λ r. ⌜ Outside (clash number a) (now (reg .entry)) lo hi (r .lo) (r .hi) ⌝ }
 {
     let kind = kind_of(a);
-    if ((number == 26) & (kind != 2)) | ((number == 27) & (kind != 3)) {
+    if ((number == 26) & (kind != SUSPENSION)) | ((number == 27) & (kind != CONCLUSION)) {
         return Span { lo, hi: lo };
     }
     if number == 26 {
         return sharing(reg, lo, hi, a);
     }
-    if (number == 22) | ((number != 27) & (kind == 3)) {
+    if (number == 22) | ((number != 27) & (kind == CONCLUSION)) {
         return Span { lo, hi };
     }
-    of_kind(reg, lo, hi, 3)
+    of_kind(reg, lo, hi, CONCLUSION)
 }

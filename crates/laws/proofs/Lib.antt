@@ -5,3 +5,4 @@ pub mod Order
 pub mod Places
 pub mod Reach
 pub mod Truth
+pub mod Every

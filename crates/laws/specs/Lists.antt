@@ -20,3 +20,8 @@ same [] [] = true
 same [] (b ∷ t) = false
 same (a ∷ s) [] = false
 same (a ∷ s) (b ∷ t) = eqb a b && same s t
+
+-- some pair of the list, the first before the second
+unfoldable pub somePair : {A : Type 0} → (A → A → Bool) → List A → Bool
+somePair p [] = false
+somePair p (x ∷ xs) = any (p x) xs || somePair p xs

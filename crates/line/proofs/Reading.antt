@@ -1,87 +1,61 @@
--- A number read digit by digit: what is left gives the same as the whole, and one law for each way out.
-use Prim.Native.Nat.{ℕ, suc, _+_, _-_, _*_, _^_, _≤_, _<_}
-use Prim.Native.Char.{code}
-use mathlib.Core.Path.{_≡_, sym, ap, _∙_}
-use mathlib.Core.Bool.{true, false}
+-- A number and the mark after it, one law for each way out.
+use Prim.Native.Nat.{ℕ, _+_, _-_, _≤_, _<_}
+use mathlib.Core.Path.{_≡_, refl, sym, ap, _∙_}
 use mathlib.Core.List.{List}
 use native.Mathlib.Omega.{arith}
-use native.Mathlib.Nat.{add-zero, pow-suc, pow-le-pow-right}
-use native.Mathlib.Numerals.{add-one}
 use lib.Dec.{leb}
-use lib.ListN.{length, take, drop, getD, List·getD-eq-default}
+use lib.ListN.{length, take, drop, getD, length-take}
 use lib.Seq.{getD-drop, drop-drop}
 use borrow.Author.Tests.{le-leb, lt-leb, eq-eqb, ne-eqb}
-use Rattle.laws.proofs.Places.{front}
+use Rattle.laws.proofs.Places.{byte-inside}
 use Rattle.laws.proofs.Truth.{and-false}
-use Rattle.laws.specs.Decimal.{isDigit, decimal, decimalAfter}
-use Rattle.markup.specs.Bytes.{run}
-use Rattle.markup.proofs.AtBytes.{run-yes, run-no, run-end}
-use Rattle.line.specs.Line.{space, lineFeed, none, read, cut, numberTo, other, line, firstLine}
+use Rattle.laws.specs.Decimal.{isDigit, decimal}
+use Rattle.codes.specs.Digits.{upTo}
+use Rattle.codes.proofs.Decimals.{four-digits, up-to-le}
+use Rattle.markup.specs.Bytes.{runLength}
+use Rattle.markup.specs.View.{part}
+use Rattle.markup.proofs.AtBytes.{run-part}
+use Rattle.reading.proofs.Leaves.{front-all}
+use Rattle.line.specs.Line.{space, lineFeed, none, read, numberTo, other, line, firstLine}
 
--- after so many digits, which write the value, at a place
-pub record Going (s : List ℕ) (from value digits at : ℕ) : Type 0 where
-  pub few : digits ≤ 4
-  pub small : value < 10 ^ digits
-  pub place : at ≡ from + digits
-  pub count : run isDigit (drop from s) ≡ digits + run isDigit (drop at s)
-  pub writes : (j : ℕ) → decimal (take (digits + j) (drop from s)) ≡ decimalAfter value (take j (drop at s))
-
-pub going-start : (s : List ℕ) (from : ℕ) → Going s from 0 0 from
-going-start s from =
-    record { few = omega arith; small = omega arith; place = omega arith; count = omega arith; writes = λ j. let e : 0 + j ≡ j = omega arith in rw e }
-
-module _ (s : List ℕ) (from value digits at : ℕ) (g : Going s from value digits at) where
-  pub value-below : value ≤ 9999
-  value-below = omega (arith, g .small, pow-le-pow-right {n = 10} (omega arith) (g .few))
-
-  pub going-next : (d : ℕ) → at < length s → isDigit (getD s at 0) ≡ true → (digits ≡ 4 → ⊥) → d ≡ getD s at 0 - code "0" → d ≤ 9 → Going s from (value * 10 + d) (digits + 1) (at + 1)
-  unfolding decimalAfter
-  going-next d h t n e b =
-      record {
-        few = omega (arith, g .few);
-        small = rw (add-one digits, pow-suc 10 digits) (omega (arith, g .small));
-        place = omega (arith, g .place);
-        count = omega (arith, g .count, run-yes isDigit s at h t);
-        writes = λ j.
-            let k : digits + 1 + j ≡ digits + suc j = omega arith in
-            rw k (g .writes (suc j) ∙ rw (front s at h, e));
-      }
-
+-- the digits end at a place
+module _ (s : List ℕ) (from end mark : ℕ) (e : end ≡ from + runLength isDigit (drop from s)) where
   -- the byte after the last digit
-  byte : getD (drop from s) digits 0 ≡ getD s at 0
-  byte = getD-drop from s digits 0 ∙ ap (λ (k : ℕ). getD s k 0) (sym (g .place))
+  byte : getD (drop from s) (runLength isDigit (drop from s)) 0 ≡ getD s end 0
+  byte = getD-drop from s (runLength isDigit (drop from s)) 0 ∙ ap (λ (k : ℕ). getD s k 0) (sym e)
 
-  module _ (mark : ℕ) where
-    -- where no digit stands any more, the number is cut here
-    told : run isDigit (drop at s) ≡ 0 → numberTo mark (drop from s) ≡ cut mark digits (drop from s)
-    unfolding numberTo
-    told over = let n : run isDigit (drop from s) ≡ digits = omega (arith, g .count) in rw n
+  pub number-empty : end ≡ from → none ≡ numberTo mark (drop from s)
+  unfolding numberTo
+  number-empty h = let z : runLength isDigit (drop from s) ≡ 0 = omega arith in rw z
 
-    unmarked : run isDigit (drop at s) ≡ 0 → (getD s at 0 ≡ mark → ⊥) → none ≡ numberTo mark (drop from s)
-    unmarked over m = rw (told over, byte, ne-eqb (getD s at 0) mark m, and-false (leb digits 4), and-false (leb 1 digits))
+  pub number-long : 4 < end - from → none ≡ numberTo mark (drop from s)
+  unfolding numberTo
+  number-long h =
+      let l : 4 < runLength isDigit (drop from s) = omega arith in
+      rw (lt-leb (runLength isDigit (drop from s)) 4 l, and-false (leb 1 (runLength isDigit (drop from s))))
 
-    pub number-end : length s ≤ at → 0 < mark → none ≡ numberTo mark (drop from s)
-    number-end h m = unmarked (run-end isDigit s at h) (λ e. let z : getD s at 0 ≡ 0 = List·getD-eq-default s 0 h in omega arith)
+  pub number-unmarked : (getD s end 0 ≡ mark → ⊥) → none ≡ numberTo mark (drop from s)
+  unfolding numberTo
+  number-unmarked m =
+      rw (byte, ne-eqb (getD s end 0) mark m, and-false (leb (runLength isDigit (drop from s)) 4), and-false (leb 1 (runLength isDigit (drop from s))))
 
-    pub number-long : at < length s → isDigit (getD s at 0) ≡ true → digits ≡ 4 → none ≡ numberTo mark (drop from s)
-    unfolding numberTo
-    number-long h t e =
-        let l : 4 < run isDigit (drop from s) = omega (arith, g .count, run-yes isDigit s at h t) in
-        rw (lt-leb (run isDigit (drop from s)) 4 l, and-false (leb 1 (run isDigit (drop from s))))
+  pub number-is : (end ≡ from → ⊥) → end - from ≤ 4 → getD s end 0 ≡ mark → {v : ℕ} → v ≡ upTo 9999 (decimal (part s from end))
+      → read v (drop (end + 1) s) ≡ numberTo mark (drop from s)
+  unfolding numberTo
+  number-is some few m v =
+      let p : from + (runLength isDigit (drop from s) + 1) ≡ end + 1 = omega arith in
+      let l : length (take (runLength isDigit (drop from s)) (drop from s)) ≤ 4 = rw length-take (omega arith) in
+      let w =
+      v ∙ ap (λ x. upTo 9999 (decimal x)) (run-part isDigit s from end e) ∙ four-digits (take (runLength isDigit (drop from s)) (drop from s)) (front-all isDigit (drop from s)) l
+      in
+      rw (le-leb 1 (runLength isDigit (drop from s)) (omega arith), le-leb (runLength isDigit (drop from s)) 4 (omega arith), byte, eq-eqb (getD s end 0) mark m, w, drop-drop (runLength isDigit (drop from s) + 1) from s, p)
 
-    module _ (h : at < length s) (f : isDigit (getD s at 0) ≡ false) where
-      pub number-empty : digits ≡ 0 → none ≡ numberTo mark (drop from s)
-      number-empty z = rw (told (run-no isDigit s at h f), z)
+pub value-below : {v : ℕ} (t : List ℕ) → v ≡ upTo 9999 (decimal t) → v ≤ 9999
+value-below t e = rw e (up-to-le 9999 (decimal t))
 
-      pub number-unmarked : (getD s at 0 ≡ mark → ⊥) → none ≡ numberTo mark (drop from s)
-      number-unmarked m = unmarked (run-no isDigit s at h f) m
-
-      pub number-is : (digits ≡ 0 → ⊥) → getD s at 0 ≡ mark → read value (drop (at + 1) s) ≡ numberTo mark (drop from s)
-      unfolding decimalAfter
-      number-is n m =
-          let v : decimal (take digits (drop from s)) ≡ value = rw add-zero at (g .writes 0) in
-          let p : from + (digits + 1) ≡ at + 1 = omega (arith, g .place) in
-          rw (told (run-no isDigit s at h f), le-leb 1 digits (omega arith), le-leb digits 4 (g .few), byte, eq-eqb (getD s at 0) mark m, v, drop-drop (digits + 1) from s, p)
+-- a mark is no 0, so it stands within the input
+pub mark-inside : (s : List ℕ) (end mark : ℕ) → 0 < mark → getD s end 0 ≡ mark → end < length s
+mark-inside s end mark h e = byte-inside s end (getD s end 0) mark (ne-eqb 0 mark (λ z. omega arith)) refl e
 
 -- the four ways out of the first line: each number leaves what follows it
 module _ (s : List ℕ) where

@@ -6,7 +6,7 @@ use mathlib.Core.List.{List}
 use lib.Dec.{eqb, ltb, leb}
 use lib.ListN.{length, take, drop, getD}
 use Rattle.laws.specs.Decimal.{isDigit, decimal}
-use Rattle.markup.specs.Bytes.{run}
+use Rattle.markup.specs.Bytes.{runLength}
 
 abbrev pub space : ℕ
 space = 32
@@ -28,20 +28,20 @@ cut mark n l = cond (marked mark n l) (read (decimal (take n l)) (drop (n + 1) l
 
 -- all digits at the front, and the mark
 unfoldable pub numberTo : ℕ → List ℕ → Read
-numberTo mark l = cut mark (run isDigit l) l
+numberTo mark l = cut mark (runLength isDigit l) l
 
 -- "any other first line"; or track, year, quarter and the submission
 pub data Line : Type 0 where
   other : Line
   line : (track year quarter : ℕ) (submission : List ℕ) → Line
 
-abbrev pub taken : Read → (ℕ → List ℕ → Line) → Line
-taken none next = other
-taken (read n l) next = next n l
+abbrev pub afterRead : Read → (ℕ → List ℕ → Line) → Line
+afterRead none next = other
+afterRead (read n l) next = next n l
 
 unfoldable pub firstLine : List ℕ → Line
 firstLine l =
-    taken (numberTo space l) (λ track l. taken (numberTo space l) (λ year l. taken (numberTo lineFeed l) (λ quarter l. line track year quarter l)))
+    afterRead (numberTo space l) (λ track l. afterRead (numberTo space l) (λ year l. afterRead (numberTo lineFeed l) (λ quarter l. line track year quarter l)))
 
 -- "a submission above 49,152 bytes"
 abbrev pub most : ℕ

@@ -1,11 +1,15 @@
 // The program's first line: track, year and quarter (document 01, "The program reads standard input").
 ghost use mathlib.Core.Path.{_≡_};
-ghost use mathlib.Core.Bool.{true};
-ghost use Prim.Native.Nat.{_-_, _<_, _≤_};
+ghost use Prim.Native.Nat.{_+_, _<_};
 ghost use lib.ListN.{drop};
 ghost use Rattle.laws.specs.Decimal.{isDigit};
+ghost use Rattle.markup.specs.Bytes.{runLength};
 ghost use Rattle.line.specs.Line.{numberTo, firstLine, request};
 ghost use Rattle.line.specs.View.{viewNumber, okNumber, viewLine, okLine, viewAsked, okAsked};
+use codes::digits::is_digit;
+use codes::digits::read_digits;
+use markup::bytes::part;
+use markup::bytes::peek;
 
 // A number and the place after its mark.
 pub enum Number {
@@ -39,18 +43,18 @@ pub enum Asked {
 // "a submission above 49,152 bytes" is too long.
 const MOST: usize = 49152;
 
-fn is_digit(b: u8) -> bool
-    ensures { λ r. ⌜ r ≡ isDigit b ⌝ }
+// The place after the digits at a place.
+fn digits_end(s: &[u8], from: usize) -> usize
+    ensures { λ r. ⌜ r ≡ from + runLength isDigit (drop from (now (s .entry))) ⌝ }
 {
-    (b'0' <= b) & (b <= b'9')
-}
-
-// What a digit counts.
-fn digit(b: u8) -> u64
-    requires { ⌜ isDigit b ≡ true ⌝ }
-    ensures { λ r. ⌜ (r ≡ b - 48) × (r ≤ 9) ⌝ }
-{
-    (b - b'0') as u64
+    let mut at = from;
+    while at < s.len() {
+        if !is_digit(s[at]) {
+            return at;
+        }
+        at += 1;
+    }
+    at
 }
 
 // A number of 1 to 4 digits, and the mark that must follow it.
@@ -58,31 +62,21 @@ fn number_to(s: &[u8], from: usize, mark: u8) -> Number
     requires { ⌜ 0 < mark ⌝ }
     ensures { λ r. ⌜ (viewNumber (now (s .entry)) r ≡ numberTo mark (drop from (now (s .entry)))) × okNumber (now (s .entry)) from r ⌝ }
 {
-    let mut value: u64 = 0;
-    let mut digits: u64 = 0;
-    let mut at = from;
-    while at < s.len() {
-        let b = s[at];
-        if !is_digit(b) {
-            if digits == 0 {
-                return Number::Refused;
-            }
-            if b != mark {
-                return Number::Refused;
-            }
-            return Number::Is {
-                value,
-                next: at + 1,
-            };
-        }
-        if digits == 4 {
-            return Number::Refused;
-        }
-        value = value * 10 + digit(b);
-        digits += 1;
-        at += 1;
+    let end = digits_end(s, from);
+    if end == from {
+        return Number::Refused;
     }
-    Number::Refused
+    if 4 < end - from {
+        return Number::Refused;
+    }
+    if peek(s, end) != mark {
+        return Number::Refused;
+    }
+    let read = read_digits(part(s, from, end), 9999);
+    Number::Is {
+        value: read.number,
+        next: end + 1,
+    }
 }
 
 // The first line of the program's input.

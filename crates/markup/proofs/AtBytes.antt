@@ -11,45 +11,45 @@ use lib.Dec.{eqb, leb}
 use borrow.Author.Tests.{eqb-true, ne-eqb}
 use Rattle.laws.specs.Lists.{same}
 use Rattle.laws.proofs.Places.{front, same-no, same-yes, same-end, different}
-use Rattle.markup.specs.Bytes.{isWs, isName, isText, inValue, run}
+use Rattle.markup.specs.Bytes.{isWs, isName, isText, inValue, runLength}
 use Rattle.markup.specs.Names.{isQuote, skipWs}
 use Rattle.markup.specs.Classes.{class}
 use Rattle.markup.specs.View.{part}
 
 module _ (p : ℕ → Bool) where
-  pub run-le : (l : List ℕ) → run p l ≤ length l
-  unfolding run
+  pub run-le : (l : List ℕ) → runLength p l ≤ length l
+  unfolding runLength
   run-le [] = omega arith
   run-le (b ∷ bs) = go (p b) (run-le bs)
     where
-      go : (t : Bool) → run p bs ≤ length bs → cond t (suc (run p bs)) 0 ≤ suc (length bs)
+      go : (t : Bool) → runLength p bs ≤ length bs → cond t (suc (runLength p bs)) 0 ≤ suc (length bs)
       go true h = omega arith
       go false h = omega arith
 
-  pub run-yes : (s : List ℕ) (at : ℕ) → at < length s → p (getD s at 0) ≡ true → run p (drop at s) ≡ suc (run p (drop (at + 1) s))
-  unfolding run
+  pub run-yes : (s : List ℕ) (at : ℕ) → at < length s → p (getD s at 0) ≡ true → runLength p (drop at s) ≡ suc (runLength p (drop (at + 1) s))
+  unfolding runLength
   run-yes s at h e = rw (front s at h, e)
 
-  pub run-no : (s : List ℕ) (at : ℕ) → at < length s → p (getD s at 0) ≡ false → run p (drop at s) ≡ 0
-  unfolding run
+  pub run-no : (s : List ℕ) (at : ℕ) → at < length s → p (getD s at 0) ≡ false → runLength p (drop at s) ≡ 0
+  unfolding runLength
   run-no s at h e = rw (front s at h, e)
 
-  pub run-end : (s : List ℕ) (at : ℕ) → length s ≤ at → run p (drop at s) ≡ 0
-  unfolding run
+  pub run-end : (s : List ℕ) (at : ℕ) → length s ≤ at → runLength p (drop at s) ≡ 0
+  unfolding runLength
   run-end s at h = rw (drop-of-length-le s h)
 
   -- where the first byte passes, the run goes on from there and ends within the input
-  pub run-ahead : (s : List ℕ) (at e : ℕ) → at < length s → p (getD s at 0) ≡ true → e ≡ at + run p (drop at s) → (at < e) × (e ≤ length s)
+  pub run-ahead : (s : List ℕ) (at e : ℕ) → at < length s → p (getD s at 0) ≡ true → e ≡ at + runLength p (drop at s) → (at < e) × (e ≤ length s)
   run-ahead s at e h y k = (omega (arith, run-yes s at h y), omega (arith, run-le (drop at s), length-drop at s))
 
   -- the run and what follows it, by its end
-  pub run-part : (s : List ℕ) (at e : ℕ) → e ≡ at + run p (drop at s) → part s at e ≡ take (run p (drop at s)) (drop at s)
+  pub run-part : (s : List ℕ) (at e : ℕ) → e ≡ at + runLength p (drop at s) → part s at e ≡ take (runLength p (drop at s)) (drop at s)
   run-part s at e k = rw (k, add-sub-cancel-left)
 
-  pub run-after : (s : List ℕ) (at e : ℕ) → e ≡ at + run p (drop at s) → drop e s ≡ drop (run p (drop at s)) (drop at s)
-  run-after s at e k = ap (λ (n : ℕ). drop n s) k ∙ sym (drop-drop (run p (drop at s)) at s)
+  pub run-after : (s : List ℕ) (at e : ℕ) → e ≡ at + runLength p (drop at s) → drop e s ≡ drop (runLength p (drop at s)) (drop at s)
+  run-after s at e k = ap (λ (n : ℕ). drop n s) k ∙ sym (drop-drop (runLength p (drop at s)) at s)
 
-pub skip-at : (s : List ℕ) (from at : ℕ) → at ≡ from + run (class 0) (drop from s) → drop at s ≡ skipWs (drop from s)
+pub skip-at : (s : List ℕ) (from at : ℕ) → at ≡ from + runLength (class 0) (drop from s) → drop at s ≡ skipWs (drop from s)
 unfolding skipWs class
 skip-at s from at k = run-after isWs s from at k
 

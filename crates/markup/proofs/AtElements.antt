@@ -14,7 +14,7 @@ use Rattle.laws.specs.Loop.Step.{next}
 use Rattle.laws.specs.Lists.{same}
 use Rattle.laws.proofs.Places.{front as front-at, first, byte-inside, same-length}
 use Rattle.laws.proofs.Reach.{Reach, reach-next, reach-stop, reach-to}
-use Rattle.markup.specs.Bytes.{isNameStart, isName, isText, run, front, after}
+use Rattle.markup.specs.Bytes.{isNameStart, isName, isText, runLength, front, after}
 use Rattle.markup.specs.Names.{skipWs, byte, name}
 use Rattle.markup.specs.Reading.{Read, then}
 use Rattle.markup.specs.Reading.Read.{refused, read}
@@ -32,11 +32,11 @@ module _ (n s : List ℕ) (at : ℕ) where
   unfolding piece
   piece-end h = rw (drop-of-length-le s h)
 
-  pub piece-text : (e : ℕ) → at < length s → (getD s at 0 ≡ 60 → ⊥) → e ≡ at + run (class 60) (drop at s) → read (words (part s at e)) (drop e s) ≡ piece n (drop at s)
+  pub piece-text : (e : ℕ) → at < length s → (getD s at 0 ≡ 60 → ⊥) → e ≡ at + runLength (class 60) (drop at s) → read (words (part s at e)) (drop e s) ≡ piece n (drop at s)
   unfolding piece class
   piece-text e h t k = rw (run-part isText s at e k, run-after isText s at e k, front-at s at h, ne-eqb (getD s at 0) 60 t)
 
-  pub text-ahead : (e : ℕ) → at < length s → (getD s at 0 ≡ 60 → ⊥) → e ≡ at + run (class 60) (drop at s) → (at < e) × (e ≤ length s)
+  pub text-ahead : (e : ℕ) → at < length s → (getD s at 0 ≡ 60 → ⊥) → e ≡ at + runLength (class 60) (drop at s) → (at < e) × (e ≤ length s)
   unfolding class
   text-ahead e h t k = run-ahead isText s at e h (ap not (ne-eqb (getD s at 0) 60 t)) k
 
@@ -51,7 +51,7 @@ end-known : (n l z : List ℕ) → endTag n l ≡ read tt z → byte 62 (skipWs 
 unfolding endTag name
 end-known n l z e = go (isNameStart (getD l 0 0)) e
   where
-    size : length (front isName l) ≡ run isName l
+    size : length (front isName l) ≡ runLength isName l
     size = simp length-take (omega (arith, run-le isName l))
 
     on : (t : Bool) → same n (front isName l) ≡ t → cond t (byte 62 (skipWs (after isName l))) refused ≡ read tt z → byte 62 (skipWs (drop (length n) l)) ≡ read tt z

@@ -10,12 +10,12 @@ use lib.Dec.{eqb}
 use Rattle.laws.specs.Lists.{all}
 use Rattle.laws.specs.Loop.Step.{stop}
 use Rattle.laws.proofs.Places.{front, first}
-use Rattle.markup.specs.Bytes.{inFile, run}
+use Rattle.markup.specs.Bytes.{inFile, runLength}
 use Rattle.markup.specs.Reading.{Read, then}
 use Rattle.markup.specs.Reading.Read.{refused, read}
 use Rattle.markup.specs.Comments.{dashed}
-use Rattle.markup.specs.Elements.{Tree, element}
-use Rattle.markup.specs.Document.{declaration, goOn, miscStep, misc, depth, atEnd, document, taken}
+use Rattle.markup.specs.Elements.{Tree, element, depth}
+use Rattle.markup.specs.Document.{declaration, goOn, miscStep, misc, atEnd, document, wasRead}
 use Rattle.markup.specs.Classes.{class}
 use Rattle.markup.specs.View.{left, okPast}
 use Rattle.markup.specs.declared.Move.{Move}
@@ -23,7 +23,7 @@ use Rattle.markup.specs.declared.Move.the-variants as move
 use Rattle.markup.proofs.AtBytes.{skip-at}
 
 -- the white space ends at `at`
-pub misc-at : (s : List ℕ) (from at : ℕ) → at ≡ from + run (class 0) (drop from s)
+pub misc-at : (s : List ℕ) (from at : ℕ) → at ≡ from + runLength (class 0) (drop from s)
     → miscStep (drop from s) ≡ cond (eqb (getD s at 0) 60 && eqb (getD s (at + 1) 0) 33) (goOn (dashed (drop (at + 2) s))) (stop (read tt (drop at s)))
 unfolding miscStep
 misc-at s from at h = rw (← skip-at s from at h, first s at, getD-drop at s 1 0, drop-drop 2 at s)
@@ -47,7 +47,7 @@ module _ (m : List ℕ) where
     root-end refused h e i = refl
     root-end (read t k) h e i = let j : k ≡ m = cc in rw (j, ← e, drop-of-length-le s i)
 
-pub root-taken : (o : Read Tree) (m : List ℕ) → read tt m ≡ left o → taken {A = Tree} (then o (λ t _. read t [])) ≡ true
+pub root-taken : (o : Read Tree) (m : List ℕ) → read tt m ≡ left o → wasRead {A = Tree} (then o (λ t _. read t [])) ≡ true
 root-taken refused m h = absurd (let z : _≡_ {A = ℕ} 0 1 = cc in omega arith)
 root-taken (read t k) m h = refl
 

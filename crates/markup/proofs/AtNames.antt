@@ -8,7 +8,7 @@ use native.Mathlib.Omega.{arith}
 use lib.ListN.{length, drop, getD, drop-of-length-le}
 use borrow.Author.Tests.{eq-eqb, ne-eqb}
 use Rattle.laws.proofs.Places.{front, first, inside}
-use Rattle.markup.specs.Bytes.{isNameStart, isName, inValue, run}
+use Rattle.markup.specs.Bytes.{isNameStart, isName, inValue, runLength}
 use Rattle.markup.specs.Reading.{Read, then}
 use Rattle.markup.specs.Reading.Read.{refused, read}
 use Rattle.markup.specs.Names.{byte, name, isQuote, value}
@@ -31,7 +31,7 @@ unfolding byte
 byte-end b s at h = rw (drop-of-length-le s h)
 
 module _ (s : List ℕ) (at : ℕ) where
-  pub name-yes : (e : ℕ) → isNameStart (getD s at 0) ≡ true → e ≡ at + run (class 1) (drop at s) → read (part s at e) (drop e s) ≡ name (drop at s)
+  pub name-yes : (e : ℕ) → isNameStart (getD s at 0) ≡ true → e ≡ at + runLength (class 1) (drop at s) → read (part s at e) (drop e s) ≡ name (drop at s)
   unfolding name class
   name-yes e t k = rw (first s at, t, run-part isName s at e k, run-after isName s at e k)
 
@@ -43,7 +43,7 @@ module _ (s : List ℕ) (at : ℕ) where
   unfolding class
   class-name t = rw t
 
-  pub name-ahead : (e : ℕ) → isNameStart (getD s at 0) ≡ true → e ≡ at + run (class 1) (drop at s) → (at < e) × (e ≤ length s)
+  pub name-ahead : (e : ℕ) → isNameStart (getD s at 0) ≡ true → e ≡ at + runLength (class 1) (drop at s) → (at < e) × (e ≤ length s)
   name-ahead e t k = run-ahead (class 1) s at e (inside isNameStart s at refl t) (class-name t) k
 
 not-lt : {a b : ℕ} → (a < b → ⊥) → b ≤ a
@@ -53,11 +53,11 @@ module _ (s : List ℕ) (at q : ℕ) (h : q ≡ getD s at 0) where
   pub value-inside : isQuote q ≡ true → at < length s
   value-inside t = inside isQuote s at refl (rw h at t)
 
-  pub value-step : (e : ℕ) (o : Read Unit) → isQuote q ≡ true → e ≡ at + 1 + run (class q) (drop (at + 1) s) → o ≡ byte q (drop e s)
+  pub value-step : (e : ℕ) (o : Read Unit) → isQuote q ≡ true → e ≡ at + 1 + runLength (class q) (drop (at + 1) s) → o ≡ byte q (drop e s)
       → then o (λ _ m. read (part s (at + 1) e) m) ≡ value (drop at s)
   unfolding value
   value-step e o t k b =
-      let j : e ≡ at + 1 + run (inValue q) (drop (at + 1) s) = rw (class-quote q t) at k in
+      let j : e ≡ at + 1 + runLength (inValue q) (drop (at + 1) s) = rw (class-quote q t) at k in
       rw (front s at (value-inside t), ← h, t, b, run-part (inValue q) s (at + 1) e j, run-after (inValue q) s (at + 1) e j)
 
   pub value-none : isQuote q ≡ false → refused ≡ value (drop at s)

@@ -9,7 +9,7 @@ use lib.Seq.{drop-drop, take-length, drop-length, take-append-seam, drop-append-
 use borrow.Author.Tests.{ne-eqb}
 use Rattle.laws.specs.Lists.{same}
 use Rattle.laws.proofs.Places.{byte-inside, inside, different}
-use Rattle.markup.specs.Bytes.{isWs, isNameStart, isName, run, front, after}
+use Rattle.markup.specs.Bytes.{isWs, isNameStart, isName, runLength, front, after}
 use Rattle.markup.specs.Names.{skipWs, byte, name}
 use Rattle.markup.specs.Reading.{Read, then}
 use Rattle.markup.specs.Reading.Read.{refused, read}
@@ -26,26 +26,26 @@ never e = absurd (omega arith)
 
 module _ (p : ℕ → Bool) where
   -- a run that is the whole of n goes on in what follows n
-  run-on : (n z : List ℕ) → run p n ≡ length n → run p (n ++ z) ≡ length n + run p z
-  unfolding run
+  run-on : (n z : List ℕ) → runLength p n ≡ length n → runLength p (n ++ z) ≡ length n + runLength p z
+  unfolding runLength
   run-on [] z e = omega arith
   run-on (b ∷ n) z e = go (p b) (run-on n z) e
     where
-      go : (t : Bool) → (run p n ≡ length n → run p (n ++ z) ≡ length n + run p z) → cond t (suc (run p n)) 0 ≡ suc (length n) → cond t (suc (run p (n ++ z))) 0 ≡ suc (length n) + run p z
+      go : (t : Bool) → (runLength p n ≡ length n → runLength p (n ++ z) ≡ length n + runLength p z) → cond t (suc (runLength p n)) 0 ≡ suc (length n) → cond t (suc (runLength p (n ++ z))) 0 ≡ suc (length n) + runLength p z
       go true i e = let j = i (omega arith) in omega arith
       go false i e = absurd (omega arith)
 
   -- a run is the whole of the bytes that it has
-  run-front : (l : List ℕ) → run p (front p l) ≡ run p l
-  unfolding run
+  run-front : (l : List ℕ) → runLength p (front p l) ≡ runLength p l
+  unfolding runLength
   run-front [] = refl
   run-front (b ∷ l) = go (p b) refl (run-front l)
     where
-      go : (t : Bool) → p b ≡ t → run p (front p l) ≡ run p l → run p (take (cond t (suc (run p l)) 0) (b ∷ l)) ≡ cond t (suc (run p l)) 0
+      go : (t : Bool) → p b ≡ t → runLength p (front p l) ≡ runLength p l → runLength p (take (cond t (suc (runLength p l)) 0) (b ∷ l)) ≡ cond t (suc (runLength p l)) 0
       go true f i = rw (f, i)
       go false f i = refl
 
-  front-length : (l : List ℕ) → length (front p l) ≡ run p l
+  front-length : (l : List ℕ) → length (front p l) ≡ runLength p l
   front-length l = simp length-take (omega (arith, run-le p l))
 
 -- ---- names
@@ -61,18 +61,18 @@ name-whole l n m e = go (isNameStart (getD l 0 0)) refl e
     go true f u =
         let x : front isName l ≡ n = cc in
         let i : 0 < length l = inside isNameStart l 0 refl f in
-        let k : 0 < run isName l = omega (arith, run-yes isName l 0 i (rw f)) in
-        let g : getD n 0 0 ≡ getD l 0 0 = ap (λ (q : List ℕ). getD q 0 0) (sym x) ∙ getD-take (run isName l) l 0 0 k in
-        let r : run isName n ≡ length n = rw (← x) (run-front isName l ∙ sym (front-length isName l)) in
+        let k : 0 < runLength isName l = omega (arith, run-yes isName l 0 i (rw f)) in
+        let g : getD n 0 0 ≡ getD l 0 0 = ap (λ (q : List ℕ). getD q 0 0) (sym x) ∙ getD-take (runLength isName l) l 0 0 k in
+        let r : runLength isName n ≡ length n = rw (← x) (run-front isName l ∙ sym (front-length isName l)) in
         rw (g, f, r, take-length n, drop-length n)
 
 -- a name starts as one, and all its bytes are a name's
-name-parts : (n : List ℕ) → WholeName n → (isNameStart (getD n 0 0) ≡ true) × (run isName n ≡ length n)
+name-parts : (n : List ℕ) → WholeName n → (isNameStart (getD n 0 0) ≡ true) × (runLength isName n ≡ length n)
 unfolding name
 name-parts n e = go (isNameStart (getD n 0 0)) refl e
   where
     go : (t : Bool) → isNameStart (getD n 0 0) ≡ t → cond t (read (front isName n) (after isName n)) refused ≡ read n []
-        → (isNameStart (getD n 0 0) ≡ true) × (run isName n ≡ length n)
+        → (isNameStart (getD n 0 0) ≡ true) × (runLength isName n ≡ length n)
     go false f u = never cc
     go true f u =
         let x : front isName n ≡ n = cc in
@@ -102,8 +102,8 @@ tag-named l {t} {m} e = go (byte 60 l) e
 -- ---- end tags
 
 -- a name that goes on is not at its end
-name-stops : (z : List ℕ) (k : ℕ) → run isName z ≡ suc k → byte 62 (skipWs z) ≡ refused
-unfolding run skipWs byte
+name-stops : (z : List ℕ) (k : ℕ) → runLength isName z ≡ suc k → byte 62 (skipWs z) ≡ refused
+unfolding runLength skipWs byte
 name-stops [] k e = absurd (omega arith)
 name-stops (c ∷ z) k e = go (isName c) refl e
   where
@@ -111,7 +111,7 @@ name-stops (c ∷ z) k e = go (isName c) refl e
     space f true w = absurd (true≢false (sym (name-word c f) ∙ ws-word c w))
     space f false w = refl
 
-    go : (t : Bool) → isName c ≡ t → cond t (suc (run isName z)) 0 ≡ suc k → byte 62 (drop (cond (isWs c) (suc (run isWs z)) 0) (c ∷ z)) ≡ refused
+    go : (t : Bool) → isName c ≡ t → cond t (suc (runLength isName z)) 0 ≡ suc k → byte 62 (drop (cond (isWs c) (suc (runLength isWs z)) 0) (c ∷ z)) ≡ refused
     go true f e = rw (space f (isWs c) refl, ne-eqb c 62 (λ q. true≢false (sym f ∙ ap isName q)))
     go false f e = absurd (omega arith)
 
@@ -122,14 +122,14 @@ name-on (b ∷ n) z i = rw (name-parts (b ∷ n) i .0)
 
 end-on : (n z : List ℕ) → WholeName n → endTag n (n ++ z) ≡ byte 62 (skipWs z)
 unfolding endTag
-end-on n z i = rw (name-on n z i) (go (run isName z) refl)
+end-on n z i = rw (name-on n z i) (go (runLength isName z) refl)
   where
-    all : run isName (n ++ z) ≡ length n + run isName z
+    all : runLength isName (n ++ z) ≡ length n + runLength isName z
     all = run-on isName n z (name-parts n i .1)
 
-    go : (k : ℕ) → run isName z ≡ k → cond (same n (front isName (n ++ z))) (byte 62 (skipWs (after isName (n ++ z)))) refused ≡ byte 62 (skipWs z)
+    go : (k : ℕ) → runLength isName z ≡ k → cond (same n (front isName (n ++ z))) (byte 62 (skipWs (after isName (n ++ z)))) refused ≡ byte 62 (skipWs z)
     go zero e =
-        let r : run isName (n ++ z) ≡ length n = omega (arith, all) in
+        let r : runLength isName (n ++ z) ≡ length n = omega (arith, all) in
         rw (r, take-append-seam n z, drop-append-seam n z, same-self n)
     go (suc k) e =
         let d : same n (front isName (n ++ z)) ≡ false = sym (different n (front isName (n ++ z)) (λ q. omega (arith, all, front-length isName (n ++ z)))) in
@@ -150,7 +150,7 @@ end-other n l f = go (name l) refl
     differs : (m : List ℕ) → m ≡ front isName l → (t : Bool) → same n m ≡ t → t ≡ false
     differs m x true w =
         let e : n ≡ m = same-eq n m w in
-        let k : length n ≡ run isName l = ap length (e ∙ x) ∙ front-length isName l in
+        let k : length n ≡ runLength isName l = ap length (e ∙ x) ∙ front-length isName l in
         let y : take (length n) l ≡ n = ap (λ (j : ℕ). take j l) k ∙ sym x ∙ sym e in
         absurd (true≢false (sym (same-self n) ∙ ap (same n) (sym y) ∙ f))
     differs m x false w = refl

@@ -12,7 +12,7 @@ use borrow.Author.Tests.{eq-eqb, ne-eqb}
 use Rattle.laws.specs.Loop.Step.{stop, next}
 use Rattle.laws.proofs.Places.{first, byte-inside}
 use Rattle.laws.proofs.Truth.{cond-both}
-use Rattle.markup.specs.Bytes.{isWs, run}
+use Rattle.markup.specs.Bytes.{isWs, runLength}
 use Rattle.markup.specs.Reading.{Read, then}
 use Rattle.markup.specs.Reading.Read.{refused, read}
 use Rattle.markup.specs.Names.{byte}
@@ -32,12 +32,12 @@ same-count from w at h = go (ℕ-discrete at from)
     go (Dec.no f) = ne-eqb w 0 (λ z. f (omega arith)) ∙ sym (ne-eqb at from f)
 
 -- the white space ends at `at`, before the byte b
-pub attributes-at : (s : List ℕ) (from at b : ℕ) → at ≡ from + run (class 0) (drop from s) → b ≡ getD s at 0
+pub attributes-at : (s : List ℕ) (from at b : ℕ) → at ≡ from + runLength (class 0) (drop from s) → b ≡ getD s at 0
     → attributesStep (drop from s) ≡ cond (eqb b 62) (stop (read (ending false) (drop (at + 1) s)))
     (cond (eqb b 47) (stop (then (byte 62 (drop (at + 1) s)) (λ _ m. read (ending true) m))) (cond (eqb at from) (stop refused) (goOn (attribute (drop at s)))))
 unfolding attributesStep class
 attributes-at s from at b h k =
-    rw (← skip-at s from at h, first s at, ← k, drop-drop 1 at s, same-count from (run isWs (drop from s)) at h)
+    rw (← skip-at s from at h, first s at, ← k, drop-drop 1 at s, same-count from (runLength isWs (drop from s)) at h)
 
 -- a tag that ends at once
 pub attributes-none : (s : List ℕ) (at b : ℕ) → b ≡ getD s at 0 → b ≡ 62 → (attributes (drop at s) ≡ read (ending false) (drop (at + 1) s)) × (at < length s)
@@ -47,8 +47,8 @@ attributes-none s at b k e = (attributes-turn (drop at s) ∙ rw (attributes-at 
     h : at < length s
     h = byte-inside s at b 62 refl k e
 
-    z : at ≡ at + run (class 0) (drop at s)
-    z = let r : run isWs (drop at s) ≡ 0 = run-no isWs s at h (rw (← k, e)) in omega arith
+    z : at ≡ at + runLength (class 0) (drop at s)
+    z = let r : runLength isWs (drop at s) ≡ 0 = run-no isWs s at h (rw (← k, e)) in omega arith
 
 pub ending-before : (p : Pair) (r : Read Attributes) → endingOf (before p r) ≡ endingOf r
 ending-before p refused = refl

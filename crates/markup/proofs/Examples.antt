@@ -6,7 +6,7 @@ use mathlib.Core.List.{List, [], _∷_}
 use Rattle.laws.specs.Lists.{all, any, same}
 use Rattle.laws.specs.Loop.{turns, loop}
 use Rattle.laws.specs.Text.{bytes}
-use Rattle.markup.specs.Bytes.{run}
+use Rattle.markup.specs.Bytes.{runLength}
 use Rattle.markup.specs.Names.{skipWs, byte, name, value}
 use Rattle.markup.specs.Comments.{comment, dashed, declared}
 use Rattle.markup.specs.Tags.{attribute, attributesStep, attributes, differ, tag, endTag}
@@ -55,5 +55,5 @@ said [] = []
 said (e ∷ es) = e .is ∷ said es
 
 pub examples-hold : told examples ≡ said examples
-unfolding inMarkup document misc miscStep declaration declares element content piece endTag tag differ attributes attributesStep attribute value name byte skipWs comment dashed declared run loop turns all any same
+unfolding inMarkup document misc miscStep declaration declares element content piece endTag tag differ attributes attributesStep attribute value name byte skipWs comment dashed declared runLength loop turns all any same
 examples-hold = refl

@@ -10,7 +10,7 @@ use Rattle.laws.specs.Loop.{turn}
 use Rattle.laws.specs.Loop.Step.{stop, next}
 use Rattle.laws.proofs.Fuel.{Shrinks, loop-turn}
 use Rattle.laws.proofs.Places.{inside}
-use Rattle.markup.specs.Bytes.{isWs, isNameStart, isName, inValue, run, after}
+use Rattle.markup.specs.Bytes.{isWs, isNameStart, isName, inValue, runLength, after}
 use Rattle.markup.specs.Reading.{Read, then}
 use Rattle.markup.specs.Reading.Read.{refused, read}
 use Rattle.markup.specs.Names.{skipWs, byte, name, isQuote, value}
@@ -36,7 +36,7 @@ cond-below true r n h = h refl
 cond-below false r n h = none-below n
 
 after-le : (p : ℕ → Bool) (l : List ℕ) → length (after p l) ≤ length l
-after-le p l = omega (arith, length-drop (run p l) l)
+after-le p l = omega (arith, length-drop (runLength p l) l)
 
 skip-le : (l : List ℕ) → length (skipWs l) ≤ length l
 unfolding skipWs
@@ -54,7 +54,7 @@ name-below l n h = cond-below (isNameStart (getD l 0 0)) _ n (λ t. read-below _
     less : isNameStart (getD l 0 0) ≡ true → length (after isName l) < n
     less t =
         let i : 0 < length l = inside isNameStart l 0 refl t in
-        omega (arith, length-drop (run isName l) l, run-yes isName l 0 i (rw t))
+        omega (arith, length-drop (runLength isName l) l, run-yes isName l 0 i (rw t))
 
 pub value-below : (l : List ℕ) (n : ℕ) → length l ≤ n → Below (value l) n
 unfolding value
@@ -73,7 +73,7 @@ attribute-below l n h =
 attributes-less : Shrinks attributesStep
 unfolding attributesStep
 attributes-less l f m e =
-    go (eqb (getD (skipWs l) 0 0) 62) (eqb (getD (skipWs l) 0 0) 47) (eqb (run isWs l) 0) _ _ (attribute (skipWs l)) e (attribute-below (skipWs l) (length l) (skip-le l))
+    go (eqb (getD (skipWs l) 0 0) 62) (eqb (getD (skipWs l) 0 0) 47) (eqb (runLength isWs l) 0) _ _ (attribute (skipWs l)) e (attribute-below (skipWs l) (length l) (skip-le l))
   where
     go : (p q w : Bool) (x y : Read Attributes) (r : Read Pair) → cond p (stop x) (cond q (stop y) (cond w (stop refused) (goOn r))) ≡ next f m → Below r (length l) → length m < length l
     go true q w x y r e h = absurd (let z : _≡_ {A = ℕ} 0 1 = cc in omega arith)

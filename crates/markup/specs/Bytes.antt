@@ -35,12 +35,12 @@ abbrev pub isText : ℕ → Bool
 isText b = not (eqb b (code "<"))
 
 -- how many bytes at the front pass a test; those bytes; what follows them
-unfoldable pub run : (ℕ → Bool) → List ℕ → ℕ
-run p [] = 0
-run p (b ∷ l) = cond (p b) (suc (run p l)) 0
+unfoldable pub runLength : (ℕ → Bool) → List ℕ → ℕ
+runLength p [] = 0
+runLength p (b ∷ l) = cond (p b) (suc (runLength p l)) 0
 
 abbrev pub front : (ℕ → Bool) → List ℕ → List ℕ
-front p l = take (run p l) l
+front p l = take (runLength p l) l
 
 abbrev pub after : (ℕ → Bool) → List ℕ → List ℕ
-after p l = drop (run p l) l
+after p l = drop (runLength p l) l

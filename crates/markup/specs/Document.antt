@@ -14,7 +14,7 @@ use Rattle.markup.specs.Reading.{Read, then}
 use Rattle.markup.specs.Reading.Read.{refused, read}
 use Rattle.markup.specs.Names.{skipWs}
 use Rattle.markup.specs.Comments.{dashed, declared}
-use Rattle.markup.specs.Elements.{Tree, element}
+use Rattle.markup.specs.Elements.{Tree, element, depth}
 
 -- "At the very start, optionally `<?xml`, white space, .."
 unfoldable pub declares : List ℕ → Bool
@@ -37,10 +37,6 @@ miscStep l = miscAt (skipWs l)
 unfoldable pub misc : List ℕ → Read Unit
 misc l = loop refused miscStep l
 
--- "Depth is at most 12, the root being 1"
-abbrev pub depth : ℕ
-depth = 12
-
 -- "white space and comments, one root element, white space and comments", then the end
 abbrev pub atEnd : Tree → Read Unit → Read Tree
 atEnd t refused = refused
@@ -54,10 +50,10 @@ document l =
     (then (declaration l) (λ _ m. then (misc m) (λ _ m. then (element depth m) (λ t m. atEnd t (misc m)))))
     refused
 
-abbrev pub taken : {A : Type 0} → Read A → Bool
-taken refused = false
-taken (read a l) = true
+abbrev pub wasRead : {A : Type 0} → Read A → Bool
+wasRead refused = false
+wasRead (read a l) = true
 
 -- a file is in the markup; answer 5 is given exactly where it is not
 unfoldable pub inMarkup : List ℕ → Bool
-inMarkup l = taken (document l)
+inMarkup l = wasRead (document l)

@@ -73,3 +73,27 @@ afterTag kid z t l =
 unfoldable pub element : ℕ → List ℕ → Read Tree
 element zero l = refused
 element (suc d) l = then (tag l) (afterTag (element d) (length l))
+
+-- "Depth is at most 12, the root being 1"
+abbrev pub depth : ℕ
+depth = 12
+
+-- ---- the elements of a tree
+
+-- an element of its parts
+abbrev pub mk : ℕ → List ℕ → List Pair → Inside → Tree
+mk z n ps i = record { from = z; named = n; pairs = ps; inside = i }
+
+-- an element before what follows it; an element alone
+abbrev pub kidOn : Tree → Inside → Inside
+kidOn t i = elem (t .from) (t .named) (t .pairs) (t .inside) i
+
+abbrev pub alone : Tree → Inside
+alone t = kidOn t end
+
+-- the children, in order
+abbrev pub kids : Inside → List Tree
+kids end = []
+kids (says t k) = kids k
+kids (note k) = kids k
+kids (elem z n ps i k) = mk z n ps i ∷ kids k

@@ -8,7 +8,7 @@ use lib.ListN.{drop, getD}
 use Rattle.laws.specs.Lists.{same, any}
 use Rattle.laws.specs.Loop.{Step, loop}
 use Rattle.laws.specs.Loop.Step.{stop, next}
-use Rattle.markup.specs.Bytes.{isWs, run}
+use Rattle.markup.specs.Bytes.{isWs, runLength}
 use Rattle.markup.specs.Reading.{Read, then}
 use Rattle.markup.specs.Reading.Read.{refused, read}
 use Rattle.markup.specs.Names.{skipWs, byte, name, value}
@@ -47,7 +47,7 @@ attributesAt w l =
     (cond (eqb w 0) (stop refused) (goOn (attribute l))))
 
 unfoldable pub attributesStep : List ℕ → Step (Read Attributes)
-attributesStep l = attributesAt (run isWs l) (skipWs l)
+attributesStep l = attributesAt (runLength isWs l) (skipWs l)
 
 unfoldable pub attributes : List ℕ → Read Attributes
 attributes l = loop refused attributesStep l

@@ -10,9 +10,9 @@ use Rattle.markup.specs.Reading.{Read, then}
 use Rattle.markup.specs.Reading.Read.{refused, read}
 use Rattle.markup.specs.Names.{name}
 use Rattle.markup.specs.Tags.{Pair, Attributes, Tag, attributes, ending, before}
-use Rattle.markup.specs.Elements.{Tree, Piece, element}
+use Rattle.markup.specs.Elements.{Tree, Piece, element, depth}
 use Rattle.markup.specs.Elements.Piece.{words, aside, closing, child}
-use Rattle.markup.specs.Document.{depth, inMarkup}
+use Rattle.markup.specs.Document.{inMarkup}
 use Rattle.markup.specs.declared.Move.{Move}
 use Rattle.markup.specs.declared.Move.the-variants as move
 use Rattle.markup.specs.declared.Got.{Got}

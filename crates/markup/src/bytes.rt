@@ -3,7 +3,7 @@ ghost use mathlib.Core.Path.{_≡_};
 ghost use Prim.Native.Nat.{_+_};
 ghost use lib.ListN.{length, take, drop, getD};
 ghost use Rattle.laws.specs.Lists.{all, same};
-ghost use Rattle.markup.specs.Bytes.{isWs, isNameStart, isName, inFile, run};
+ghost use Rattle.markup.specs.Bytes.{isWs, isNameStart, isName, inFile, runLength};
 ghost use Rattle.markup.specs.Classes.{isWord, class};
 ghost use Rattle.markup.specs.View.{part};
 
@@ -71,7 +71,7 @@ fn of_class(k: u8, b: u8) -> bool
 
 // The place after the bytes of a class.
 pub fn run_end(s: &[u8], from: usize, k: u8) -> usize
-    ensures { λ r. ⌜ r ≡ from + run (class k) (drop from (now (s .entry))) ⌝ }
+    ensures { λ r. ⌜ r ≡ from + runLength (class k) (drop from (now (s .entry))) ⌝ }
 {
     let mut at = from;
     while at < s.len() {

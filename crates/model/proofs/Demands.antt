@@ -11,7 +11,8 @@ use Rattle.model.proofs.Histories.{taken-run, files-run, files-taken}
 use Rattle.model.proofs.FlowHistories as flow
 use Rattle.model.specs.Checks.{Check, first, numbered}
 use Rattle.model.specs.Machine.{Machine, run}
-use Rattle.model.specs.Flow.{State, Good, Flow, Lawful, machine}
+use Rattle.model.specs.Flow.{State, Good, Flow, machine}
+use Rattle.model.specs.Log.{Lawful}
 use Rattle.model.specs.Demands.{Counted, Demand2, Discarded, OneOrMany, Demand3, Conserved, after}
 
 -- a list of answers has one count of each

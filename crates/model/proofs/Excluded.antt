@@ -11,7 +11,8 @@ use Rattle.model.proofs.Demands.{counted-once}
 use Rattle.model.proofs.MachineLaws.{step-left, run-keeps}
 use Rattle.model.proofs.Toy.{Said, say, toy, checks, files}
 use Rattle.model.specs.Map.{find, anyIn, allIn}
-use Rattle.model.specs.Machine.{Machine, zeros, step, run, answers, taken, runAll, takenAll}
+use Rattle.model.specs.Machine.{Machine, zeros, step, run, answers}
+use Rattle.model.specs.Log.{acceptedBy, runAll, takenAll}
 use Rattle.model.specs.Transmission.{insert, vary}
 use Rattle.model.specs.Flow.{State, empty}
 use Rattle.model.specs.Demands.{Counted, Demand2, Demand3}
@@ -51,7 +52,7 @@ module _ (m : Machine (State ℕ ℕ) Said) (d2 : Demand2 checks m) where
 
   module _ {B : Type 0} (encode : State ℕ ℕ → B) (d3 : Demand3 toy m files encode) where
     one-stands : find 7 (run m empty (one ∷ []) .cases) ≡ some 1
-    unfolding runAll takenAll taken run any find
+    unfolding runAll takenAll acceptedBy run any find
     one-stands =
         d3 .case-stands ((one ∷ []) ∷ []) 7 1 .1
         (record {
@@ -77,7 +78,7 @@ module _ (m : Machine (State ℕ ℕ) Said) (d2 : Demand2 checks m) where
     two-taken = d2 .accepted (run m empty (one ∷ [])) two .1 (simp one-stands)
 
     two-stands : find 7 (run m empty (one ∷ two ∷ []) .cases) ≡ some 2
-    unfolding runAll takenAll taken run any find
+    unfolding runAll takenAll acceptedBy run any find
     two-stands =
         let e : m .judge (step m empty one) two ≡ 0 = two-taken in
         d3 .case-stands ((one ∷ two ∷ []) ∷ []) 7 2 .1

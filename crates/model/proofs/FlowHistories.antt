@@ -16,9 +16,10 @@ use Rattle.model.proofs.Histories.{resolve, runAll-look}
 use Rattle.model.proofs.FlowLaws.{same, case-found, event-found, good-applied, cases-size, events-size, fits-applied}
 use Rattle.model.specs.Map.{isSome, find, has, Asc, delAll, anyIn}
 use Rattle.model.specs.Checks.{Check, first}
-use Rattle.model.specs.Machine.{lastOf, sumOf, run, taken, total, runAll, takenAll}
+use Rattle.model.specs.Log.{lastOf, sumOf, acceptedBy, total, runAll, takenAll, shown, Shown, ofCase, ofEvent, caseShown, eventShown, Lawful, casesIn, casesOut, eventsIn, eventsOut, carried}
+use Rattle.model.specs.Machine.{run}
 use Rattle.model.specs.Transmission.{Kind, insert, vary, cancel, isCancel}
-use Rattle.model.specs.Flow.{State, empty, Good, Flow, shown, Shown, machine, ofCase, ofEvent, caseShown, eventShown, t17, Lawful, casesIn, casesOut, eventsIn, eventsOut, carried}
+use Rattle.model.specs.Flow.{State, empty, Good, Flow, machine, t17}
 
 -- what the last record to speak leaves
 
@@ -65,8 +66,8 @@ module _ {F E R : Type 0} (f : Flow F E R) (checks : R → List (Check (State F 
   -- conservation, over one file
   module _ (l : Lawful f checks) (s : State F E) (g : Good s) (rs : List R) where
     pub cases-conserved :
-        length (run (machine f checks) s rs .cases) + sumOf (casesOut f) (taken (machine f checks) s rs) ≡
-        length (s .cases) + sumOf (casesIn f) (taken (machine f checks) s rs)
+        length (run (machine f checks) s rs .cases) + sumOf (casesOut f) (acceptedBy (machine f checks) s rs) ≡
+        length (s .cases) + sumOf (casesIn f) (acceptedBy (machine f checks) s rs)
     unfolding machine
     cases-conserved =
         simp (← total-taken (machine f checks) (casesOut f) s rs, ← total-taken (machine f checks) (casesIn f) s rs)
@@ -79,7 +80,7 @@ module _ {F E R : Type 0} (f : Flow F E R) (checks : R → List (Check (State F 
 
     pub events-conserved :
         length (run (machine f checks) s rs .events) + total (machine f checks) (λ s r. eventsOut f r + carried f s r) s rs ≡
-        length (s .events) + sumOf (eventsIn f) (taken (machine f checks) s rs)
+        length (s .events) + sumOf (eventsIn f) (acceptedBy (machine f checks) s rs)
     unfolding machine
     events-conserved =
         simp (← total-taken (machine f checks) (eventsIn f) s rs)
@@ -91,10 +92,10 @@ module _ {F E R : Type 0} (f : Flow F E R) (checks : R → List (Check (State F 
             events-size (f .caseRows r) (f .eventRows r) (f .away r) s g (f .kind r) (l .not14 s r e) (l .not15 s r e) (l .not22 s r e)
 
     pub events-plain : ((r : R) (k : ℕ) → f .away r k ≡ false) →
-        length (run (machine f checks) s rs .events) + sumOf (eventsOut f) (taken (machine f checks) s rs) ≡
-        length (s .events) + sumOf (eventsIn f) (taken (machine f checks) s rs)
+        length (run (machine f checks) s rs .events) + sumOf (eventsOut f) (acceptedBy (machine f checks) s rs) ≡
+        length (s .events) + sumOf (eventsIn f) (acceptedBy (machine f checks) s rs)
     events-plain w =
-        let t : total (machine f checks) (λ s r. eventsOut f r + carried f s r) s rs ≡ sumOf (eventsOut f) (taken (machine f checks) s rs)
+        let t : total (machine f checks) (λ s r. eventsOut f r + carried f s r) s rs ≡ sumOf (eventsOut f) (acceptedBy (machine f checks) s rs)
         = total-same (machine f checks) (λ s r. eventsOut f r + carried f s r) (λ _ r. eventsOut f r) none-carried s rs ∙
         total-taken (machine f checks) (eventsOut f) s rs in
         omega (arith, events-conserved)

@@ -12,7 +12,8 @@ use Rattle.model.proofs.MapLaws.{find-putAll, find-delAll, find-keep, a
 use Rattle.model.proofs.MapSizes.{size-insert, size-vary, size-cancel, size-keep}
 use Rattle.model.specs.Map.{Map, isSome, orElse, find, has, keep, delAll, anyIn, allIn, twice}
 use Rattle.model.specs.Transmission.{Kind, insert, vary, cancel, isInsert, isCancel}
-use Rattle.model.specs.Flow.{State, Good, applied, shown}
+use Rattle.model.specs.Flow.{State, Good, applied}
+use Rattle.model.specs.Log.{shown}
 
 -- same lookups, same state
 pub same : {F E : Type 0} {s t : State F E} → Good s → Good t →

@@ -9,7 +9,8 @@ use borrow.Author.Tests.{eqb-true}
 use Rattle.model.proofs.Lists.{lastOf-append}
 use Rattle.model.proofs.MachineLaws.{run-append, taken-append}
 use Rattle.model.specs.Map.{orElse}
-use Rattle.model.specs.Machine.{Machine, lastOf, accepts, step, run, taken, runAll, takenAll}
+use Rattle.model.specs.Machine.{Machine, accepts, step, run}
+use Rattle.model.specs.Log.{lastOf, acceptedBy, runAll, takenAll}
 
 -- what the last record to speak left, or else d
 abbrev pub resolve : {R O : Type 0} → (R → O) → Option R → O → O
@@ -20,8 +21,8 @@ module _ {S R : Type 0} (m : Machine S R) where
   -- ---- a lookup that each accepted record either decides or leaves: the last that decides it does
   module _ {O : Type 0} (look : S → O) (speaks : R → Bool) (shows : R → O)
       (law : (s : S) (r : R) → look (m .act s r) ≡ cond (speaks r) (shows r) (look s)) where
-    pub run-look : (s : S) (rs : List R) → look (run m s rs) ≡ resolve shows (lastOf speaks (taken m s rs)) (look s)
-    unfolding run taken lastOf
+    pub run-look : (s : S) (rs : List R) → look (run m s rs) ≡ resolve shows (lastOf speaks (acceptedBy m s rs)) (look s)
+    unfolding run acceptedBy lastOf
     run-look s [] = refl
     run-look s (r ∷ rs) = go (accepts m s r) refl (run-look (step m s r) rs)
       where
@@ -33,14 +34,14 @@ module _ {S R : Type 0} (m : Machine S R) where
 
         go : (b : Bool) → accepts m s r ≡ b →
             look (run m (step m s r) rs) ≡
-            resolve shows (lastOf speaks (taken m (step m s r) rs)) (look (step m s r)) →
+            resolve shows (lastOf speaks (acceptedBy m (step m s r) rs)) (look (step m s r)) →
             look (run m (step m s r) rs) ≡
-            resolve shows (lastOf speaks (cond b (r ∷ taken m (step m s r) rs) (taken m (step m s r) rs))) (look s)
+            resolve shows (lastOf speaks (cond b (r ∷ acceptedBy m (step m s r) rs) (acceptedBy m (step m s r) rs))) (look s)
         go true e ih =
             ih ∙
-            ap (λ (z : S). resolve shows (lastOf speaks (taken m (step m s r) rs)) (look z)) (simp e) ∙
-            last (lastOf speaks (taken m (step m s r) rs)) (speaks r) (law s r)
-        go false e ih = ih ∙ ap (λ (z : S). resolve shows (lastOf speaks (taken m (step m s r) rs)) (look z)) (simp e)
+            ap (λ (z : S). resolve shows (lastOf speaks (acceptedBy m (step m s r) rs)) (look z)) (simp e) ∙
+            last (lastOf speaks (acceptedBy m (step m s r) rs)) (speaks r) (law s r)
+        go false e ih = ih ∙ ap (λ (z : S). resolve shows (lastOf speaks (acceptedBy m (step m s r) rs)) (look z)) (simp e)
 
     pub runAll-look : {X : Type 0} (entries : S → X → List R) (s : S) (xs : List X) →
         look (runAll m entries s xs) ≡ resolve shows (lastOf speaks (takenAll m entries s xs)) (look s)
@@ -49,9 +50,9 @@ module _ {S R : Type 0} (m : Machine S R) where
     runAll-look entries s (x ∷ xs) =
         runAll-look entries (run m s (entries s x)) xs ∙
         ap (λ (z : O). resolve shows (lastOf speaks (takenAll m entries (run m s (entries s x)) xs)) z) (run-look s (entries s x)) ∙
-        go (lastOf speaks (takenAll m entries (run m s (entries s x)) xs)) (lastOf speaks (taken m s (entries s x))) ∙
+        go (lastOf speaks (takenAll m entries (run m s (entries s x)) xs)) (lastOf speaks (acceptedBy m s (entries s x))) ∙
         ap (λ (o : Option R). resolve shows o (look s))
-        (sym (lastOf-append speaks (taken m s (entries s x)) (takenAll m entries (run m s (entries s x)) xs)))
+        (sym (lastOf-append speaks (acceptedBy m s (entries s x)) (takenAll m entries (run m s (entries s x)) xs)))
       where
         go : (a b : Option R) → resolve shows a (resolve shows b (look s)) ≡ resolve shows (orElse a b) (look s)
         go none b = refl
@@ -76,40 +77,40 @@ module _ {S R : Type 0} (m : Machine S R) where
   all-at s [] r b h = h .0
   all-at s (x ∷ a) r b h = all-at (step m s x) a r b (h .1)
 
-  pub all-same : (s : S) (l : List R) → AllTaken s l → taken m s l ≡ l
-  unfolding taken
+  pub all-same : (s : S) (l : List R) → AllTaken s l → acceptedBy m s l ≡ l
+  unfolding acceptedBy
   all-same s [] h = refl
   all-same s (r ∷ l) h =
-      let i : taken m (step m s r) l ≡ l = all-same (step m s r) l (h .1) in
-      ap (λ (b : Bool). cond b (r ∷ taken m (step m s r) l) (taken m (step m s r) l)) (ap (λ (n : ℕ). eqb n 0) (h .0)) ∙
+      let i : acceptedBy m (step m s r) l ≡ l = all-same (step m s r) l (h .1) in
+      ap (λ (b : Bool). cond b (r ∷ acceptedBy m (step m s r) l) (acceptedBy m (step m s r) l)) (ap (λ (n : ℕ). eqb n 0) (h .0)) ∙
       ap (λ (t : List R). r ∷ t) i
 
   -- the accepted ones alone are accepted, and leave what all leave
-  pub taken-all : (s : S) (rs : List R) → AllTaken s (taken m s rs)
-  unfolding taken
+  pub taken-all : (s : S) (rs : List R) → AllTaken s (acceptedBy m s rs)
+  unfolding acceptedBy
   taken-all s [] = tt
   taken-all s (r ∷ rs) = go (accepts m s r) refl (taken-all (step m s r) rs)
     where
-      go : (b : Bool) → accepts m s r ≡ b → AllTaken (step m s r) (taken m (step m s r) rs) →
-          AllTaken s (cond b (r ∷ taken m (step m s r) rs) (taken m (step m s r) rs))
+      go : (b : Bool) → accepts m s r ≡ b → AllTaken (step m s r) (acceptedBy m (step m s r) rs) →
+          AllTaken s (cond b (r ∷ acceptedBy m (step m s r) rs) (acceptedBy m (step m s r) rs))
       go true e ih = (eqb-true (m .judge s r) 0 e, ih)
-      go false e ih = let q : step m s r ≡ s = simp e in subst (λ (z : S). AllTaken z (taken m (step m s r) rs)) q ih
+      go false e ih = let q : step m s r ≡ s = simp e in subst (λ (z : S). AllTaken z (acceptedBy m (step m s r) rs)) q ih
 
-  pub taken-run : (s : S) (rs : List R) → run m s (taken m s rs) ≡ run m s rs
-  unfolding taken run
+  pub taken-run : (s : S) (rs : List R) → run m s (acceptedBy m s rs) ≡ run m s rs
+  unfolding acceptedBy run
   taken-run s [] = refl
   taken-run s (r ∷ rs) = go (accepts m s r) refl (taken-run (step m s r) rs)
     where
-      go : (b : Bool) → accepts m s r ≡ b → run m (step m s r) (taken m (step m s r) rs) ≡ run m (step m s r) rs →
-          run m s (cond b (r ∷ taken m (step m s r) rs) (taken m (step m s r) rs)) ≡ run m (step m s r) rs
+      go : (b : Bool) → accepts m s r ≡ b → run m (step m s r) (acceptedBy m (step m s r) rs) ≡ run m (step m s r) rs →
+          run m s (cond b (r ∷ acceptedBy m (step m s r) rs) (acceptedBy m (step m s r) rs)) ≡ run m (step m s r) rs
       go true e ih = ih
-      go false e ih = let q : step m s r ≡ s = simp e in subst (λ (z : S). run m z (taken m (step m s r) rs) ≡ run m (step m s r) rs) q ih
+      go false e ih = let q : step m s r ≡ s = simp e in subst (λ (z : S). run m z (acceptedBy m (step m s r) rs) ≡ run m (step m s r) rs) q ih
 
   pub takenAll-all : {X : Type 0} (entries : S → X → List R) (s : S) (xs : List X) → AllTaken s (takenAll m entries s xs)
   unfolding takenAll
   takenAll-all entries s [] = tt
   takenAll-all entries s (x ∷ xs) =
-      all-append s (taken m s (entries s x)) (takenAll m entries (run m s (entries s x)) xs)
+      all-append s (acceptedBy m s (entries s x)) (takenAll m entries (run m s (entries s x)) xs)
       (taken-all s (entries s x))
       (rw (taken-run s (entries s x)) (takenAll-all entries (run m s (entries s x)) xs))
 
@@ -118,7 +119,7 @@ module _ {S R : Type 0} (m : Machine S R) where
   unfolding run runAll takenAll
   log-run entries s [] = refl
   log-run entries s (x ∷ xs) =
-      run-append m s (taken m s (entries s x)) (takenAll m entries (run m s (entries s x)) xs) ∙
+      run-append m s (acceptedBy m s (entries s x)) (takenAll m entries (run m s (entries s x)) xs) ∙
       ap (λ (z : S). run m z (takenAll m entries (run m s (entries s x)) xs)) (taken-run s (entries s x)) ∙
       log-run entries (run m s (entries s x)) xs
 
@@ -128,8 +129,8 @@ module _ {S R : Type 0} (m : Machine S R) where
   files-run s [] = refl
   files-run s (a ∷ files) = files-run (run m s a) files ∙ sym (run-append m s a (flatMap (λ a. a) files))
 
-  pub files-taken : (s : S) (files : List (List R)) → takenAll m (λ s a. a) s files ≡ taken m s (flatMap (λ a. a) files)
-  unfolding taken takenAll flatMap
+  pub files-taken : (s : S) (files : List (List R)) → takenAll m (λ s a. a) s files ≡ acceptedBy m s (flatMap (λ a. a) files)
+  unfolding acceptedBy takenAll flatMap
   files-taken s [] = refl
   files-taken s (a ∷ files) =
-      ap (λ (l : List R). taken m s a ++ l) (files-taken (run m s a) files) ∙ sym (taken-append m s a (flatMap (λ a. a) files))
+      ap (λ (l : List R). acceptedBy m s a ++ l) (files-taken (run m s a) files) ∙ sym (taken-append m s a (flatMap (λ a. a) files))

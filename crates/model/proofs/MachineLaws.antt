@@ -8,7 +8,8 @@ use native.Mathlib.Omega.{arith}
 use lib.ListN.{length, getD, take}
 use lib.Dec.{eqb}
 use borrow.Author.Tests.{eqb-true, ne-eqb}
-use Rattle.model.specs.Machine.{Machine, sumOf, zeros, others, accepts, step, run, answers, taken, total, runAll}
+use Rattle.model.specs.Machine.{Machine, zeros, others, accepts, step, run, answers}
+use Rattle.model.specs.Log.{sumOf, acceptedBy, total, runAll}
 
 pub zeros-others : (ns : List ℕ) → zeros ns + others ns ≡ length ns
 unfolding zeros others
@@ -31,15 +32,15 @@ module _ {S R : Type 0} (m : Machine S R) where
   answers-append s [] b = refl
   answers-append s (r ∷ a) b = ap (λ (l : List ℕ). m .judge s r ∷ l) (answers-append (step m s r) a b)
 
-  pub taken-append : (s : S) (a b : List R) → taken m s (a ++ b) ≡ taken m s a ++ taken m (run m s a) b
-  unfolding run taken
+  pub taken-append : (s : S) (a b : List R) → acceptedBy m s (a ++ b) ≡ acceptedBy m s a ++ acceptedBy m (run m s a) b
+  unfolding run acceptedBy
   taken-append s [] b = refl
   taken-append s (r ∷ a) b = go (accepts m s r) (taken-append (step m s r) a b)
     where
       go : (c : Bool) →
-          taken m (step m s r) (a ++ b) ≡ taken m (step m s r) a ++ taken m (run m (step m s r) a) b →
-          cond c (r ∷ taken m (step m s r) (a ++ b)) (taken m (step m s r) (a ++ b)) ≡
-          cond c (r ∷ taken m (step m s r) a) (taken m (step m s r) a) ++ taken m (run m (step m s r) a) b
+          acceptedBy m (step m s r) (a ++ b) ≡ acceptedBy m (step m s r) a ++ acceptedBy m (run m (step m s r) a) b →
+          cond c (r ∷ acceptedBy m (step m s r) (a ++ b)) (acceptedBy m (step m s r) (a ++ b)) ≡
+          cond c (r ∷ acceptedBy m (step m s r) a) (acceptedBy m (step m s r) a) ++ acceptedBy m (run m (step m s r) a) b
       go true ih = ap (λ (l : List R). r ∷ l) ih
       go false ih = ih
 
@@ -55,19 +56,19 @@ module _ {S R : Type 0} (m : Machine S R) where
   answers-length s [] = refl
   answers-length s (r ∷ rs) = ap suc (answers-length (step m s r) rs)
 
-  pub taken-zeros : (s : S) (rs : List R) → length (taken m s rs) ≡ zeros (answers m s rs)
-  unfolding answers taken zeros
+  pub taken-zeros : (s : S) (rs : List R) → length (acceptedBy m s rs) ≡ zeros (answers m s rs)
+  unfolding answers acceptedBy zeros
   taken-zeros s [] = refl
   taken-zeros s (r ∷ rs) = go (accepts m s r) (taken-zeros (step m s r) rs)
     where
-      go : (b : Bool) → length (taken m (step m s r) rs) ≡ zeros (answers m (step m s r) rs) →
-          length (cond b (r ∷ taken m (step m s r) rs) (taken m (step m s r) rs)) ≡
+      go : (b : Bool) → length (acceptedBy m (step m s r) rs) ≡ zeros (answers m (step m s r) rs) →
+          length (cond b (r ∷ acceptedBy m (step m s r) rs) (acceptedBy m (step m s r) rs)) ≡
           cond b 1 0 + zeros (answers m (step m s r) rs)
       go true ih = omega arith
       go false ih = omega arith
 
   -- accepted + discarded = records
-  pub records : (s : S) (rs : List R) → length (taken m s rs) + others (answers m s rs) ≡ length rs
+  pub records : (s : S) (rs : List R) → length (acceptedBy m s rs) + others (answers m s rs) ≡ length rs
   records s rs = omega (arith, taken-zeros s rs, zeros-others (answers m s rs), answers-length s rs)
 
   -- ---- one step
@@ -125,14 +126,14 @@ module _ {S R : Type 0} (m : Machine S R) where
               omega arith
 
   -- a sum that does not look at the state is one over the accepted records
-  pub total-taken : (g : R → ℕ) (s : S) (rs : List R) → total m (λ _ r. g r) s rs ≡ sumOf g (taken m s rs)
-  unfolding total taken sumOf
+  pub total-taken : (g : R → ℕ) (s : S) (rs : List R) → total m (λ _ r. g r) s rs ≡ sumOf g (acceptedBy m s rs)
+  unfolding total acceptedBy sumOf
   total-taken g s [] = refl
   total-taken g s (r ∷ rs) = go (accepts m s r) (total-taken g (step m s r) rs)
     where
-      go : (b : Bool) → total m (λ _ r. g r) (step m s r) rs ≡ sumOf g (taken m (step m s r) rs) →
+      go : (b : Bool) → total m (λ _ r. g r) (step m s r) rs ≡ sumOf g (acceptedBy m (step m s r) rs) →
           cond b (g r) 0 + total m (λ _ r. g r) (step m s r) rs ≡
-          sumOf g (cond b (r ∷ taken m (step m s r) rs) (taken m (step m s r) rs))
+          sumOf g (cond b (r ∷ acceptedBy m (step m s r) rs) (acceptedBy m (step m s r) rs))
       go true ih = omega arith
       go false ih = omega arith
 

@@ -4,7 +4,8 @@ use mathlib.Core.Bool.{Bool, true, false, cond}
 use mathlib.Core.List.{List, [], _∷_}
 use borrow.Author.Tests.{eqb-true}
 use Rattle.model.proofs.MachineLaws.{step-keeps, run-keeps}
-use Rattle.model.specs.Machine.{Machine, accepts, step, run, answers, runAll, calls}
+use Rattle.model.specs.Machine.{Machine, accepts, step, run, answers}
+use Rattle.model.specs.Log.{runAll, calls}
 
 -- ---- two machines that judge alike and act alike along a map
 module _ {S T R : Type 0} (m : Machine S R) (n : Machine T R) (to : S → T) (Inv : S → Type 0)

@@ -11,7 +11,8 @@ use Rattle.model.specs.Map.{Row, find, put, keep, putAll, delAll, anyIn,
 use Rattle.model.specs.Checks.{Check, check, first, numbered}
 use Rattle.model.specs.Machine.{run, answers}
 use Rattle.model.specs.Transmission.{Kind, insert, vary, cancel}
-use Rattle.model.specs.Flow.{State, empty, Flow, machine, t14, t15, t22, Lawful}
+use Rattle.model.specs.Flow.{State, empty, Flow, machine, t14, t15, t22}
+use Rattle.model.specs.Log.{Lawful}
 use Rattle.model.specs.Demands.{Demand2, Demand3, Sequences}
 
 pub record Said : Type 0 where

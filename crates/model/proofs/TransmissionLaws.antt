@@ -13,9 +13,10 @@ use Rattle.model.proofs.Histories.{resolve, run-look, AllTaken, all-fro
 use Rattle.model.proofs.FlowHistories.{case-law, event-law}
 use Rattle.model.specs.Map.{Map, isSome, find, has, anyIn, allIn}
 use Rattle.model.specs.Checks.{Check}
-use Rattle.model.specs.Machine.{Machine, lastOf, run}
+use Rattle.model.specs.Machine.{Machine, run}
+use Rattle.model.specs.Log.{lastOf, shown, sent, ofCase, ofEvent, caseShown, eventShown, caseSent, eventSent, Lawful}
 use Rattle.model.specs.Transmission.{Kind, insert, vary, cancel, isInsert, isCancel, Sent, nothing, last, admitted, standing}
-use Rattle.model.specs.Flow.{State, empty, Flow, shown, sent, machine, ofCase, ofEvent, caseShown, eventShown, caseSent, eventSent, t14, t15, Lawful}
+use Rattle.model.specs.Flow.{State, empty, Flow, machine, t14, t15}
 use Rattle.model.specs.Demands.{Refused, case, event, Sequences, after, log}
 
 -- the twelve entries in one line: an insertion of what does not stand, any other of what does

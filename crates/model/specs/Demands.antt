@@ -8,9 +8,10 @@ use mathlib.Core.Option.{none, some}
 use lib.ListN.{length, getD, take}
 use Rattle.model.specs.Map.{find, has, Once}
 use Rattle.model.specs.Checks.{Check, NoneHolds, FirstIs}
-use Rattle.model.specs.Machine.{Machine, sumOf, zeros, others, run, answers, taken, total, runAll, takenAll}
+use Rattle.model.specs.Machine.{Machine, zeros, others, run, answers}
+use Rattle.model.specs.Log.{sumOf, acceptedBy, total, runAll, takenAll, Shown, ofCase, ofEvent, caseSent, eventSent, casesIn, casesOut, eventsIn, eventsOut, carried}
 use Rattle.model.specs.Transmission.{insert, cancel, isInsert, admitted, standing}
-use Rattle.model.specs.Flow.{State, empty, Good, Flow, Shown, ofCase, ofEvent, caseSent, eventSent, t14, t15, casesIn, casesOut, eventsIn, eventsOut, carried}
+use Rattle.model.specs.Flow.{State, empty, Good, Flow, t14, t15}
 
 -- "invented counts (the answer list fixes them)": accepted + discarded = records, and accepted = the zeros of the list
 pub record Counted (ns : List ℕ) (records accepted discarded : ℕ) : Type 0 where
@@ -26,19 +27,19 @@ pub record Demand2 {S R : Type 0} (checks : R → List (Check S)) (m : Machine S
   pub discarded : (s : S) (r : R) (n : ℕ) → n ≢ 0 → m .judge s r ≡ n ↔ FirstIs (checks r) s n
   -- answer i is record i's, judged against the state that the earlier ones left
   pub each : (s : S) (rs : List R) (d : R) (i : ℕ) → i < length rs → getD (answers m s rs) i 0 ≡ m .judge (run m s (take i rs)) (getD rs i d)
-  pub counts : (s : S) (rs : List R) → Counted (answers m s rs) (length rs) (length (taken m s rs)) (others (answers m s rs))
+  pub counts : (s : S) (rs : List R) → Counted (answers m s rs) (length rs) (length (acceptedBy m s rs)) (others (answers m s rs))
 
 -- a discarded record leaves the state as it was, and the accepted ones alone leave what all leave
 pub record Discarded {S R : Type 0} (m : Machine S R) : Type 0 where
   pub as-it-was : (s : S) (r : R) → m .judge s r ≢ 0 → run m s (r ∷ []) ≡ s
-  pub without : (s : S) (rs : List R) → run m s (taken m s rs) ≡ run m s rs
+  pub without : (s : S) (rs : List R) → run m s (acceptedBy m s rs) ≡ run m s rs
 
 -- the records of two files in one, or of many: the same answers, the same state
 pub record OneOrMany {S R : Type 0} (m : Machine S R) : Type 0 where
   pub state : (s : S) (a b : List R) → run m s (a ++ b) ≡ run m (run m s a) b
   pub answer : (s : S) (a b : List R) → answers m s (a ++ b) ≡ answers m s a ++ answers m (run m s a) b
   pub states : (s : S) (files : List (List R)) → runAll m (λ s a. a) s files ≡ run m s (flatMap (λ a. a) files)
-  pub logs : (s : S) (files : List (List R)) → takenAll m (λ s a. a) s files ≡ taken m s (flatMap (λ a. a) files)
+  pub logs : (s : S) (files : List (List R)) → takenAll m (λ s a. a) s files ≡ acceptedBy m s (flatMap (λ a. a) files)
 
 -- some key that a record names is one that the table refuses to it, after a log of accepted records
 pub data Refused {F E R : Type 0} (f : Flow F E R) (r : R) (log : List R) : Type 0 where
@@ -91,9 +92,9 @@ module _ {F E R X : Type 0} (f : Flow F E R) (m : Machine (State F E) R) (entrie
 
 -- "cases after = cases before + accepted insertions - cancellations; events likewise", of each file
 pub record Conserved {F E R : Type 0} (f : Flow F E R) (m : Machine (State F E) R) (s : State F E) (rs : List R) : Type 0 where
-  pub cases : length (run m s rs .cases) + sumOf (casesOut f) (taken m s rs) ≡ length (s .cases) + sumOf (casesIn f) (taken m s rs)
+  pub cases : length (run m s rs .cases) + sumOf (casesOut f) (acceptedBy m s rs) ≡ length (s .cases) + sumOf (casesIn f) (acceptedBy m s rs)
   pub events : length (run m s rs .events) + total m (λ s r. eventsOut f r + carried f s r) s rs ≡
-      length (s .events) + sumOf (eventsIn f) (taken m s rs)
+      length (s .events) + sumOf (eventsIn f) (acceptedBy m s rs)
   -- where nothing is carried away
   pub plain : ((r : R) (k : ℕ) → f .away r k ≡ false) →
-      length (run m s rs .events) + sumOf (eventsOut f) (taken m s rs) ≡ length (s .events) + sumOf (eventsIn f) (taken m s rs)
+      length (run m s rs .events) + sumOf (eventsOut f) (acceptedBy m s rs) ≡ length (s .events) + sumOf (eventsIn f) (acceptedBy m s rs)

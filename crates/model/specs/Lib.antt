@@ -4,3 +4,4 @@ pub mod Machine
 pub mod Transmission
 pub mod Flow
 pub mod Demands
+pub mod Log

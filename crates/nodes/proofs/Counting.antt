@@ -10,11 +10,10 @@ use borrow.Author.Tests.{eqb-true}
 use Rattle.laws.specs.Lists.{any, same}
 use Rattle.laws.proofs.Truth.{and-left, and-right}
 use Rattle.markup.specs.Tags.{Pair}
-use Rattle.markup.specs.Elements.{Inside, Tree}
+use Rattle.markup.specs.Elements.{Inside, Tree, mk, kids}
 use Rattle.markup.specs.Elements.Inside.{end, says, note, elem}
-use Rattle.reading.specs.Within.{mk, kids}
 use Rattle.reading.proofs.Cut.{never}
-use Rattle.schema.specs.Schema.{Head, Node, leaf, group, another, Nodes, none, _▸_, headOf}
+use Rattle.schema.specs.Schema.{Particle, Node, leaf, group, another, Nodes, none, _▸_, particleOf}
 use Rattle.schema.specs.Shape.{Seek, nowhere, here, mayCome, seek, namedIn}
 use Rattle.schema.specs.Counted.{marked, childCount, countIn, countOf}
 use Rattle.nodes.specs.Lookup.{firstNamed, childOf}
@@ -23,13 +22,13 @@ use Rattle.nodes.proofs.Present.{nodeOf, only, owed, Among, front, late
 
 -- what holds of nodes and of those left after each holds of those from a child's own node on
 module _ (x : List ℕ) (q : Nodes → Type 0) (less : (n : Node) (ns : Nodes) → q (n ▸ ns) → q ns) where
-  found-at : (ns : Nodes) (k : ℕ) (m : Node) (ms : Nodes) (j : ℕ) → seek x ns k ≡ here m ms j → q ns → (x ≡ headOf m .named) × q (m ▸ ms)
+  found-at : (ns : Nodes) (k : ℕ) (m : Node) (ms : Nodes) (j : ℕ) → seek x ns k ≡ here m ms j → q ns → (x ≡ particleOf m .named) × q (m ▸ ms)
   unfolding seek
   found-at none k m ms j e h = never cc
-  found-at (n ▸ ns) k m ms j e h = go (mayCome x (headOf n) k) refl (ltb k (headOf n .least)) (λ f. found-at ns 0 m ms j f (less n ns h)) e
+  found-at (n ▸ ns) k m ms j e h = go (mayCome x (particleOf n) k) refl (ltb k (particleOf n .least)) (λ f. found-at ns 0 m ms j f (less n ns h)) e
     where
-      go : (a : Bool) → mayCome x (headOf n) k ≡ a → (b : Bool) → (seek x ns 0 ≡ here m ms j → (x ≡ headOf m .named) × q (m ▸ ms))
-          → cond a (here n ns k) (cond b nowhere (seek x ns 0)) ≡ here m ms j → (x ≡ headOf m .named) × q (m ▸ ms)
+      go : (a : Bool) → mayCome x (particleOf n) k ≡ a → (b : Bool) → (seek x ns 0 ≡ here m ms j → (x ≡ particleOf m .named) × q (m ▸ ms))
+          → cond a (here n ns k) (cond b nowhere (seek x ns 0)) ≡ here m ms j → (x ≡ particleOf m .named) × q (m ▸ ms)
       go true a b i f =
           let u : n ≡ m = cc in
           let v : ns ≡ ms = cc in
@@ -39,7 +38,7 @@ module _ (x : List ℕ) (q : Nodes → Type 0) (less : (n : Node) (ns : Nodes) �
 
 -- a child's count and that of what follows
 child-count : (y : ℕ) (x : List ℕ) (ps : List Pair) (j : Inside) (after : Nodes → ℕ → ℕ) (m : Node) (ms : Nodes) (c : ℕ)
-    → childCount (λ os. countIn os 0 j) after (here m ms c) ≡ marked (headOf m) + countOf m (mk y x ps j) + after (m ▸ ms) (suc c)
+    → childCount (λ os. countIn os 0 j) after (here m ms c) ≡ marked (particleOf m) + countOf m (mk y x ps j) + after (m ▸ ms) (suc c)
 child-count y x ps j after (leaf h t) ms c = omega arith
 child-count y x ps j after (group h os) ms c = refl
 child-count y x ps j after (another h) ms c = omega arith
@@ -67,7 +66,7 @@ not-marked : (b : Bool) → not b ≡ true → _≡_ {A = ℕ} (cond b 1 0) 0
 not-marked true e = absurd (false≢true e)
 not-marked false e = refl
 
-blank-both : (n : Node) → blank n ≡ true → (marked (headOf n) ≡ 0) × (hollow n ≡ true)
+blank-both : (n : Node) → blank n ≡ true → (marked (particleOf n) ≡ 0) × (hollow n ≡ true)
 unfolding blank
 blank-both (leaf h t) e = (not-marked (h .counted) e, refl)
 blank-both (group h ns) e = (not-marked (h .counted) (and-left (not (h .counted)) (unmarked ns) e), and-right (not (h .counted)) (unmarked ns) e)
@@ -113,7 +112,7 @@ sumOver f (t ∷ ts) = f t + sumOver f ts
 
 -- a child under its node adds as much as f says
 abbrev Adds : (Tree → ℕ) → Nodes → Type 0
-Adds f ns = (n : Node) → Among n ns → (c : Tree) → c .named ≡ headOf n .named → marked (headOf n) + countOf n c ≡ f c
+Adds f ns = (n : Node) → Among n ns → (c : Tree) → c .named ≡ particleOf n .named → marked (particleOf n) + countOf n c ≡ f c
 
 -- THE COUNT OF A GROUP WITHOUT A FAULT is the sum over its children
 count-sum : (p : Tree → Type 0) (f : Tree → ℕ) {ns : Nodes} {k : ℕ} {i : Inside} → Walked p ns k i → Adds f ns → countIn ns k i ≡ sumOver f (kids i)
@@ -139,11 +138,11 @@ each-at q (later {m = m} {ns = ns} a) e = each-at q a (and-right (q m) (eachNode
 
 -- the nodes that are marked are those of some names, and no node in them is
 abbrev pub marksNamed : (List ℕ → Bool) → Node → Bool
-marksNamed b n = eqb (marked (headOf n)) (cond (b (headOf n .named)) 1 0) && hollow n
+marksNamed b n = eqb (marked (particleOf n)) (cond (b (particleOf n .named)) 1 0) && hollow n
 
 -- no node is marked, and only in those of a name there may be any
 abbrev pub marksIn : List ℕ → Node → Bool
-marksIn x n = not (headOf n .counted) && (same x (headOf n .named) || hollow n)
+marksIn x n = not (particleOf n .counted) && (same x (particleOf n .named) || hollow n)
 
 module _ (x : List ℕ) (f : Tree → ℕ) where
   sum-none : (cs : List Tree) → length (namedIn x cs) ≤ 0 → sumOver (λ c. cond (same x (c .named)) (f c) 0) cs ≡ 0
@@ -169,7 +168,7 @@ module _ (x : List ℕ) (f : Tree → ℕ) where
       go true i e l = let u = sum-none cs (omega arith) in omega arith
       go false i e l = let u = i e l in omega arith
 
-module _ (p : Tree → Type 0) (far : (c : Tree) → p c → 0 < c .from) {h : Head} {ns : Nodes} {t : Tree} (m : Meets p (group h ns) t) where
+module _ (p : Tree → Type 0) (far : (c : Tree) → p c → 0 < c .from) {h : Particle} {ns : Nodes} {t : Tree} (m : Meets p (group h ns) t) where
   -- as many as there are children of the names
   pub count-named : (b : List ℕ → Bool) → eachNode (marksNamed b) ns ≡ true → countIn ns 0 (t .inside) ≡ sumOver (λ c. cond (b (c .named)) 1 0) (kids (t .inside))
   count-named b e = count-sum p (λ c. cond (b (c .named)) 1 0) (group-walked p far m) adds
@@ -177,28 +176,28 @@ module _ (p : Tree → Type 0) (far : (c : Tree) → p c → 0 < c .from) {h : H
       adds : Adds (λ c. cond (b (c .named)) 1 0) ns
       adds n a c u =
           let w = each-at (marksNamed b) a e in
-          let k = eqb-true (marked (headOf n)) (cond (b (headOf n .named)) 1 0) (and-left (eqb (marked (headOf n)) (cond (b (headOf n .named)) 1 0)) (hollow n) w) in
-          let z = hollow-none n c (and-right (eqb (marked (headOf n)) (cond (b (headOf n .named)) 1 0)) (hollow n) w) in
-          let v : _≡_ {A = ℕ} (cond (b (c .named)) 1 0) (cond (b (headOf n .named)) 1 0) = rw u in
+          let k = eqb-true (marked (particleOf n)) (cond (b (particleOf n .named)) 1 0) (and-left (eqb (marked (particleOf n)) (cond (b (particleOf n .named)) 1 0)) (hollow n) w) in
+          let z = hollow-none n c (and-right (eqb (marked (particleOf n)) (cond (b (particleOf n .named)) 1 0)) (hollow n) w) in
+          let v : _≡_ {A = ℕ} (cond (b (c .named)) 1 0) (cond (b (particleOf n .named)) 1 0) = rw u in
           omega arith
 
   -- all that is counted stands in one child, which must come, once
-  pub count-child : (x : List ℕ) (n : Node) → nodeOf x ns ≡ only n → owed x ns 0 ≡ true → headOf n .most ≡ 1 → eachNode (marksIn x) ns ≡ true
+  pub count-child : (x : List ℕ) (n : Node) → nodeOf x ns ≡ only n → owed x ns 0 ≡ true → particleOf n .most ≡ 1 → eachNode (marksIn x) ns ≡ true
       → countIn ns 0 (t .inside) ≡ countOf n (childOf x t)
   count-child x n e o l k =
       count-sum p (λ c. cond (same x (c .named)) (countOf n c) 0) (group-walked p far m) adds
       ∙ sum-one x (countOf n) (kids (t .inside)) (child-there p far m x o) (let w = child-most p far m x n e (omega arith) in omega arith)
     where
       adds : Adds (λ c. cond (same x (c .named)) (countOf n c) 0) ns
-      adds o a c u = go (same x (headOf o .named)) refl (and-right (not (headOf o .counted)) (same x (headOf o .named) || hollow o) w)
+      adds o a c u = go (same x (particleOf o .named)) refl (and-right (not (particleOf o .counted)) (same x (particleOf o .named) || hollow o) w)
         where
           w : marksIn x o ≡ true
           w = each-at (marksIn x) a k
 
-          z : marked (headOf o) ≡ 0
-          z = not-marked (headOf o .counted) (and-left (not (headOf o .counted)) (same x (headOf o .named) || hollow o) w)
+          z : marked (particleOf o) ≡ 0
+          z = not-marked (particleOf o .counted) (and-left (not (particleOf o .counted)) (same x (particleOf o .named) || hollow o) w)
 
-          go : (b : Bool) → same x (headOf o .named) ≡ b → b || hollow o ≡ true → marked (headOf o) + countOf o c ≡ cond (same x (c .named)) (countOf n c) 0
+          go : (b : Bool) → same x (particleOf o .named) ≡ b → b || hollow o ≡ true → marked (particleOf o) + countOf o c ≡ cond (same x (c .named)) (countOf n c) 0
           go true v f =
               let q : countOf o c ≡ countOf n c = ap (λ (y : Node). countOf y c) (only-among x e a v) in
               let s : cond (same x (c .named)) (countOf n c) 0 ≡ countOf n c = rw (u, v) in

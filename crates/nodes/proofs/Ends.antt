@@ -6,8 +6,7 @@ use native.Mathlib.Omega.{arith}
 use lib.ListN.{length, take, drop, length-append, take-append-drop}
 use lib.Seq.{drop-append-seam}
 use Rattle.markup.specs.Reading.Read.{read}
-use Rattle.markup.specs.Elements.{Inside, Tree, content, element}
-use Rattle.reading.specs.Within.{kids, kidOn}
+use Rattle.markup.specs.Elements.{Inside, Tree, content, element, kids, kidOn}
 use Rattle.reading.proofs.Cut.{never, read-in}
 use Rattle.reading.proofs.Elements.{Ends}
 use Rattle.reading.proofs.Steps.{element-from, on-child, Pieces, pieces}

@@ -10,7 +10,7 @@ use Rattle.markup.specs.Elements.{Inside, Tree}
 use Rattle.markup.specs.Elements.Inside.{end, says, note, elem}
 use Rattle.reading.proofs.Cut.{never}
 use Rattle.schema.specs.Texts.{Texts, fitsText}
-use Rattle.schema.specs.Schema.{Attr, Head, leaf}
+use Rattle.schema.specs.Schema.{Attr, Particle, leaf}
 use Rattle.schema.specs.Shape.{isNamed, attrFits, attrsFit, leafFits, begins}
 use Rattle.nodes.specs.Lookup.{valueIn, attrOf, hasAttr, said, textOf}
 use Rattle.nodes.proofs.Taken.{Meets, cond-none}
@@ -24,7 +24,7 @@ leaf-fits x (says t (elem z n ps i k)) e = absurd (false≢true e)
 leaf-fits x (note k) e = absurd (false≢true e)
 leaf-fits x (elem z n ps i k) e = absurd (false≢true e)
 
-module _ (p : Tree → Type 0) (far : (c : Tree) → p c → 0 < c .from) {h : Head} {x : Texts} {t : Tree} (m : Meets p (leaf h x) t) where
+module _ (p : Tree → Type 0) (far : (c : Tree) → p c → 0 < c .from) {h : Particle} {x : Texts} {t : Tree} (m : Meets p (leaf h x) t) where
   leaf-both : attrsFit [] (h .attrs) (t .pairs) && leafFits x (t .inside) ≡ true
   leaf-both = cond-none (attrsFit [] (h .attrs) (t .pairs) && leafFits x (t .inside)) 0 (t .from) (far t (m .known .0)) (m .clean) .0
 

@@ -8,16 +8,16 @@ use lib.Dec.{eqb}
 use lib.ListN.{take, drop, getD, take-append-drop}
 use Rattle.laws.specs.Lists.{all}
 use Rattle.laws.proofs.Truth.{and-left, and-right}
-use Rattle.markup.specs.Bytes.{inFile, isText, run, front, after}
+use Rattle.laws.proofs.Lists.{all-left, all-right}
+use Rattle.markup.specs.Bytes.{inFile, isText, runLength, front, after}
 use Rattle.markup.specs.Reading.Read.{read}
-use Rattle.markup.specs.Elements.{Inside, Tree, tagPiece, piece, content, element}
+use Rattle.markup.specs.Elements.{Inside, Tree, tagPiece, piece, content, element, alone, kids}
 use Rattle.markup.specs.Elements.Inside.{end}
 use Rattle.markup.specs.Elements.Piece.{words}
 use Rattle.markup.specs.Document.{document}
 use Rattle.reading.proofs.Elements.{tag-no-text}
 use Rattle.reading.specs.Places.{placeIn}
-use Rattle.reading.specs.Within.{alone, kids, Every, Deeply, ReadAt}
-use Rattle.laws.proofs.Lists.{all-left, all-right}
+use Rattle.reading.specs.Everywhere.{Every, Deeply, ReadAt}
 use Rattle.reading.proofs.Cut.{never, read-in}
 use Rattle.reading.proofs.Leaves.{front-all}
 use Rattle.reading.proofs.Steps.{Built, built, Pieces, pieces}
@@ -52,7 +52,7 @@ words-prose n [] t m e h = never cc
 words-prose n (b ∷ l) t m e h = go (eqb b (code "<")) e
   where
     whole : all inText (front isText (b ∷ l)) ≡ true
-    whole = all-and inFile isText (front isText (b ∷ l)) (all-take inFile (run isText (b ∷ l)) (b ∷ l) h) (front-all isText (b ∷ l))
+    whole = all-and inFile isText (front isText (b ∷ l)) (all-take inFile (runLength isText (b ∷ l)) (b ∷ l) h) (front-all isText (b ∷ l))
 
     go : (u : Bool) → cond u (tagPiece n (getD l 0 0) (b ∷ l)) (read (words (front isText (b ∷ l))) (after isText (b ∷ l))) ≡ read (words t) m → all inText t ≡ true
     go true k = absurd (tag-no-text n (getD l 0 0) (b ∷ l) t m k)

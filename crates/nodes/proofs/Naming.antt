@@ -8,9 +8,9 @@ use lib.Dec.{eqb}
 use borrow.Author.Tests.{ne-eqb}
 use Rattle.laws.specs.Lists.{any, same}
 use Rattle.markup.specs.Reading.Read.{read}
-use Rattle.markup.specs.Elements.{Inside, Tree, element}
+use Rattle.markup.specs.Elements.{Inside, Tree, element, kids}
 use Rattle.markup.specs.Elements.Inside.{end}
-use Rattle.reading.specs.Within.{kids, Every}
+use Rattle.reading.specs.Everywhere.{Every}
 use Rattle.reading.proofs.Cut.{never}
 use Rattle.reading.proofs.Places.{StandsIn, every-map, kids-stand}
 use Rattle.reading.proofs.Shrink.{element-shrinks}

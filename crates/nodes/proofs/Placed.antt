@@ -4,9 +4,9 @@ use mathlib.Core.Path.{_≡_, sym, subst}
 use mathlib.Core.List.{List}
 use native.Mathlib.Omega.{arith}
 use Rattle.markup.specs.Reading.Read.{read}
-use Rattle.markup.specs.Elements.{Inside, Tree, element}
+use Rattle.markup.specs.Elements.{Inside, Tree, element, alone, kids}
 use Rattle.markup.specs.Elements.Inside.{end, says, note, elem}
-use Rattle.reading.specs.Within.{alone, kids, Every, Deeply}
+use Rattle.reading.specs.Everywhere.{Every, Deeply}
 use Rattle.reading.proofs.Cut.{never}
 use Rattle.reading.proofs.Places.{StandsIn, every-map, kids-stand}
 use Rattle.reading.proofs.Shrink.{element-shrinks}

@@ -8,10 +8,10 @@ use lib.Dec.{eqb}
 use lib.ListN.{length}
 use borrow.Author.Tests.{eqb-true}
 use Rattle.laws.specs.Lists.{same}
-use Rattle.markup.specs.Elements.{Tree}
-use Rattle.reading.specs.Within.{alone, kids, Every, Deeply}
+use Rattle.markup.specs.Elements.{Tree, alone, kids}
+use Rattle.reading.specs.Everywhere.{Every, Deeply}
 use Rattle.reading.proofs.Cut.{never}
-use Rattle.schema.specs.Schema.{Node, Schema, headOf}
+use Rattle.schema.specs.Schema.{Node, Schema, particleOf}
 use Rattle.schema.specs.Shape.{faultOf, outside, namedIn, recordsOf, fine, faulty, firstBad, shapeOf}
 use Rattle.nodes.proofs.Taken.{Meets}
 use Rattle.nodes.proofs.Legible.{kids-known}
@@ -54,7 +54,7 @@ shaped p s t k e h = go (outside s t) refl e
         let w = bad-none (s .each) 0 k (recordsOf s t) q in
         record {
           outer = u;
-          records = met p (s .each) (recordsOf s t) (w .0) (named-known (λ c. Deeply p (alone c)) (headOf (s .each) .named) (kids (t .inside)) (kids-known p (t .inside) (h .1)));
+          records = met p (s .each) (recordsOf s t) (w .0) (named-known (λ c. Deeply p (alone c)) (particleOf (s .each) .named) (kids (t .inside)) (kids-known p (t .inside) (h .1)));
           count = omega arith;
         }
     go false u q = never cc

@@ -10,11 +10,10 @@ use borrow.Author.Tests.{eq-eqb, ne-eqb}
 use Rattle.laws.specs.Lists.{same}
 use Rattle.laws.proofs.Truth.{and-left, and-right}
 use Rattle.markup.specs.Reading.Read.{refused, read}
-use Rattle.markup.specs.Elements.{Inside, Tree, content, element}
+use Rattle.markup.specs.Elements.{Inside, Tree, content, element, kids, kidOn}
 use Rattle.markup.specs.View.{left}
-use Rattle.reading.specs.Within.{kids, kidOn}
 use Rattle.reading.proofs.Cut.{never}
-use Rattle.nodes.specs.Lookup.{missing, firstNamed}
+use Rattle.nodes.specs.Lookup.{firstNamed}
 use Rattle.nodes.specs.Stands.{Stands, lacks, stands, Holds, Ahead}
 use Rattle.nodes.specs.Several.{meets, meetsEach, Sixes, Unfinished}
 use Rattle.nodes.specs.declared.Node.{Node}

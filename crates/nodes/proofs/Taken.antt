@@ -11,13 +11,13 @@ use Rattle.laws.specs.Lists.{all, same}
 use Rattle.laws.proofs.Truth.{and-left, and-right}
 use Rattle.markup.specs.Bytes.{isWs}
 use Rattle.markup.specs.Tags.{Pair}
-use Rattle.markup.specs.Elements.{Inside, Tree}
+use Rattle.markup.specs.Elements.{Inside, Tree, mk, alone, kids}
 use Rattle.markup.specs.Elements.Inside.{end, says, note, elem}
-use Rattle.reading.specs.Within.{mk, alone, kids, Deeply}
+use Rattle.reading.specs.Everywhere.{Deeply}
 use Rattle.reading.proofs.Cut.{never}
-use Rattle.schema.specs.Schema.{Node, leaf, group, another, Nodes, none, _▸_, headOf}
+use Rattle.schema.specs.Schema.{Node, leaf, group, another, Nodes, none, _▸_, particleOf}
+use Rattle.schema.specs.Shape.{attrsFit, leafFits, Seek, nowhere, here, mayCome, seek, enough, firstFault, childFault, faultIn, faultOf}
 use Rattle.nodes.proofs.Same.{either, same-is}
-use Rattle.schema.specs.Shape.{attrsFit, leafFits, Seek, nowhere, here, mayCome, seek, enough, orElse, childFault, faultIn, faultOf}
 
 -- an element without a fault by its node; p is what is known of every element in it
 pub record Meets (p : Tree → Type 0) (n : Node) (c : Tree) : Type 0 where
@@ -26,27 +26,27 @@ pub record Meets (p : Tree → Type 0) (n : Node) (c : Tree) : Type 0 where
 
 -- one more may come after k of a node
 abbrev pub Room : Node → ℕ → Type 0
-Room n k = (headOf n .most ≡ 0) ⊎ (k < headOf n .most)
+Room n k = (particleOf n .most ≡ 0) ⊎ (k < particleOf n .most)
 
 -- children under the nodes still to come, of the first of which k have been
 pub data Taken (p : Tree → Type 0) : Nodes → ℕ → List Tree → Type 0 where
   over : {k : ℕ} → Taken p none k []
-  comes : {n : Node} {ns : Nodes} {k : ℕ} {c : Tree} {cs : List Tree} → c .named ≡ headOf n .named → Room n k → Meets p n c
+  comes : {n : Node} {ns : Nodes} {k : ℕ} {c : Tree} {cs : List Tree} → c .named ≡ particleOf n .named → Room n k → Meets p n c
       → Taken p (n ▸ ns) (suc k) cs → Taken p (n ▸ ns) k (c ∷ cs)
-  passes : {n : Node} {ns : Nodes} {k : ℕ} {cs : List Tree} → headOf n .least ≤ k → Taken p ns 0 cs → Taken p (n ▸ ns) k cs
+  passes : {n : Node} {ns : Nodes} {k : ℕ} {cs : List Tree} → particleOf n .least ≤ k → Taken p ns 0 cs → Taken p (n ▸ ns) k cs
 
 pub enough-taken : (p : Tree → Type 0) (ns : Nodes) (k : ℕ) → enough ns k ≡ true → Taken p ns k []
 unfolding enough
 enough-taken p none k e = over
 enough-taken p (n ▸ ns) k e =
-    passes (leb-true (headOf n .least) k (and-left (leb (headOf n .least) k) (enough ns 0) e))
-    (enough-taken p ns 0 (and-right (leb (headOf n .least) k) (enough ns 0) e))
+    passes (leb-true (particleOf n .least) k (and-left (leb (particleOf n .least) k) (enough ns 0) e))
+    (enough-taken p ns 0 (and-right (leb (particleOf n .least) k) (enough ns 0) e))
 
-pub may-come : (x : List ℕ) (n : Node) (k : ℕ) → mayCome x (headOf n) k ≡ true → (x ≡ headOf n .named) × Room n k
+pub may-come : (x : List ℕ) (n : Node) (k : ℕ) → mayCome x (particleOf n) k ≡ true → (x ≡ particleOf n .named) × Room n k
 may-come x n k e =
-    let b = and-right (same x (headOf n .named)) (eqb (headOf n .most) 0 || ltb k (headOf n .most)) e in (
-      same-is x (headOf n .named) (and-left (same x (headOf n .named)) (eqb (headOf n .most) 0 || ltb k (headOf n .most)) e),
-      ⊎-elim (λ u. inl (eqb-true (headOf n .most) 0 u)) (λ u. inr (ltb-true k (headOf n .most) u)) (either (eqb (headOf n .most) 0) (ltb k (headOf n .most)) b),
+    let b = and-right (same x (particleOf n .named)) (eqb (particleOf n .most) 0 || ltb k (particleOf n .most)) e in (
+      same-is x (particleOf n .named) (and-left (same x (particleOf n .named)) (eqb (particleOf n .most) 0 || ltb k (particleOf n .most)) e),
+      ⊎-elim (λ u. inl (eqb-true (particleOf n .most) 0 u)) (λ u. inr (ltb-true k (particleOf n .most) u)) (either (eqb (particleOf n .most) 0) (ltb k (particleOf n .most)) b),
     )
 
 -- the node that a child is sought at, and those passed on the way
@@ -55,19 +55,19 @@ module _ (p : Tree → Type 0) (c : Tree) (cs : List Tree) where
       → Taken p ns k (c ∷ cs)
   unfolding seek
   sought none k m ms j e h r = never cc
-  sought (n ▸ ns) k m ms j e h r = go (mayCome (c .named) (headOf n) k) refl (ltb k (headOf n .least)) refl (λ q. sought ns 0 m ms j q h r) e
+  sought (n ▸ ns) k m ms j e h r = go (mayCome (c .named) (particleOf n) k) refl (ltb k (particleOf n .least)) refl (λ q. sought ns 0 m ms j q h r) e
     where
-      at : mayCome (c .named) (headOf n) k ≡ true → n ≡ m → ns ≡ ms → k ≡ j → Taken p (n ▸ ns) k (c ∷ cs)
+      at : mayCome (c .named) (particleOf n) k ≡ true → n ≡ m → ns ≡ ms → k ≡ j → Taken p (n ▸ ns) k (c ∷ cs)
       at a u v w = let b = may-come (c .named) n k a in comes {n = n} {ns = ns} {k = k} {c = c} {cs = cs} (b .0) (b .1) (rw u h) (rw (u, v, w) r)
 
-      go : (a : Bool) → mayCome (c .named) (headOf n) k ≡ a → (b : Bool) → ltb k (headOf n .least) ≡ b
+      go : (a : Bool) → mayCome (c .named) (particleOf n) k ≡ a → (b : Bool) → ltb k (particleOf n .least) ≡ b
           → (seek (c .named) ns 0 ≡ here m ms j → Taken p ns 0 (c ∷ cs))
           → cond a (here n ns k) (cond b nowhere (seek (c .named) ns 0)) ≡ here m ms j → Taken p (n ▸ ns) k (c ∷ cs)
       go true a b f i q = at a (cc) (cc) (cc)
       go false a true f i q = never cc
-      go false a false f i q = passes (ltb-false k (headOf n .least) f) (i q)
+      go false a false f i q = passes (ltb-false k (particleOf n .least) f) (i q)
 
-both-none : (a b : ℕ) → orElse a b ≡ 0 → (a ≡ 0) × (b ≡ 0)
+both-none : (a b : ℕ) → firstFault a b ≡ 0 → (a ≡ 0) × (b ≡ 0)
 both-none zero b e = (refl, e)
 both-none (suc a) b e = absurd (omega arith)
 

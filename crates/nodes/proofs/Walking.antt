@@ -4,11 +4,10 @@ use Prim.Native.Nat.{ℕ}
 use mathlib.Core.Path.{_≡_, refl, sym, ap, subst, _∙_}
 use mathlib.Core.List.{List, [], _∷_}
 use Rattle.markup.specs.Reading.Read.{refused, read}
-use Rattle.markup.specs.Elements.{Inside, Tree, piece, content, element}
+use Rattle.markup.specs.Elements.{Inside, Tree, piece, content, element, kids}
 use Rattle.markup.specs.Elements.Inside.{end, says, note}
 use Rattle.markup.specs.Elements.Piece.{words, aside, closing, child}
 use Rattle.markup.specs.View.{left}
-use Rattle.reading.specs.Within.{kids}
 use Rattle.reading.proofs.Cut.{never}
 use Rattle.reading.proofs.Elements.{child-back, element-opens}
 use Rattle.reading.proofs.Steps.{on-close, on-words, on-note, on-child, Pieces, pieces}

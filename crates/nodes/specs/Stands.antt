@@ -7,10 +7,9 @@ use lib.ListN.{drop}
 use Rattle.laws.specs.Lists.{any, same}
 use Rattle.markup.specs.Reading.Read.{read}
 use Rattle.markup.specs.Tags.{Pair}
-use Rattle.markup.specs.Elements.{Inside, Tree, content, element}
+use Rattle.markup.specs.Elements.{Inside, Tree, content, element, kids}
 use Rattle.markup.specs.Elements.Inside.{end}
 use Rattle.markup.specs.View.{part, held}
-use Rattle.reading.specs.Within.{kids}
 use Rattle.nodes.specs.Lookup.{missing, valueIn}
 use Rattle.nodes.specs.declared.Entry.{Entry}
 use Rattle.nodes.specs.declared.Entry.the-variants as entry

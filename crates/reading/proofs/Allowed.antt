@@ -11,15 +11,14 @@ use borrow.Author.Tests.{eqb-true, ne-eqb, leb-true, le-leb}
 use Rattle.laws.specs.Lists.{all}
 use Rattle.laws.specs.Text.{bytes}
 use Rattle.laws.proofs.Truth.{and-left, and-right}
+use Rattle.laws.proofs.Lists.{all-map, all-join}
 use Rattle.markup.specs.Bytes.{inFile, isNameStart, isName}
 use Rattle.markup.specs.Tags.{Pair}
-use Rattle.markup.specs.Elements.{Inside, Tree}
+use Rattle.markup.specs.Elements.{Inside, Tree, depth, alone}
 use Rattle.markup.specs.Elements.Inside.{end, says, note, elem}
-use Rattle.markup.specs.Document.{document, depth}
+use Rattle.markup.specs.Document.{document}
 use Rattle.markup.specs.Reading.Read.{read}
-use Rattle.reading.specs.Within.{alone}
 use Rattle.reading.specs.Print.{pairsOn, endOn, printOn, print, placedTree, IsName, PairsOk, Prints, Printable, ValuesPlain, Plain}
-use Rattle.laws.proofs.Lists.{all-map, all-join}
 use Rattle.reading.proofs.Files.{printed-document}
 
 or-cases : (a b : Bool) → a || b ≡ true → (a ≡ true) ⊎ (b ≡ true)

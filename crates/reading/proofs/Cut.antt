@@ -8,9 +8,9 @@ use lib.ListN.{length, take, drop, getD, length-append}
 use lib.Seq.{take-take}
 use Rattle.laws.specs.Loop.{Step, loop}
 use Rattle.laws.specs.Loop.Step.{stop, next}
+use Rattle.laws.proofs.Fuel.{Shrinks, loop-next, loop-stop, by-steps}
 use Rattle.markup.specs.Reading.{Read, then}
 use Rattle.markup.specs.Reading.Read.{refused, read}
-use Rattle.laws.proofs.Fuel.{Shrinks, loop-next, loop-stop, by-steps}
 
 pub never : {A : Type 0} → _≡_ {A = ℕ} 0 1 → A
 never e = absurd (omega arith)

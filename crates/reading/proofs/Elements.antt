@@ -9,20 +9,18 @@ use native.Mathlib.Nat.{add-assoc}
 use lib.Dec.{eqb}
 use lib.ListN.{length, drop, getD, length-append}
 use Rattle.laws.specs.Loop.Step.{next}
-use Rattle.markup.specs.Bytes.{isNameStart, isText, run, front, after}
+use Rattle.laws.proofs.Fuel.{Shrinks}
+use Rattle.markup.specs.Bytes.{isNameStart, isText, runLength, front, after}
 use Rattle.markup.specs.Reading.{Read, then}
 use Rattle.markup.specs.Reading.Read.{refused, read}
 use Rattle.markup.specs.Comments.{dashed}
 use Rattle.markup.specs.Tags.{Pair, Tag, tag, endTag}
-use Rattle.markup.specs.Elements.{Inside, Tree, Piece, tagPiece, piece, onto, afterChild, afterPiece, contentStep, content, afterTag, element}
+use Rattle.markup.specs.Elements.{Inside, Tree, Piece, tagPiece, piece, onto, afterChild, afterPiece, contentStep, content, afterTag, element, kidOn}
 use Rattle.markup.specs.Elements.Inside.{end, says, note, elem}
 use Rattle.markup.specs.Elements.Piece.{words, aside, closing, child}
 use Rattle.reading.specs.Places.{up, upTree}
 use Rattle.reading.specs.Print.{IsName}
-use Rattle.reading.specs.Within.{kidOn}
-use Rattle.laws.proofs.Fuel.{Shrinks}
-use Rattle.reading.proofs.Cut.{never, then-is, read-in, still, Cut, Cuts, Local, cond-cuts, cons-cuts, less-cuts, look-cuts, map-cut, cuts-is}
-use Rattle.reading.proofs.Cut.{then-local, map-local, past-local, refused-cuts, only, only-cuts, read-local, Goes, goes-of, stopped, goes-less, loop-local}
+use Rattle.reading.proofs.Cut.{never, then-is, read-in, still, Cut, Cuts, Local, cond-cuts, cons-cuts, less-cuts, look-cuts, map-cut, cuts-is, then-local, map-local, past-local, refused-cuts, only, only-cuts, read-local, Goes, goes-of, stopped, goes-less, loop-local}
 use Rattle.reading.proofs.Leaves.{not-byte, run-local}
 use Rattle.reading.proofs.Tags.{dashed-local, endTag-local, tag-local, tag-opens}
 
@@ -67,7 +65,7 @@ tag-no-text n c l t m e = go (eqb c (code "/")) (eqb c (code "!")) e
     go false false k = let q = read-in k .0 in never cc
 
 text-is : (b : ℕ) → isText b ≡ true → (x : List ℕ) → read (words (front isText (b ∷ x))) (after isText (b ∷ x)) ≡ then (read (front isText x) (after isText x)) (λ t m. read (words (b ∷ t)) m)
-unfolding run
+unfolding runLength
 text-is b e x = rw e
 
 text-cuts : (b : ℕ) (l : List ℕ) → Cuts (λ t m. read (words t) m) still 0 1 (λ x. then (read (front isText x) (after isText x)) (λ t m. read (words (b ∷ t)) m)) l

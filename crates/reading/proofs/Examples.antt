@@ -7,10 +7,9 @@ use Rattle.laws.specs.Lists.{all, any, same}
 use Rattle.laws.specs.Text.{bytes}
 use Rattle.markup.specs.Reading.Read.{read}
 use Rattle.markup.specs.Tags.{differ}
-use Rattle.markup.specs.Elements.{Tree}
+use Rattle.markup.specs.Elements.{Tree, depth, mk, alone}
 use Rattle.markup.specs.Elements.Inside.{end, says, note, elem}
-use Rattle.markup.specs.Document.{document, depth}
-use Rattle.reading.specs.Within.{mk, alone}
+use Rattle.markup.specs.Document.{document}
 use Rattle.reading.specs.Print.{print, placedTree, Printable, Plain}
 use Rattle.reading.proofs.Allowed.{plain-document}
 

@@ -11,15 +11,15 @@ use Rattle.laws.specs.Lists.{all, same}
 use Rattle.laws.specs.Loop.{Step, turns, loop}
 use Rattle.laws.specs.Loop.Step.{stop, next}
 use Rattle.laws.specs.Text.{bytes}
-use Rattle.markup.specs.Bytes.{inFile, isWs, isNameStart, run}
+use Rattle.laws.proofs.Fuel.{Shrinks, loop-next, loop-stop, by-steps}
+use Rattle.markup.specs.Bytes.{inFile, isWs, isNameStart, runLength}
 use Rattle.markup.specs.Reading.{Read, then}
 use Rattle.markup.specs.Reading.Read.{refused, read}
 use Rattle.markup.specs.Names.{skipWs}
 use Rattle.markup.specs.Comments.{opensOther, dashed, declared}
-use Rattle.markup.specs.Elements.{Tree, element}
-use Rattle.markup.specs.Document.{declares, declaration, goOn, miscStep, misc, depth, atEnd, document}
+use Rattle.markup.specs.Elements.{Tree, element, depth}
+use Rattle.markup.specs.Document.{declares, declaration, goOn, miscStep, misc, atEnd, document}
 use Rattle.reading.specs.Print.{print, placedTree, Printable}
-use Rattle.laws.proofs.Fuel.{Shrinks, loop-next, loop-stop, by-steps}
 use Rattle.reading.proofs.Cut.{never, then-is, cond-is, read-in}
 use Rattle.reading.proofs.Leaves.{not-byte}
 use Rattle.reading.proofs.Tags.{dashed-local}
@@ -71,7 +71,7 @@ remark x = eqb (getD x 0 0) (code "<") && eqb (getD x 1 0) (code "!")
 
 skip-ends : (l : List ℕ) → Ends l (skipWs l)
 unfolding skipWs
-skip-ends l = ends-drop (run isWs l) l
+skip-ends l = ends-drop (runLength isWs l) l
 
 misc-next : (l : List ℕ) (f : Read (Unit {0}) → Read (Unit {0})) (m : List ℕ) → miscStep l ≡ next f m → Ends l m × (length m < length l) × (f ≡ (λ r. r))
 unfolding miscStep
@@ -142,11 +142,11 @@ unfolding declaration declares same
 declaration-none h x e = rw (not-byte isNameStart h (code "?") e refl)
 
 misc-none : (h : ℕ) (x : List ℕ) → isNameStart h ≡ true → misc (code "<" ∷ h ∷ x) ≡ read tt (code "<" ∷ h ∷ x)
-unfolding misc loop turns miscStep skipWs run
+unfolding misc loop turns miscStep skipWs runLength
 misc-none h x e = rw (not-byte isNameStart h (code "!") e refl)
 
 misc-end : misc [] ≡ read tt []
-unfolding misc loop turns miscStep skipWs run
+unfolding misc loop turns miscStep skipWs runLength
 misc-end = refl
 
 -- a file that is an element and no more

@@ -9,7 +9,7 @@ use lib.ListN.{length, take, drop, getD, take-append-drop}
 use lib.Seq.{take-append-seam, drop-append-seam}
 use borrow.Author.Tests.{eq-eqb, ne-eqb, eqb-true}
 use Rattle.laws.specs.Lists.{all}
-use Rattle.markup.specs.Bytes.{isWs, isNameStart, isName, inValue, run, front, after}
+use Rattle.markup.specs.Bytes.{isWs, isNameStart, isName, inValue, runLength, front, after}
 use Rattle.markup.specs.Reading.{Read, then}
 use Rattle.markup.specs.Reading.Read.{refused, read}
 use Rattle.markup.specs.Names.{skipWs, byte, name, isQuote, value}
@@ -23,51 +23,51 @@ not-byte p c k h z = ne-eqb c k (λ e. let y : _≡_ {A = Bool} true false = sym
 -- ---- runs
 
 module _ (p : ℕ → Bool) where
-  pub run-all : (t z : List ℕ) → all p t ≡ true → run p z ≡ 0 → run p (t ++ z) ≡ length t
-  unfolding run all
+  pub run-all : (t z : List ℕ) → all p t ≡ true → runLength p z ≡ 0 → runLength p (t ++ z) ≡ length t
+  unfolding runLength all
   run-all [] z h e = e
   run-all (b ∷ t) z h e = go (p b) h (run-all t z)
     where
-      go : (q : Bool) → q && all p t ≡ true → (all p t ≡ true → run p z ≡ 0 → run p (t ++ z) ≡ length t) → cond q (suc (run p (t ++ z))) 0 ≡ suc (length t)
+      go : (q : Bool) → q && all p t ≡ true → (all p t ≡ true → runLength p z ≡ 0 → runLength p (t ++ z) ≡ length t) → cond q (suc (runLength p (t ++ z))) 0 ≡ suc (length t)
       go true u i = ap suc (i u e)
       go false u i = never cc
 
-  pub front-back : (t z : List ℕ) → all p t ≡ true → run p z ≡ 0 → front p (t ++ z) ≡ t
+  pub front-back : (t z : List ℕ) → all p t ≡ true → runLength p z ≡ 0 → front p (t ++ z) ≡ t
   front-back t z h e = rw (run-all t z h e) (take-append-seam t z)
 
-  pub after-back : (t z : List ℕ) → all p t ≡ true → run p z ≡ 0 → after p (t ++ z) ≡ z
+  pub after-back : (t z : List ℕ) → all p t ≡ true → runLength p z ≡ 0 → after p (t ++ z) ≡ z
   after-back t z h e = rw (run-all t z h e) (drop-append-seam t z)
 
-  pub run-none : (b : ℕ) (z : List ℕ) → p b ≡ false → run p (b ∷ z) ≡ 0
-  unfolding run
+  pub run-none : (b : ℕ) (z : List ℕ) → p b ≡ false → runLength p (b ∷ z) ≡ 0
+  unfolding runLength
   run-none b z e = rw e
 
   pub front-all : (l : List ℕ) → all p (front p l) ≡ true
-  unfolding run all
+  unfolding runLength all
   front-all [] = refl
   front-all (b ∷ l) = go (p b) refl (front-all l)
     where
-      go : (q : Bool) → p b ≡ q → all p (front p l) ≡ true → all p (take (cond q (suc (run p l)) 0) (b ∷ l)) ≡ true
+      go : (q : Bool) → p b ≡ q → all p (front p l) ≡ true → all p (take (cond q (suc (runLength p l)) 0) (b ∷ l)) ≡ true
       go true f i = rw f i
       go false f i = refl
 
-  pub after-none : (l : List ℕ) → run p (after p l) ≡ 0
-  unfolding run
+  pub after-none : (l : List ℕ) → runLength p (after p l) ≡ 0
+  unfolding runLength
   after-none [] = refl
   after-none (b ∷ l) = go (p b) refl (after-none l)
     where
-      go : (q : Bool) → p b ≡ q → run p (after p l) ≡ 0 → run p (drop (cond q (suc (run p l)) 0) (b ∷ l)) ≡ 0
+      go : (q : Bool) → p b ≡ q → runLength p (after p l) ≡ 0 → runLength p (drop (cond q (suc (runLength p l)) 0) (b ∷ l)) ≡ 0
       go true f i = i
       go false f i = rw f
 
   -- a run ends where one byte more says so
-  pub run-like : (z m : List ℕ) → take 1 z ≡ take 1 m → run p m ≡ 0 → run p z ≡ 0
-  unfolding run
+  pub run-like : (z m : List ℕ) → take 1 z ≡ take 1 m → runLength p m ≡ 0 → runLength p z ≡ 0
+  unfolding runLength
   run-like [] m e h = refl
   run-like (b ∷ z) [] e h = never cc
   run-like (b ∷ z) (c ∷ m) e h = let q : b ≡ c = cc in rw q (go (p c) h)
     where
-      go : (t : Bool) → cond t (suc (run p m)) 0 ≡ 0 → cond t (suc (run p z)) 0 ≡ 0
+      go : (t : Bool) → cond t (suc (runLength p m)) 0 ≡ 0 → cond t (suc (runLength p z)) 0 ≡ 0
       go true u = absurd (omega arith)
       go false u = refl
 
@@ -77,22 +77,22 @@ module _ (p : ℕ → Bool) where
       let f : front p l ≡ a = cc in
       let g : after p l ≡ m = cc in
       let h : all p a ≡ true = rw f at (front-all l) in
-      let k : (z : List ℕ) → take 1 z ≡ take 1 m → run p z ≡ 0 = λ z q. run-like z m q (rw g at (after-none l)) in
+      let k : (z : List ℕ) → take 1 z ≡ take 1 m → runLength p z ≡ 0 = λ z q. run-like z m q (rw g at (after-none l)) in
       record {
         bytes = a;
         base = a;
         some = omega arith;
-        whole = sym (take-append-drop (run p l) l) ∙ ap (λ (x : List ℕ). x ++ after p l) f ∙ ap (λ (x : List ℕ). a ++ x) g;
+        whole = sym (take-append-drop (runLength p l) l) ∙ ap (λ (x : List ℕ). x ++ after p l) f ∙ ap (λ (x : List ℕ). a ++ x) g;
         value = refl;
         again = λ z q. rw (front-back a z h (k z q), after-back a z h (k z q));
       }
 
-  pub front-length : (l : List ℕ) → length (front p l) ≡ run p l
-  unfolding run
+  pub front-length : (l : List ℕ) → length (front p l) ≡ runLength p l
+  unfolding runLength
   front-length [] = refl
   front-length (b ∷ l) = go (p b) (front-length l)
     where
-      go : (q : Bool) → length (front p l) ≡ run p l → length (take (cond q (suc (run p l)) 0) (b ∷ l)) ≡ cond q (suc (run p l)) 0
+      go : (q : Bool) → length (front p l) ≡ runLength p l → length (take (cond q (suc (runLength p l)) 0) (b ∷ l)) ≡ cond q (suc (runLength p l)) 0
       go true i = ap suc i
       go false i = refl
 
@@ -123,28 +123,28 @@ spaced-local c = then-local (λ l. read (front isWs l) (after isWs l)) (λ t m. 
 
 -- ---- names
 
-pub name-back : (n z : List ℕ) → IsName n → run isName z ≡ 0 → name (n ++ z) ≡ read n z
+pub name-back : (n z : List ℕ) → IsName n → runLength isName z ≡ 0 → name (n ++ z) ≡ read n z
 unfolding name
 name-back [] z h e = let q : isNameStart 0 ≡ true = h .starts in never cc
 name-back (b ∷ n) z h e = rw (h .starts, front-back isName (b ∷ n) z (h .bytes) e, after-back isName (b ∷ n) z (h .bytes) e)
 
-first-named : (n m : List ℕ) → isNameStart (getD (n ++ m) 0 0) ≡ true → run isName m ≡ 0 → isNameStart (getD n 0 0) ≡ true
-unfolding run
+first-named : (n m : List ℕ) → isNameStart (getD (n ++ m) 0 0) ≡ true → runLength isName m ≡ 0 → isNameStart (getD n 0 0) ≡ true
+unfolding runLength
 first-named [] [] f k = f
-first-named [] (b ∷ m) f k = let q : isName b ≡ true = rw f in let x : suc (run isName m) ≡ 0 = rw q at k in absurd (omega arith)
+first-named [] (b ∷ m) f k = let q : isName b ≡ true = rw f in let x : suc (runLength isName m) ≡ 0 = rw q at k in absurd (omega arith)
 first-named (b ∷ n) m f k = f
 
-pub name-is : (l n m : List ℕ) → name l ≡ read n m → IsName n × (run isName m ≡ 0) × (l ≡ n ++ m)
+pub name-is : (l n m : List ℕ) → name l ≡ read n m → IsName n × (runLength isName m ≡ 0) × (l ≡ n ++ m)
 unfolding name
 name-is l n m e = go (isNameStart (getD l 0 0)) refl e
   where
-    go : (t : Bool) → isNameStart (getD l 0 0) ≡ t → cond t (read (front isName l) (after isName l)) refused ≡ read n m → IsName n × (run isName m ≡ 0) × (l ≡ n ++ m)
+    go : (t : Bool) → isNameStart (getD l 0 0) ≡ t → cond t (read (front isName l) (after isName l)) refused ≡ read n m → IsName n × (runLength isName m ≡ 0) × (l ≡ n ++ m)
     go false f u = never cc
     go true f u =
         let x : front isName l ≡ n = cc in
         let y : after isName l ≡ m = cc in
-        let w : l ≡ n ++ m = sym (take-append-drop (run isName l) l) ∙ ap (λ (x : List ℕ). x ++ after isName l) x ∙ ap (λ (y : List ℕ). n ++ y) y in
-        let k : run isName m ≡ 0 = rw y at (after-none isName l) in
+        let w : l ≡ n ++ m = sym (take-append-drop (runLength isName l) l) ∙ ap (λ (x : List ℕ). x ++ after isName l) x ∙ ap (λ (y : List ℕ). n ++ y) y in
+        let k : runLength isName m ≡ 0 = rw y at (after-none isName l) in
         (record { starts = first-named n m (subst (λ (s : List ℕ). isNameStart (getD s 0 0) ≡ true) w f) k; bytes = rw x at (front-all isName l) }, k, w)
 
 pub name-some : (n : List ℕ) → IsName n → 0 < length n

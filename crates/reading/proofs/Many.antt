@@ -6,17 +6,17 @@ use mathlib.Core.List.{List, [], _∷_, _++_, append-assoc}
 use mathlib.Core.Logic.{_⊎_, ⊎-elim, inl, inr}
 use lib.ListN.{length}
 use Rattle.laws.specs.Lists.{all}
+use Rattle.laws.proofs.Lists.{all-left, all-right}
 use Rattle.markup.specs.Bytes.{inFile}
 use Rattle.markup.specs.Reading.Read.{read}
 use Rattle.markup.specs.Tags.{Pair}
-use Rattle.markup.specs.Elements.{Tree, content, element}
+use Rattle.markup.specs.Elements.{Tree, content, element, mk, alone, kids}
 use Rattle.markup.specs.Elements.Inside.{end}
-use Rattle.markup.specs.Document.{document, inMarkup, taken}
+use Rattle.markup.specs.Document.{document, inMarkup, wasRead}
 use Rattle.reading.specs.Places.{upTree}
-use Rattle.reading.specs.Within.{mk, alone, kids, Every}
+use Rattle.reading.specs.Everywhere.{Every}
 use Rattle.reading.specs.Print.{endOn}
 use Rattle.reading.specs.Many.{wrappedTree, belowRoot, PartIn, Parted, fileOfOne, Single, said, records, Files}
-use Rattle.laws.proofs.Lists.{all-left, all-right}
 use Rattle.reading.proofs.Cut.{read-in}
 use Rattle.reading.proofs.Elements.{Ends}
 use Rattle.reading.proofs.Steps.{Built, built, element-from}
@@ -92,7 +92,7 @@ one-or-many f t m e =
 -- the file of one is in the markup
 pub single-document : (f : List ℕ) (t : Tree) (head : List ℕ) (c : Tree) (o : Single f t head c) → inMarkup (fileOfOne head (o .bytes) (t .named)) ≡ true
 unfolding inMarkup
-single-document f t head c o = ap taken (o .short)
+single-document f t head c o = ap wasRead (o .short)
 
 -- what E14 uses: for anything φ said of a record that does not depend on its place, the records of a file are, one by one, the records of the files of one
 module _ {R : Type 0} (φ : Tree → R) where

@@ -9,19 +9,18 @@ use lib.ListN.{length, drop, getD, length-append}
 use lib.Seq.{drop-append-seam}
 use Rattle.markup.specs.Reading.Read.{read}
 use Rattle.markup.specs.Tags.{Tag, tag}
-use Rattle.markup.specs.Elements.{Inside, Tree, content, element}
+use Rattle.markup.specs.Elements.{Inside, Tree, content, element, depth, mk, alone, kids}
 use Rattle.markup.specs.Elements.Inside.{end, says, note, elem}
-use Rattle.markup.specs.Document.{document, depth}
-use Rattle.reading.specs.Places.{up, upTree, own, placeIn}
-use Rattle.reading.specs.Print.{endOn, printOn, print, placed, placedTree, Printable}
-use Rattle.reading.specs.Within.{mk, alone, kids, Every, Deeply, ReadAt}
+use Rattle.markup.specs.Document.{document}
+use Rattle.reading.specs.Places.{up, placeIn}
+use Rattle.reading.specs.Print.{endOn, printOn, placed}
+use Rattle.reading.specs.Everywhere.{Every, Deeply, ReadAt}
 use Rattle.reading.proofs.Cut.{never, read-in}
 use Rattle.reading.proofs.Tags.{tag-local}
 use Rattle.reading.proofs.Elements.{Ends, elem-is, element-opens}
 use Rattle.reading.proofs.Steps.{contentOf, Built, built, element-from, Pieces, pieces}
 use Rattle.reading.proofs.Steps.Pieces.{closed, told, noted, born}
-use Rattle.reading.proofs.Locality.{own-up}
-use Rattle.reading.proofs.Round.{print-append, round-trip}
+use Rattle.reading.proofs.Round.{print-append}
 use Rattle.reading.proofs.Files.{document-is}
 
 pub every-map : (p q : Tree → Type 0) (f : (c : Tree) → p c → q c) (ts : List Tree) → Every p ts → Every q ts
@@ -133,16 +132,3 @@ placed-up (elem c n ps i k) r z =
     ap length (sym (print-append (elem c n ps i k) r z)) ∙ length-append (printOn (elem c n ps i k) r) z in
     let b : endOn n (printOn k (r ++ z)) ≡ endOn n (printOn k r) ++ z = rw (append-assoc n (code ">" ∷ printOn k r) z, print-append k r z) in
     elem-is n ps a (ap (λ (x : List ℕ). placed x i) b ∙ placed-up i (endOn n (printOn k r)) z) (placed-up k r z)
-
-pub placed-tree : (t : Tree) (z : List ℕ) → placedTree z t ≡ upTree (length z) (placedTree [] t)
-placed-tree t z = ap treeIn (placed-up (alone t) [] z)
-  where
-    treeIn : Inside → Tree
-    treeIn end = t
-    treeIn (says x k) = t
-    treeIn (note k) = t
-    treeIn (elem z n ps i k) = mk z n ps i
-
--- THE ROUND TRIP, as an equality: a printed element is the tree, with the places of its own bytes
-pub round-own : (d : ℕ) (t : Tree) (z : List ℕ) → Printable d t → own (element d (print t ++ z)) ≡ read (placedTree [] t) z
-round-own d t z p = ap own (round-trip d t z p ∙ ap (λ (x : Tree). read x z) (placed-tree t z)) ∙ own-up (placedTree [] t) z

@@ -11,17 +11,16 @@ use borrow.Author.Tests.{eq-eqb, not-true}
 use Rattle.laws.proofs.Truth.{and-left}
 use Rattle.laws.specs.Lists.{all, same}
 use Rattle.laws.specs.Loop.Step.{stop, next}
-use Rattle.markup.specs.Bytes.{isWs, isNameStart, isName, inValue, isText, run}
+use Rattle.laws.proofs.Fuel.{loop-next, loop-stop}
+use Rattle.markup.specs.Bytes.{isWs, isNameStart, isName, inValue, isText, runLength}
 use Rattle.markup.specs.Reading.Read.{refused, read}
 use Rattle.markup.specs.Names.{skipWs, byte, value}
 use Rattle.markup.specs.Comments.{comment, dashed}
 use Rattle.markup.specs.Tags.{Pair, attribute, ending, before, goOn, attributesAt, attributesStep, attributes, Tag, tag, endTag}
-use Rattle.markup.specs.Elements.{Inside, Tree, piece, content, element}
+use Rattle.markup.specs.Elements.{Inside, Tree, piece, content, element, alone}
 use Rattle.markup.specs.Elements.Inside.{end, says, note, elem}
 use Rattle.markup.specs.Elements.Piece.{words, aside, closing, child}
 use Rattle.reading.specs.Print.{pairsOn, endOn, printOn, treeOn, print, placed, placedTree, IsName, PairsOk, TagOk, NoText, Prints, Printable}
-use Rattle.reading.specs.Within.{alone}
-use Rattle.laws.proofs.Fuel.{loop-next, loop-stop}
 use Rattle.reading.proofs.Cut.{never}
 use Rattle.reading.proofs.Leaves.{not-byte, front-back, after-back, run-none, byte-back, name-back}
 use Rattle.reading.proofs.Tags.{attributes-less}
@@ -41,7 +40,7 @@ start-no-space c h = rw (not-byte isNameStart c 32 h refl, not-byte isNameStart 
 value-back : (v x : List ℕ) → all (inValue (code "\"")) v ≡ true → value (code "\"" ∷ (v ++ (code "\"" ∷ x))) ≡ read v x
 unfolding value
 value-back v x h =
-    let e : run (inValue (code "\"")) (code "\"" ∷ x) ≡ 0 = run-none (inValue (code "\"")) (code "\"") x refl in
+    let e : runLength (inValue (code "\"")) (code "\"" ∷ x) ≡ 0 = run-none (inValue (code "\"")) (code "\"") x refl in
     rw (front-back (inValue (code "\"")) v (code "\"" ∷ x) h e, after-back (inValue (code "\"")) v (code "\"" ∷ x) h e, byte-back (code "\"") x)
 
 abbrev pairText : Pair → List ℕ → List ℕ
@@ -54,8 +53,8 @@ attribute-back p x h k =
     rw (name-back (p .key) (code "=" ∷ v) h (run-none isName (code "=") v refl), skip-none (code "=") v refl, byte-back (code "=") v, skip-none (code "\"") (p .val ++ (code "\"" ∷ x)) refl, value-back (p .val) x k)
 
 -- one byte of white space before a name
-space-run : (w : ℕ) (n x : List ℕ) → isWs w ≡ true → IsName n → run isWs (w ∷ (n ++ x)) ≡ 1
-unfolding run
+space-run : (w : ℕ) (n x : List ℕ) → isWs w ≡ true → IsName n → runLength isWs (w ∷ (n ++ x)) ≡ 1
+unfolding runLength
 space-run w [] x e h = let q : isNameStart 0 ≡ true = h .starts in never cc
 space-run w (c ∷ n) x e h = rw (e, start-no-space c (h .starts))
 
@@ -71,7 +70,7 @@ step-attribute p x h k =
     rw (space-run w (p .key) y refl h) (at-attribute (p .key) y h ∙ ap goOn (attribute-back p x h k))
 
 step-end : (x : List ℕ) → attributesStep (code ">" ∷ x) ≡ stop (read (ending false) x)
-unfolding attributesStep skipWs run
+unfolding attributesStep skipWs runLength
 step-end x = refl
 
 attributes-back : (ps : List Pair) (x : List ℕ) → PairsOk ps → attributes (pairsOn ps (code ">" ∷ x)) ≡ read (record { pairs = ps; shut = false }) x
@@ -81,7 +80,7 @@ attributes-back (p ∷ ps) x h = loop-next refused attributesStep attributes-les
 
 -- ---- tags
 
-name-ends : (ps : List Pair) (x : List ℕ) → run isName (pairsOn ps (code ">" ∷ x)) ≡ 0
+name-ends : (ps : List Pair) (x : List ℕ) → runLength isName (pairsOn ps (code ">" ∷ x)) ≡ 0
 name-ends [] x = run-none isName (code ">") x refl
 name-ends (p ∷ ps) x = run-none isName (getD (pairsOn (p ∷ []) []) 0 0) (pairText p (pairsOn ps (code ">" ∷ x))) refl
 
@@ -112,7 +111,7 @@ words-back : (n t z : List ℕ) → 0 < length t → all isText t ≡ true → p
 unfolding piece all
 words-back n [] z h a = absurd (omega arith)
 words-back n (c ∷ t) z h a =
-    let e : run isText (code "<" ∷ z) ≡ 0 = run-none isText (code "<") z refl in
+    let e : runLength isText (code "<" ∷ z) ≡ 0 = run-none isText (code "<") z refl in
     rw (not-true (eqb c (code "<")) (and-left (isText c) (all isText t) a), front-back isText (c ∷ t) (code "<" ∷ z) a e, after-back isText (c ∷ t) (code "<" ∷ z) a e)
 
 child-named : (nm n x : List ℕ) → IsName n → piece nm (code "<" ∷ (n ++ x)) ≡ read child (code "<" ∷ (n ++ x))

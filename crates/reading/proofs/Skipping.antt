@@ -13,14 +13,15 @@ use borrow.Author.Tests.{eq-eqb, ne-eqb, eqb-true}
 use Rattle.laws.specs.Loop.Step.{stop, next}
 use Rattle.laws.proofs.Fuel.{loop-next, loop-stop}
 use Rattle.laws.proofs.Places.{front as front-at}
-use Rattle.markup.specs.Bytes.{isWs, isNameStart, isName, isText, run, front, after}
+use Rattle.laws.specs.Lists.{same}
+use Rattle.markup.specs.Bytes.{isWs, isNameStart, isName, isText, runLength, front, after}
 use Rattle.markup.specs.Classes.{class}
 use Rattle.markup.specs.Reading.{Read, then}
 use Rattle.markup.specs.Reading.Read.{refused, read}
 use Rattle.markup.specs.Names.{skipWs, byte, name}
 use Rattle.markup.specs.Comments.{dashed}
 use Rattle.markup.specs.Tags.{Attributes, attributes, differ, Tag, tagOf, tag, endTag}
-use Rattle.markup.specs.Elements.{Inside, Tree, piece, onto, afterPiece, contentStep, content, element}
+use Rattle.markup.specs.Elements.{Inside, Tree, piece, onto, afterPiece, contentStep, content, element, kidOn}
 use Rattle.markup.specs.Elements.Piece.{words, aside, closing, child}
 use Rattle.markup.specs.View.{okGot, left, endingOf}
 use Rattle.markup.specs.declared.Got.{Got}
@@ -28,8 +29,6 @@ use Rattle.markup.specs.declared.Got.the-variants as got
 use Rattle.markup.proofs.AtBytes.{run-after}
 use Rattle.markup.proofs.AtTags.{attributes-none}
 use Rattle.markup.proofs.AtElements.{piece-tag}
-use Rattle.laws.specs.Lists.{same}
-use Rattle.reading.specs.Within.{kidOn}
 use Rattle.reading.proofs.Cut.{never, then-is, cond-is, read-in}
 use Rattle.reading.proofs.Leaves.{byte-is, byte-back, after-none}
 use Rattle.reading.proofs.Steps.{contentOf, built, inside-less, on-close}
@@ -42,12 +41,12 @@ okGot-back s a b got.Refused h k = tt
 -- ---- runs: what passes p and all of which pass r is no end of a run of r
 
 through : (p r : ℕ → Bool) → ((b : ℕ) → p b ≡ true → r b ≡ true) → (l : List ℕ) → after r (after p l) ≡ after r l
-unfolding run
+unfolding runLength
 through p r h [] = refl
 through p r h (b ∷ l) = go (p b) refl (through p r h l)
   where
-    go : (q : Bool) → p b ≡ q → after r (after p l) ≡ after r l → after r (drop (cond q (suc (run p l)) 0) (b ∷ l)) ≡ after r (b ∷ l)
-    go true e i = i ∙ sym (ap (λ (t : Bool). drop (cond t (suc (run r l)) 0) (b ∷ l)) (h b e))
+    go : (q : Bool) → p b ≡ q → after r (after p l) ≡ after r l → after r (drop (cond q (suc (runLength p l)) 0) (b ∷ l)) ≡ after r (b ∷ l)
+    go true e i = i ∙ sym (ap (λ (t : Bool). drop (cond t (suc (runLength r l)) 0) (b ∷ l)) (h b e))
     go false e i = refl
 
 no-byte : (p : ℕ → Bool) (k : ℕ) → p k ≡ false → (b : ℕ) → p b ≡ true → eqb b k ≡ false
@@ -81,22 +80,22 @@ space-in b e = rw (no-byte isWs 60 refl b e, no-byte isWs 62 refl b e)
 
 -- up to the next `<` an end tag and what follows it are alike
 end-text : (n l m : List ℕ) → endTag n l ≡ read tt m → after isText l ≡ after isText m
-unfolding run
+unfolding runLength
 end-text n l m e = end-run isText name-text space-text n l m e
 
 -- up to the next `>` it is the end tag
 end-here : (n l m : List ℕ) → endTag n l ≡ read tt m → byte 62 (after (class 62) l) ≡ read tt m
-unfolding run class
+unfolding runLength class
 end-here n l m e = ap (byte 62) (end-run (class 62) name-in space-in n l m e) ∙ byte-back 62 m
 
 -- ---- what stands in an element, a step at a time, with what is left after it
 
 -- the byte at the end of a run does not pass
-run-stops : (p : ℕ → Bool) (s : List ℕ) (at q : ℕ) → q ≡ at + run p (drop at s) → q < length s → p (getD s q 0) ≡ false
-unfolding run
+run-stops : (p : ℕ → Bool) (s : List ℕ) (at q : ℕ) → q ≡ at + runLength p (drop at s) → q < length s → p (getD s q 0) ≡ false
+unfolding runLength
 run-stops p s at q k h = go (p (getD s q 0)) refl (rw (← run-after p s at q k, front-at s q h) at (after-none p (drop at s)))
   where
-    go : (t : Bool) → p (getD s q 0) ≡ t → cond (p (getD s q 0)) (suc (run p (drop (q + 1) s))) 0 ≡ 0 → t ≡ false
+    go : (t : Bool) → p (getD s q 0) ≡ t → cond (p (getD s q 0)) (suc (runLength p (drop (q + 1) s))) 0 ≡ 0 → t ≡ false
     go true e z = let w = rw e at z in absurd (omega arith)
     go false e z = refl
 
@@ -114,11 +113,11 @@ module _ (d : ℕ) (n : List ℕ) where
 
   -- the text is passed
   text-on : (l : List ℕ) {i : Inside} {m : List ℕ} → content (element d) n l ≡ read i m → (j : Inside) × (content (element d) n (after isText l) ≡ read j m)
-  unfolding run piece
+  unfolding runLength piece
   text-on [] {i} e = (i, e)
   text-on (b ∷ l) {i} {m} e = go (eqb b 60) refl
     where
-      go : (t : Bool) → eqb b 60 ≡ t → (j : Inside) × (content (element d) n (drop (cond (not (eqb b 60)) (suc (run isText l)) 0) (b ∷ l)) ≡ read j m)
+      go : (t : Bool) → eqb b 60 ≡ t → (j : Inside) × (content (element d) n (drop (cond (not (eqb b 60)) (suc (runLength isText l)) 0) (b ∷ l)) ≡ read j m)
       go true w = (i, rw w e)
       go false w =
           let p : piece n (b ∷ l) ≡ read (words (front isText (b ∷ l))) (after isText (b ∷ l)) = rw w in
@@ -165,7 +164,7 @@ module _ (l : List ℕ) (g : Tag) (m : List ℕ) (e : tag l ≡ read g m) where
       never cc
 
 -- a start tag without attributes, by the end of its name
-pub tag-plain : (s : List ℕ) (q e b : ℕ) → e ≡ q + 1 + run (class 1) (drop (q + 1) s) → b ≡ getD s e 0 → b ≡ 62 → (g : Tag) (m : List ℕ) → tag (drop q s) ≡ read g m
+pub tag-plain : (s : List ℕ) (q e b : ℕ) → e ≡ q + 1 + runLength (class 1) (drop (q + 1) s) → b ≡ getD s e 0 → b ≡ 62 → (g : Tag) (m : List ℕ) → tag (drop q s) ≡ read g m
     → read false (drop (e + 1) s) ≡ read (g .shut) m
 unfolding tag name class
 tag-plain s q e b k w z g m t =
@@ -200,7 +199,7 @@ open-left : (d : ℕ) (g : Tag) (z : List ℕ) {i : Inside} {y : List ℕ} → c
 open-left d g z e k = rw k at e
 
 -- at a `<` of the input, after a text, before the byte c
-module _ (s : List ℕ) (at q c : ℕ) (k : q ≡ at + run (class 60) (drop at s)) (h : q < length s) (w : c ≡ getD s (q + 1) 0) where
+module _ (s : List ℕ) (at q c : ℕ) (k : q ≡ at + runLength (class 60) (drop at s)) (h : q < length s) (w : c ≡ getD s (q + 1) 0) where
   tag-here : getD s q 0 ≡ 60
   unfolding class
   tag-here = go (eqb (getD s q 0) 60) refl (run-stops isText s at q k h)
@@ -314,7 +313,7 @@ module _ (s : List ℕ) (at q c : ℕ) (k : q ≡ at + run (class 60) (drop at s
               never cc
 
 -- nothing stands at the end of the input
-pub pend-none : {A : Type 0} (s : List ℕ) (at q o : ℕ) (m : List ℕ) → q ≡ at + run (class 60) (drop at s) → length s ≤ q → 1 ≤ o → Pending o (after isText (drop at s)) m → A
+pub pend-none : {A : Type 0} (s : List ℕ) (at q o : ℕ) (m : List ℕ) → q ≡ at + runLength (class 60) (drop at s) → length s ≤ q → 1 ≤ o → Pending o (after isText (drop at s)) m → A
 unfolding class piece
 pend-none {A} s at q o m k h t r = go r (sym (run-after isText s at q k) ∙ drop-of-length-le s h) t
   where

@@ -5,14 +5,13 @@ use mathlib.Core.Bool.{cond}
 use mathlib.Core.List.{List}
 use lib.ListN.{length}
 use Rattle.laws.specs.Loop.Step.{stop, next}
+use Rattle.laws.proofs.Fuel.{Shrinks, loop-next, loop-stop, by-steps}
 use Rattle.markup.specs.Reading.{Read}
 use Rattle.markup.specs.Reading.Read.{refused, read}
 use Rattle.markup.specs.Tags.{Tag, tag}
-use Rattle.markup.specs.Elements.{Inside, Tree, Piece, piece, onto, afterPiece, contentStep, content, afterTag, element}
+use Rattle.markup.specs.Elements.{Inside, Tree, Piece, piece, onto, afterPiece, contentStep, content, afterTag, element, mk, kidOn}
 use Rattle.markup.specs.Elements.Inside.{end, says, note}
 use Rattle.markup.specs.Elements.Piece.{words, aside, closing, child}
-use Rattle.reading.specs.Within.{mk, kidOn}
-use Rattle.laws.proofs.Fuel.{Shrinks, loop-next, loop-stop, by-steps}
 use Rattle.reading.proofs.Cut.{never, then-is, read-in}
 use Rattle.reading.proofs.Elements.{Ends, child-same, content-goes, content-less, element-opens, element-local}
 

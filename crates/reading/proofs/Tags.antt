@@ -10,16 +10,15 @@ use lib.ListN.{length, drop, getD}
 use Rattle.laws.specs.Lists.{same}
 use Rattle.laws.specs.Loop.{Step}
 use Rattle.laws.specs.Loop.Step.{stop, next}
-use Rattle.markup.specs.Bytes.{isWs, run, front, after}
+use Rattle.laws.proofs.Fuel.{Shrinks}
+use Rattle.markup.specs.Bytes.{isWs, runLength, front, after}
 use Rattle.markup.specs.Reading.{Read, then}
 use Rattle.markup.specs.Reading.Read.{refused, read}
 use Rattle.markup.specs.Names.{skipWs, byte, name, value}
 use Rattle.markup.specs.Comments.{opensOther, comment, dashed}
 use Rattle.markup.specs.Tags.{Pair, attribute, Attributes, ending, before, goOn, attributesAt, attributesStep, attributes, differ, Tag, tagOf, tag, endTag}
 use Rattle.reading.specs.Print.{IsName}
-use Rattle.laws.proofs.Fuel.{Shrinks}
-use Rattle.reading.proofs.Cut.{never, still, Cut, Cuts, Local, refused-cuts, past-local, cond-cuts, cons-cuts, tail-cuts, less-cuts, look-cuts}
-use Rattle.reading.proofs.Cut.{follow, then-local, read-local, Goes, goes-of, stopped, then-is, cond-is, read-in, map-cut, goes-less, loop-local}
+use Rattle.reading.proofs.Cut.{never, still, Cut, Cuts, Local, refused-cuts, past-local, cond-cuts, cons-cuts, tail-cuts, less-cuts, look-cuts, follow, then-local, read-local, Goes, goes-of, stopped, then-is, cond-is, read-in, map-cut, goes-less, loop-local}
 use Rattle.reading.proofs.Leaves.{run-local, front-length, byte-is, byte-local, spaced-local, name-is, name-local, value-local}
 
 -- ---- comments
@@ -110,7 +109,7 @@ unfolding attributesStep skipWs
 step-cuts {A} {put} h l =
     follow attributesStep (λ t y. attributesAt (length t) y) is (run-local isWs l (front isWs l) (after isWs l) refl) refl (h (length (front isWs l)) (after isWs l)) (omega arith)
   where
-    is : (l t y : List ℕ) → read (front isWs l) (after isWs l) ≡ read t y → attributesAt (run isWs l) (after isWs l) ≡ attributesAt (length t) y
+    is : (l t y : List ℕ) → read (front isWs l) (after isWs l) ≡ read t y → attributesAt (runLength isWs l) (after isWs l) ≡ attributesAt (length t) y
     is l t y e = let a : front isWs l ≡ t = cc in let b : after isWs l ≡ y = cc in ap (λ (n : ℕ). attributesAt n (after isWs l)) (sym (front-length isWs l) ∙ ap length a) ∙ ap (attributesAt (length t)) b
 
 at-before : (w : ℕ) (l : List ℕ) (f : Read Attributes → Read Attributes) (y : List ℕ) → attributesAt w l ≡ next f y → (p : Pair) × (f ≡ before p)
@@ -128,7 +127,7 @@ first p a = record { pairs = p ∷ a .pairs; shut = a .shut }
 
 attributes-goes : (l : List ℕ) (f : Read Attributes → Read Attributes) (y : List ℕ) → attributesStep l ≡ next f y → Goes still attributesStep l f y
 unfolding attributesStep
-attributes-goes l f y e = let b = at-before (run isWs l) (skipWs l) f y e in goes-of (step-cuts at-goes l f y e) (omega arith) (first (b .0)) (b .1) (λ r a. refl)
+attributes-goes l f y e = let b = at-before (runLength isWs l) (skipWs l) f y e in goes-of (step-cuts at-goes l f y e) (omega arith) (first (b .0)) (b .1) (λ r a. refl)
 
 pub attributes-less : Shrinks attributesStep
 attributes-less = goes-less attributesStep (step-cuts at-stops) attributes-goes

@@ -1,4 +1,4 @@
 pub mod Places
-pub mod Within
 pub mod Print
 pub mod Many
+pub mod Everywhere

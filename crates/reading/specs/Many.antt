@@ -9,11 +9,11 @@ use Rattle.markup.specs.Bytes.{inFile}
 use Rattle.markup.specs.Reading.{Read}
 use Rattle.markup.specs.Reading.Read.{refused, read}
 use Rattle.markup.specs.Tags.{Pair, tag}
-use Rattle.markup.specs.Elements.{Inside, Tree, element}
+use Rattle.markup.specs.Elements.{Inside, Tree, element, depth, mk, kidOn, alone, kids}
 use Rattle.markup.specs.Elements.Inside.{end}
-use Rattle.markup.specs.Document.{depth, document, inMarkup}
+use Rattle.markup.specs.Document.{document, inMarkup}
 use Rattle.reading.specs.Places.{upTree}
-use Rattle.reading.specs.Within.{mk, kidOn, alone, kids, Every}
+use Rattle.reading.specs.Everywhere.{Every}
 use Rattle.reading.specs.Print.{endOn}
 
 -- the bytes of an element, and the tree they are read as before any z, its places counted to its own end

@@ -9,9 +9,8 @@ use Rattle.laws.specs.Lists.{all}
 use Rattle.laws.specs.Text.{bytes}
 use Rattle.markup.specs.Bytes.{inFile, isNameStart, isName, inValue, isText}
 use Rattle.markup.specs.Tags.{Pair, differ}
-use Rattle.markup.specs.Elements.{Inside, Tree}
+use Rattle.markup.specs.Elements.{Inside, Tree, alone}
 use Rattle.markup.specs.Elements.Inside.{end, says, note, elem}
-use Rattle.reading.specs.Within.{alone}
 
 -- the attributes before r, one space before each
 abbrev pub pairsOn : List Pair → List ℕ → List ℕ

@@ -8,11 +8,11 @@ use lib.Dec.{ltb}
 use borrow.Author.Tests.{ltb-true, lt-ltb}
 use Rattle.laws.specs.Lists.{all}
 use Rattle.laws.proofs.Truth.{and-left, and-right}
+use Rattle.laws.proofs.Every.{Every, every-map, all-told, all-tell, and-tell}
 use Rattle.model.specs.Map.{Row, Map, Asc}
 use Rattle.model.proofs.MapLaws.{asc-weaken}
-use Rattle.register.specs.Bytes.{from}
+use Rattle.register.specs.State.{from}
 use Rattle.register.specs.Sound.{ascending}
-use Rattle.register.proofs.Every.{Every, every-map, all-told, all-tell, and-tell}
 use Rattle.register.proofs.From.{from-cut}
 
 -- keys that ascend are above the first

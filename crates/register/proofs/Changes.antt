@@ -4,12 +4,12 @@ use mathlib.Core.Path.{_≡_, refl, sym, ap, ap₂, _∙_}
 use mathlib.Core.List.{List, _∷_, _++_, append-assoc}
 use native.Mathlib.Omega.{arith}
 use lib.ListN.{length, replicate, length-append}
-use Rattle.rows.specs.Pack.{digits}
-use Rattle.rows.proofs.Bytes.{digits-length}
 use Rattle.model.specs.Map.{Row, Map}
 use Rattle.model.specs.Flow.{State}
-use Rattle.register.specs.Layout.{Layout, caseRest, eventRest}
-use Rattle.register.specs.Bytes.{rowNumber, rowAt, rowsBytes, used, encode}
+use Rattle.rows.specs.Packing.{digits}
+use Rattle.rows.proofs.Bytes.{digits-length}
+use Rattle.register.specs.Layout.{Layout, caseRest, eventRest, rowAt}
+use Rattle.register.specs.State.{unsplit, rowsBytes, used, encode}
 use Rattle.register.specs.Stored.{Group, cases, events, restOf, withRows}
 use Rattle.register.specs.Moves.{inserted, replaced, removed, withCount}
 use Rattle.register.proofs.RowBytes.{bytes-append, bytes-length}
@@ -65,9 +65,9 @@ module _ (l : Layout) where
       length-append (rowsBytes l (caseRest l) vs) (rowsBytes l (eventRest l) (s .events)) ∙ omega arith
   back-length events s vs = bytes-length l (eventRest l) vs ∙ omega arith
 
-  back-cons : (g : Group) (s : State ℕ ℕ) (r : Row ℕ) (vs : Map ℕ) → backOf g s (r ∷ vs) ≡ digits (l .bytes) (rowNumber (restOf g l) r) ++ backOf g s vs
+  back-cons : (g : Group) (s : State ℕ ℕ) (r : Row ℕ) (vs : Map ℕ) → backOf g s (r ∷ vs) ≡ digits (l .bytes) (unsplit (restOf g l) r) ++ backOf g s vs
   unfolding backOf rowsBytes
-  back-cons cases s r vs = append-assoc (digits (l .bytes) (rowNumber (caseRest l) r)) (rowsBytes l (caseRest l) vs) (rowsBytes l (eventRest l) (s .events))
+  back-cons cases s r vs = append-assoc (digits (l .bytes) (unsplit (caseRest l) r)) (rowsBytes l (caseRest l) vs) (rowsBytes l (eventRest l) (s .events))
   back-cons events s r vs = refl
 
   -- how many rows stand in all
@@ -106,7 +106,7 @@ module _ (l : Layout) where
 module _ (l : Layout) (g : Group) (n : ℕ) (s : State ℕ ℕ) (us vs : Map ℕ) (r : Row ℕ) (i k : ℕ)
     (ei : startOf g s + length us ≡ i) (ek : i + (length vs + afterOf g s) ≡ k) where
   abbrev row : List ℕ
-  row = digits (l .bytes) (rowNumber (restOf g l) r)
+  row = digits (l .bytes) (unsplit (restOf g l) r)
 
   -- the bytes with the row in, for any count in the header
   abbrev with-row : ℕ → List ℕ
@@ -160,7 +160,7 @@ module _ (l : Layout) (g : Group) (n : ℕ) (s : State ℕ ℕ) (us vs : Map ℕ
       ap (λ (x : List ℕ). withCount (countAt g) (c + 1) (inserted (l .bytes) i k row x)) encode-without
       ∙ ap (withCount (countAt g) (c + 1))
       (opens (headOf g s c ++ frontOf l g s us) row (backOf l g s vs) (l .bytes) (rowAt l i) (rowAt l (k + 1) - rowAt l i) (n - rowAt l k)
-      (at-place c) (digits-length (l .bytes) (rowNumber (restOf g l) r)) (back-room h) (omega arith))
+      (at-place c) (digits-length (l .bytes) (unsplit (restOf g l) r)) (back-room h) (omega arith))
       ∙ recount c (c + 1) (row ++ (backOf l g s vs ++ replicate (n - rowAt l k - l .bytes) 0))
       ∙ ap (λ (x : ℕ). (headOf g s (c + 1) ++ frontOf l g s us) ++ (row ++ (backOf l g s vs ++ replicate x 0))) zeros-less
       ∙ sym encode-row
@@ -175,18 +175,18 @@ module _ (l : Layout) (g : Group) (n : ℕ) (s : State ℕ ℕ) (us vs : Map ℕ
       ((headOf g s (c + 1) ++ frontOf l g s us) ++ (row ++ (backOf l g s vs ++ replicate x 0))))) (sym zeros-less)
       ∙ ap (withCount (countAt g) c)
       (closes (headOf g s (c + 1) ++ frontOf l g s us) row (backOf l g s vs) (l .bytes) (rowAt l i) (rowAt l (k + 1) - rowAt l i) (n - rowAt l k)
-      (at-place (c + 1)) (digits-length (l .bytes) (rowNumber (restOf g l) r)) (back-room h) (omega arith))
+      (at-place (c + 1)) (digits-length (l .bytes) (unsplit (restOf g l) r)) (back-room h) (omega arith))
       ∙ recount (c + 1) c (backOf l g s vs ++ replicate (n - rowAt l k) 0)
       ∙ sym encode-without
 
 -- a row replaced
 pub replace-encode : (l : Layout) (g : Group) (n : ℕ) (s : State ℕ ℕ) (us vs : Map ℕ) (x r : Row ℕ) (i : ℕ) → startOf g s + length us ≡ i →
-    replaced (l .bytes) i (digits (l .bytes) (rowNumber (restOf g l) r)) (encode l n (withRows g (us ++ x ∷ vs) s)) ≡ encode l n (withRows g (us ++ r ∷ vs) s)
+    replaced (l .bytes) i (digits (l .bytes) (unsplit (restOf g l) r)) (encode l n (withRows g (us ++ x ∷ vs) s)) ≡ encode l n (withRows g (us ++ r ∷ vs) s)
 replace-encode l g n s us vs x r i ei =
     let k : ℕ = i + (length vs + afterOf g s) in
     let c : ℕ = length us + length vs + 1 in
-    let d : List ℕ = digits (l .bytes) (rowNumber (restOf g l) r) in
+    let d : List ℕ = digits (l .bytes) (unsplit (restOf g l) r) in
     ap (replaced (l .bytes) i d) (encode-row l g n s us vs x i k ei refl)
-    ∙ on-seam (headOf g s c ++ frontOf l g s us) (digits (l .bytes) (rowNumber (restOf g l) x)) (backOf l g s vs ++ replicate (n - rowAt l (k + 1)) 0)
-    (rowAt l i) (l .bytes) (at-place l g n s us vs x i k ei refl c) (digits-length (l .bytes) (rowNumber (restOf g l) x)) (λ p. d)
+    ∙ on-seam (headOf g s c ++ frontOf l g s us) (digits (l .bytes) (unsplit (restOf g l) x)) (backOf l g s vs ++ replicate (n - rowAt l (k + 1)) 0)
+    (rowAt l i) (l .bytes) (at-place l g n s us vs x i k ei refl c) (digits-length (l .bytes) (unsplit (restOf g l) x)) (λ p. d)
     ∙ sym (encode-row l g n s us vs r i k ei refl)

@@ -12,8 +12,8 @@ use Rattle.model.specs.Map.{Row, Map, isSome, find, has, keep, Asc}
 use Rattle.model.specs.Flow.{State}
 use Rattle.model.proofs.MapLaws.{asc-weaken}
 use Rattle.model.proofs.MapPlace.{AllBelow, find-in, find-out}
-use Rattle.register.specs.Layout.{Layout, caseRest, eventRest, caseOf}
-use Rattle.register.specs.Bytes.{from, split, rowIn, eventsFrom}
+use Rattle.register.specs.Layout.{Layout, caseRest, eventRest, caseNamed, rowIn}
+use Rattle.register.specs.State.{from, split, eventsFrom}
 use Rattle.register.specs.Stored.{Laid, Stored, Group, cases, events, rowsOf}
 use Rattle.register.specs.Search.{keyAt, Rises, Placed, Ranged}
 use Rattle.register.proofs.From.{from-cut}
@@ -102,7 +102,7 @@ module _ (l : Layout) (lay : Laid l) (reg : List ℕ) (s : State ℕ ℕ) (h : S
   hi = length (s .cases) + length (s .events)
 
   -- the first bits of an event's row are its case's key
-  pub case-at : (j : ℕ) → keyAt (l .bytes) (l .caseKey) reg j ≡ caseOf l (row j .key)
+  pub case-at : (j : ℕ) → keyAt (l .bytes) (l .caseKey) reg j ≡ caseNamed l (row j .key)
   case-at j =
       let e : caseRest l ≡ eventRest l + (l .eventKey - l .caseKey) = omega (arith, lay .case-first, lay .in-row) in
       key-is l reg (l .caseKey) j ∙ ap (λ (k : ℕ). rowIn l reg j / 2 ^ k) e ∙ sym (shr-shr (rowIn l reg j) (eventRest l) (l .eventKey - l .caseKey))
@@ -114,9 +114,9 @@ module _ (l : Layout) (lay : Laid l) (reg : List ℕ) (s : State ℕ ℕ) (h : S
       rw (case-at p, case-at q) (shr-mono (l .eventKey - l .caseKey) (rw (key-is l reg (l .eventKey) p, key-is l reg (l .eventKey) q) at k))
 
   -- the range found is the case's events
-  pub range-events : (v a e : ℕ) → Ranged (keyAt (l .bytes) (l .caseKey) reg) v lo hi a e → keep (λ k. eqb (caseOf l k) v) (s .events) ≡ eventsFrom l reg a (e - a)
+  pub range-events : (v a e : ℕ) → Ranged (keyAt (l .bytes) (l .caseKey) reg) v lo hi a e → keep (λ k. eqb (caseNamed l k) v) (s .events) ≡ eventsFrom l reg a (e - a)
   range-events v a e r =
-      let p : ℕ → Bool = λ k. eqb (caseOf l k) v in
+      let p : ℕ → Bool = λ k. eqb (caseNamed l k) v in
       let n : hi - lo ≡ length (s .events) = omega arith in
       ap (keep p)
       (sym (events-back l lay reg s h) ∙ ap (from row lo) (sym n) ∙ from-cut row lo a hi (r .low) (omega (arith, r .mid, r .high))
@@ -126,13 +126,13 @@ module _ (l : Layout) (lay : Laid l) (reg : List ℕ) (s : State ℕ ℕ) (h : S
       ∙ ap₂ (λ (x y : Map ℕ). x ++ y) (keep-from p row a (e - a) inside) (drop-from p row e (hi - e) after)
       ∙ append-nil (from row a (e - a))
     where
-      before : (j : ℕ) → lo ≤ j → j < lo + (a - lo) → eqb (caseOf l (row j .key)) v ≡ false
+      before : (j : ℕ) → lo ≤ j → j < lo + (a - lo) → eqb (caseNamed l (row j .key)) v ≡ false
       before j x y =
-          ne-eqb (caseOf l (row j .key)) v (λ z. let k = r .before cases-rise j x (omega (arith, r .low)) in omega (arith, case-at j))
+          ne-eqb (caseNamed l (row j .key)) v (λ z. let k = r .before cases-rise j x (omega (arith, r .low)) in omega (arith, case-at j))
 
-      inside : (j : ℕ) → a ≤ j → j < a + (e - a) → eqb (caseOf l (row j .key)) v ≡ true
-      inside j x y = eq-eqb (caseOf l (row j .key)) v (sym (case-at j) ∙ r .inside cases-rise j x (omega (arith, r .mid)))
+      inside : (j : ℕ) → a ≤ j → j < a + (e - a) → eqb (caseNamed l (row j .key)) v ≡ true
+      inside j x y = eq-eqb (caseNamed l (row j .key)) v (sym (case-at j) ∙ r .inside cases-rise j x (omega (arith, r .mid)))
 
-      after : (j : ℕ) → e ≤ j → j < e + (hi - e) → eqb (caseOf l (row j .key)) v ≡ false
+      after : (j : ℕ) → e ≤ j → j < e + (hi - e) → eqb (caseNamed l (row j .key)) v ≡ false
       after j x y =
-          ne-eqb (caseOf l (row j .key)) v (λ z. let k = r .after cases-rise j x (omega (arith, r .high)) in omega (arith, case-at j))
+          ne-eqb (caseNamed l (row j .key)) v (λ z. let k = r .after cases-rise j x (omega (arith, r .high)) in omega (arith, case-at j))

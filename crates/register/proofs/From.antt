@@ -4,7 +4,7 @@ use mathlib.Core.Path.{_≡_, refl, ap, _∙_}
 use mathlib.Core.List.{List, _∷_, _++_}
 use native.Mathlib.Omega.{arith}
 use lib.ListN.{length, getD}
-use Rattle.register.specs.Bytes.{from}
+use Rattle.register.specs.State.{from}
 
 pub from-length : {A : Type 0} (f : ℕ → A) (i k : ℕ) → length (from f i k) ≡ k
 unfolding from

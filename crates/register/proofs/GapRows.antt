@@ -8,7 +8,7 @@ use lib.ListN.{length, take, drop, replicate, length-append, length-drop, length
 use lib.Seq.{length-take-le, take-at, drop-at, take-append-le, drop-append-le, drop-drop}
 use Rattle.model.specs.Flow.{State}
 use Rattle.register.specs.Layout.{Layout}
-use Rattle.register.specs.Bytes.{used}
+use Rattle.register.specs.State.{used}
 use Rattle.register.specs.Gap.{Gap, bytesAt}
 use Rattle.register.specs.Moves.{onPart, closedUp, removed, withCount}
 use Rattle.register.specs.Search.{keyAt}

@@ -7,10 +7,10 @@ use native.Mathlib.Omega.{arith}
 use lib.ListN.{length, take, drop, length-append, length-drop, take-append-drop}
 use lib.Seq.{length-take-le, take-at, drop-at, take-append-le, drop-append-le, drop-drop}
 use borrow.Rule.Slice.PartMut.{putMid}
-use Rattle.rows.specs.Pack.{num, digits, fieldAt, Held}
+use Rattle.rows.specs.Packing.{num, digits, fieldAt, HeldAt}
 use Rattle.rows.proofs.Bytes.{digits-length}
 use Rattle.register.specs.Gap.{Gap, openedWide, bytesAt, fieldIn}
-use Rattle.register.specs.Search.{keyAt, keyOf}
+use Rattle.register.specs.Search.{keyAt, probeKey}
 use Rattle.register.specs.Moves.{onPart, openedBy, inserted, withCount}
 use Rattle.register.proofs.Seams.{mid-seam, put-seam, on-seam}
 
@@ -294,8 +294,8 @@ pub key-same : (w k p : ℕ) (a b : List ℕ) → bytesAt w a p ≡ bytesAt w b 
 unfolding keyAt
 key-same w k p a b e = rw e
 
-pub key-here : (w k p : ℕ) (a row : List ℕ) → bytesAt w a p ≡ row → keyAt w k a p ≡ keyOf w k row
-unfolding keyAt keyOf
+pub key-here : (w k p : ℕ) (a row : List ℕ) → bytesAt w a p ≡ row → keyAt w k a p ≡ probeKey w k row
+unfolding keyAt probeKey
 key-here w k p a row e = rw e
 
 pub field-same : (w at k p : ℕ) (a b : List ℕ) → bytesAt w a p ≡ bytesAt w b p → fieldIn w at k a p ≡ fieldIn w at k b p
@@ -304,7 +304,7 @@ field-same w at k p a b e = rw e
 
 -- the field that was read from the row as the code cuts it out
 pub field-got : (w i at k r : ℕ) (reg : List ℕ) → 4 + w * (i + 1) ≤ length reg →
-    Held (take (4 + w * i + w - (4 + w * i)) (drop (4 + w * i) reg)) at k r → r ≡ fieldIn w at k reg i
+    HeldAt (take (4 + w * i + w - (4 + w * i)) (drop (4 + w * i) reg)) at k r → r ≡ fieldIn w at k reg i
 unfolding fieldIn
 field-got w i at k r reg h g =
     let e : 4 + w * i + w - (4 + w * i) ≡ w = omega arith in

@@ -12,7 +12,7 @@ use Rattle.model.specs.Flow.{State}
 use Rattle.register.specs.Layout.{Layout}
 use Rattle.register.specs.Gap.{bytesAt}
 use Rattle.register.specs.Stored.{Laid, Stored, Group, rowsOf, keyBitsOf, withRows}
-use Rattle.register.specs.Search.{keyAt, keyOf, Placed}
+use Rattle.register.specs.Search.{keyAt, probeKey, Placed}
 use Rattle.register.specs.Moves.{removed, withCount}
 use Rattle.register.specs.OnBytes.DropDone.{gone}
 use Rattle.register.proofs.Changes.{countAt, startOf}
@@ -40,7 +40,7 @@ module _ (l : Layout) (lay : Laid l) (g : Group) (a : List ℕ) (s : State ℕ �
       Stored l b (withRows g (del v (rowsOf g s)) s)
   drop-found b len e =
       let row : List ℕ = bytesAt (l .bytes) a i in
-      let k : keyOf (l .bytes) (keyBitsOf g l) row ≡ v = sym (key-here (l .bytes) (keyBitsOf g l) i a row refl) ∙ found-key in
+      let k : probeKey (l .bytes) (keyBitsOf g l) row ≡ v = sym (key-here (l .bytes) (keyBitsOf g l) i a row refl) ∙ found-key in
       subst (λ (x : ℕ). Stored l b (withRows g (del x (rowsOf g s)) s)) k
       (drop-done l lay g a s h row b true len
       (gone i (subst (λ (x : ℕ). Placed (keyAt (l .bytes) (keyBitsOf g l) a) x (startOf g s) end i) (sym k) pl)

@@ -5,7 +5,7 @@ use mathlib.Core.List.{List, [], _∷_, _++_}
 use native.Mathlib.Omega.{arith}
 use lib.ListN.{length, take, drop, getD, set, length-append, take-append-drop}
 use lib.Seq.{drop-cons, set-at, append-snoc, length-take-le}
-use Rattle.rows.specs.Pack.{packs, num}
+use Rattle.rows.specs.Packing.{packs, num}
 use Rattle.register.specs.Moves.{withCount}
 
 module _ (reg : List ℕ) (at : ℕ) (h : at + 2 ≤ length reg) where

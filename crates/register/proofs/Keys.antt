@@ -11,12 +11,12 @@ use borrow.Author.Tests.{ltb-true, lt-ltb, le-ltb, eq-eqb, ne-eqb}
 use Rattle.laws.proofs.Truth.{and-left}
 use Rattle.laws.proofs.Order.{Tri, tri}
 use Rattle.laws.proofs.Order.Tri.{below, equal, above}
-use Rattle.rows.specs.Pack.{num, firstBits}
+use Rattle.rows.specs.Packing.{num, firstBits}
 use Rattle.rows.specs.Ordering.{orderOf}
 use Rattle.rows.specs.declared.reader.Order.{Order}
 use Rattle.rows.specs.declared.reader.Order.the-variants.{Less, Same, More}
 use Rattle.rows.proofs.Ordering.{less-order, same-order, more-order}
-use Rattle.register.specs.Search.{keyAt, keyOf}
+use Rattle.register.specs.Search.{keyAt, probeKey}
 use Rattle.register.specs.OnBytes.{standsAt}
 
 -- the first bits of row i, as the code cuts it out
@@ -28,8 +28,8 @@ row-key w k i reg h =
     let n : length t ≡ w = length-take-le w (drop (4 + w * i) reg) (rw length-drop (omega arith)) in
     ap (λ (j : ℕ). firstBits k (take j (drop (4 + w * i) reg))) e ∙ ap (λ (j : ℕ). num t / 2 ^ (8 * j - k)) n
 
-pub probe-key : (w k : ℕ) (probe : List ℕ) → length probe ≡ w → firstBits k probe ≡ keyOf w k probe
-unfolding keyOf
+pub probe-key : (w k : ℕ) (probe : List ℕ) → length probe ≡ w → firstBits k probe ≡ probeKey w k probe
+unfolding probeKey
 probe-key w k probe e = ap (λ (j : ℕ). num probe / 2 ^ (8 * j - k)) e
 
 -- below, with t 0, or not above, with t 1
@@ -68,4 +68,4 @@ pub before-is : (i hi : ℕ) (a b : Bool) → i < hi → a ≡ b → a ≡ ltb i
 before-is i hi a b h e = rw (lt-ltb i hi h) e
 
 pub stands-in : (w k hi : ℕ) (row a : List ℕ) (i : ℕ) → standsAt w k hi row a i ≡ true → i < hi
-stands-in w k hi row a i e = ltb-true i hi (and-left (ltb i hi) (eqb (keyAt w k a i) (keyOf w k row)) e)
+stands-in w k hi row a i e = ltb-true i hi (and-left (ltb i hi) (eqb (keyAt w k a i) (probeKey w k row)) e)

@@ -11,7 +11,6 @@ pub mod Places
 pub mod Storing
 pub mod Stores
 pub mod Found
-pub mod Every
 pub mod Walks
 pub mod Ascending
 pub mod SoundLaws

@@ -5,13 +5,13 @@ use mathlib.Core.Bool.{true, false}
 use mathlib.Core.List.{List}
 use native.Mathlib.Omega.{arith}
 use lib.ListN.{length}
-use Rattle.rows.specs.Pack.{num, each, Fit}
 use Rattle.model.specs.Map.{has, put}
 use Rattle.model.specs.Flow.{State}
-use Rattle.register.specs.Layout.{Layout}
-use Rattle.register.specs.Bytes.{split, room}
+use Rattle.rows.specs.Packing.{num, each, Fit}
+use Rattle.register.specs.Layout.{Layout, room}
+use Rattle.register.specs.State.{split}
 use Rattle.register.specs.Stored.{Laid, Stored, Group, rowsOf, keyBitsOf, restOf, withRows}
-use Rattle.register.specs.Search.{keyAt, keyOf, Placed}
+use Rattle.register.specs.Search.{keyAt, probeKey, Placed}
 use Rattle.register.specs.Moves.{inserted, withCount}
 use Rattle.register.proofs.States.{room-holds}
 use Rattle.register.proofs.Changes.{countAt, startOf}
@@ -22,12 +22,12 @@ use Rattle.register.proofs.Found.{stands-has}
 module _ (l : Layout) (lay : Laid l) (g : Group) (a : List ℕ) (s : State ℕ ℕ) (h : Stored l a s) (row : List ℕ) (er : length row ≡ l .bytes)
     (f : Fit (each 8 row)) where
   pub put-found : (b : List ℕ) (i : ℕ) →
-      Placed (keyAt (l .bytes) (keyBitsOf g l) a) (keyOf (l .bytes) (keyBitsOf g l) row) (startOf g s) (startOf g s + length (rowsOf g s)) i →
+      Placed (keyAt (l .bytes) (keyBitsOf g l) a) (probeKey (l .bytes) (keyBitsOf g l) row) (startOf g s) (startOf g s + length (rowsOf g s)) i →
       has (num row / 2 ^ restOf g l) (rowsOf g s) ≡ false → length (s .cases) + length (s .events) < room l (length a) → length b ≡ length a →
       b ≡ withCount (countAt g) (startOf g s + length (rowsOf g s) - startOf g s + 1) (inserted (l .bytes) i (length (s .cases) + length (s .events)) row a) →
       Stored l b (withRows g (put (split (restOf g l) (num row)) (rowsOf g s)) s)
   put-found b i pl st few len e =
-      let v : ℕ = keyOf (l .bytes) (keyBitsOf g l) row in
+      let v : ℕ = probeKey (l .bytes) (keyBitsOf g l) row in
       let z = room-holds l (length a) (length (s .cases) + length (s .events) + 1) (h .long) (omega arith) in
       put-done l lay g a s h row er f b true len
       (new i pl

@@ -12,8 +12,8 @@ use Rattle.laws.proofs.Truth.{and-left, and-right}
 use Rattle.model.specs.Map.{Row, Map, Asc}
 use Rattle.model.specs.Flow.{State}
 use Rattle.model.proofs.MapPlace.{AllBelow, all-below, cut-asc}
-use Rattle.register.specs.Layout.{Layout}
-use Rattle.register.specs.Bytes.{from, split, rowIn}
+use Rattle.register.specs.Layout.{Layout, rowIn}
+use Rattle.register.specs.State.{split}
 use Rattle.register.specs.Stored.{Laid, Fits, Stored, Group, cases, events, rowsOf, keyBitsOf, restOf}
 use Rattle.register.specs.Search.{keyAt, Rises, Placed}
 use Rattle.register.proofs.From.{from-at}

@@ -8,23 +8,23 @@ use lib.Arith.{digits-lt}
 use lib.ListN.{length, take, drop, length-append, length-drop}
 use lib.Pow.{split as whole, high, low, pow-add, pow-pos, shr-lt}
 use lib.Seq.{take-at, drop-at, take-add, drop-drop, length-take-le}
-use Rattle.rows.specs.Pack.{num, digits, each, Fit}
-use Rattle.rows.proofs.Bytes.{digits-length, num-digits, digits-num, fit-take, fit-drop, num-lt}
 use Rattle.model.specs.Map.{Row, Map}
-use Rattle.register.specs.Layout.{Layout}
-use Rattle.register.specs.Bytes.{from, rowNumber, split, rowAt, rowIn, rowsBytes}
+use Rattle.rows.specs.Packing.{num, digits, each, Fit}
+use Rattle.rows.proofs.Bytes.{digits-length, num-digits, digits-num, fit-take, fit-drop, num-lt}
+use Rattle.register.specs.Layout.{Layout, rowAt, rowIn}
+use Rattle.register.specs.State.{from, unsplit, split, rowsBytes}
 use Rattle.register.specs.Stored.{Fits}
 
 -- ---- a row as a number
 
 -- a row of k and w bits has k + w
-pub number-lt : (k w b : ℕ) (r : Row ℕ) → k + w ≡ b → r .key < 2 ^ k → r .val < 2 ^ w → rowNumber w r < 2 ^ b
+pub number-lt : (k w b : ℕ) (r : Row ℕ) → k + w ≡ b → r .key < 2 ^ k → r .val < 2 ^ w → unsplit w r < 2 ^ b
 number-lt k w b r e h g = rw (← e, pow-add 2 k w) (digits-lt h g)
 
-pub split-number : (w : ℕ) (r : Row ℕ) → r .val < 2 ^ w → split w (rowNumber w r) ≡ r
+pub split-number : (w : ℕ) (r : Row ℕ) → r .val < 2 ^ w → split w (unsplit w r) ≡ r
 split-number w r h = λ i. record { key = high (r .key) w h i; val = low (r .key) w h i }
 
-pub number-split : (w n : ℕ) → rowNumber w (split w n) ≡ n
+pub number-split : (w n : ℕ) → unsplit w (split w n) ≡ n
 number-split w n = whole n w
 
 pub split-sizes : (k w n : ℕ) → n < 2 ^ (k + w) → (split w n .key < 2 ^ k) × (split w n .val < 2 ^ w)
@@ -52,16 +52,16 @@ module _ (l : Layout) where
   unfolding rowsBytes
   bytes-append w [] b = refl
   bytes-append w (r ∷ a) b =
-      ap (λ (x : List ℕ). digits (l .bytes) (rowNumber w r) ++ x) (bytes-append w a b)
-      ∙ sym (append-assoc (digits (l .bytes) (rowNumber w r)) (rowsBytes l w a) (rowsBytes l w b))
+      ap (λ (x : List ℕ). digits (l .bytes) (unsplit w r) ++ x) (bytes-append w a b)
+      ∙ sym (append-assoc (digits (l .bytes) (unsplit w r)) (rowsBytes l w a) (rowsBytes l w b))
 
   pub bytes-length : (w : ℕ) (m : Map ℕ) → length (rowsBytes l w m) ≡ l .bytes * length m
   unfolding rowsBytes
   bytes-length w [] = sym (mul-zero (l .bytes))
   bytes-length w (r ∷ m) =
-      let a : length (digits (l .bytes) (rowNumber w r)) ≡ l .bytes = digits-length (l .bytes) (rowNumber w r) in
+      let a : length (digits (l .bytes) (unsplit w r)) ≡ l .bytes = digits-length (l .bytes) (unsplit w r) in
       let b : length (rowsBytes l w m) ≡ l .bytes * length m = bytes-length w m in
-      length-append (digits (l .bytes) (rowNumber w r)) (rowsBytes l w m) ∙ omega arith
+      length-append (digits (l .bytes) (unsplit w r)) (rowsBytes l w m) ∙ omega arith
 
   -- the row that follows i rows
   pub row-here : (x z : List ℕ) (i n : ℕ) → length x ≡ rowAt l i → n < 2 ^ (8 * l .bytes) → rowIn l (x ++ (digits (l .bytes) n ++ z)) i ≡ n
@@ -77,14 +77,14 @@ module _ (l : Layout) where
   unfolding from rowsBytes Fits
   rows-back k w b x z i [] e f = refl
   rows-back k w b x z i (r ∷ m) e f =
-      let d : List ℕ = digits (l .bytes) (rowNumber w r) in
-      let ld : length d ≡ l .bytes = digits-length (l .bytes) (rowNumber w r) in
+      let d : List ℕ = digits (l .bytes) (unsplit w r) in
+      let ld : length d ≡ l .bytes = digits-length (l .bytes) (unsplit w r) in
       let g : length (x ++ d) ≡ rowAt l (suc i) = length-append x d ∙ omega arith in
       let p : x ++ ((d ++ rowsBytes l w m) ++ z) ≡ x ++ (d ++ (rowsBytes l w m ++ z)) = ap (λ (y : List ℕ). x ++ y) (append-assoc d (rowsBytes l w m) z) in
       let q : x ++ ((d ++ rowsBytes l w m) ++ z) ≡ (x ++ d) ++ (rowsBytes l w m ++ z) = p ∙ sym (append-assoc x d (rowsBytes l w m ++ z)) in
       ap₂ _∷_
       (ap (λ (y : List ℕ). split w (rowIn l y i)) p
-      ∙ ap (split w) (row-here x (rowsBytes l w m ++ z) i (rowNumber w r) e (number-lt k w (8 * l .bytes) r b (f .0 .0) (f .0 .1)))
+      ∙ ap (split w) (row-here x (rowsBytes l w m ++ z) i (unsplit w r) e (number-lt k w (8 * l .bytes) r b (f .0 .0) (f .0 .1)))
       ∙ split-number w r (f .0 .1))
       (ap (λ (y : List ℕ). from (λ j. split w (rowIn l y j)) (suc i) (length m)) q ∙ rows-back k w b (x ++ d) z (suc i) m g (f .1))
 

@@ -5,7 +5,7 @@ use Prim.Native.Nat.{ℕ, suc, _+_, _-_, _≤_, _<_}
 use native.Mathlib.Nat.{sub-self, add-comm}
 use native.Mathlib.Numerals.{add-one}
 use native.Mathlib.Omega.{arith}
-use lib.ListN.{length, getD, take, drop, set, length-append, length-take, length-drop, List·getD-append, drop-of-length-le}
+use lib.ListN.{length, getD, take, drop, set, length-take, length-drop, List·getD-append, drop-of-length-le}
 use lib.Seq.{take-all, take-suc, drop-cons, append-snoc, set-at, getD-take, getD-drop, length-take-le, take-length, getD-append-add}
 
 -- ---- to the right: from index k on the list is the one w places back
@@ -46,10 +46,6 @@ pub shifted-step : (w : ℕ) (p : List ℕ) (k : ℕ) → w < k → k ≤ length
 shifted-step w p k h l =
     let e : k ≡ suc (k - 1) = omega arith in
     ap (λ (j : ℕ). set (shifted w p j) (k - 1) (getD (shifted w p j) (k - 1 - w) 0)) e ∙ shifted-suc w p (k - 1) (omega arith) (omega arith)
-
-pub length-shifted : (w : ℕ) (p : List ℕ) (k : ℕ) → w ≤ k → k ≤ length p → length (shifted w p k) ≡ length p
-unfolding shifted
-length-shifted w p k h l = simp (length-append, length-take, length-drop) (omega arith)
 
 -- ---- to the left: below index k the list is the one w places on
 unfoldable pub leftward : ℕ → List ℕ → ℕ → List ℕ

@@ -11,16 +11,16 @@ use lib.Seq.{drop-at}
 use borrow.Author.Tests.{leb-true, le-leb}
 use Rattle.laws.specs.Lists.{all}
 use Rattle.laws.proofs.Truth.{and-left, and-right}
-use Rattle.rows.specs.Pack.{each, Fit, digits}
-use Rattle.model.specs.Flow.{State, empty}
-use Rattle.register.specs.Layout.{Layout, siad, caseRest, eventRest}
-use Rattle.register.specs.Bytes.{room, stateOf, rowsBytes, used, encode}
-use Rattle.register.specs.Sound.{ascending, Rules, valid, soundBy, siadRules, isSound}
+use Rattle.laws.proofs.Every.{and-tell}
+use Rattle.model.specs.Flow.{State}
+use Rattle.rows.specs.Packing.{each, Fit, digits}
+use Rattle.register.specs.Layout.{Layout, caseRest, eventRest, room}
+use Rattle.register.specs.State.{stateOf, rowsBytes, used, encode}
+use Rattle.register.specs.Sound.{ascending, Rules, valid, soundBy}
 use Rattle.register.specs.Stored.{Laid, Stored}
-use Rattle.register.proofs.Every.{and-tell}
 use Rattle.register.proofs.Ascending.{asc-told}
 use Rattle.register.proofs.RowBytes.{bytes-length}
-use Rattle.register.proofs.States.{laid-siad, room-holds, state-encode, stored-state, stored-empty}
+use Rattle.register.proofs.States.{room-holds, state-encode, stored-state}
 
 zero-run : (n : ℕ) → all (λ b. eqb b 0) (replicate n 0) ≡ true
 unfolding all
@@ -83,22 +83,3 @@ module _ (l : Layout) (lay : Laid l) (rules : Rules) (reg : List ℕ) where
         stored-state l reg f (room-holds l (length reg) k long few .1) lay long few
         (asc-told (s .cases) (and-left (ascending (s .cases)) _ up), asc-told (s .events) (and-right (ascending (s .cases)) _ up))
         (and-right (valid l rules (length reg) (stateOf l reg)) (all (λ b. eqb b 0) (drop (used l (stateOf l reg)) reg)) rest)
-
--- ---- the home-care register
-
--- sound: some valid state has exactly these bytes
-pub sound-iff : (reg : List ℕ) → Fit (each 8 reg) → isSound reg ≡ true ↔ ((s : State ℕ ℕ) × Stored siad reg s × (valid siad siadRules (length reg) s ≡ true))
-unfolding isSound
-sound-iff reg f = (
-  λ h. (stateOf siad reg, sound-stored siad laid-siad siadRules reg f h, sound-valid siad laid-siad siadRules reg f h),
-  λ v. sound-of siad laid-siad siadRules reg (v .0) (v .1) (v .2),
-)
-
-pub sound-is-stored : (reg : List ℕ) → Fit (each 8 reg) → isSound reg ≡ true → Stored siad reg (stateOf siad reg)
-unfolding isSound
-sound-is-stored reg f h = sound-stored siad laid-siad siadRules reg f h
-
--- "A zero register .. is sound"
-pub zero-sound : (n : ℕ) → 4 ≤ n → isSound (replicate n 0) ≡ true
-unfolding isSound all ascending
-zero-sound n h = sound-of siad laid-siad siadRules (replicate n 0) empty (stored-empty siad n h) (rw (le-leb 0 (room siad (length (replicate {A = ℕ} n 0))) (omega arith)))

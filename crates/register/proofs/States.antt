@@ -3,7 +3,7 @@ use Prim.Native.Nat.{ℕ, suc, _+_, _-_, _*_, _/_, _≤_}
 use mathlib.Core.Path.{_≡_, refl, sym, ap, ap₂, _∙_}
 use mathlib.Core.Bool.{true}
 use mathlib.Core.List.{List, [], _∷_, _++_, append-assoc}
-use native.Mathlib.Nat.{mul-le-mul-left, mul-div-le, min-le-left, min-le-right, le-min, le-div-iff-mul-le}
+use native.Mathlib.Nat.{mul-le-mul-left, mul-div-le, min-le-left, min-le-right}
 use native.Mathlib.Omega.{arith}
 use lib.Dec.{eqb}
 use lib.ListN.{length, take, drop, replicate, length-append, length-drop, length-replicate, take-append-drop}
@@ -11,18 +11,15 @@ use lib.Seq.{drop-drop, length-take-le}
 use borrow.Author.Tests.{eqb-true}
 use Rattle.laws.specs.Lists.{all}
 use Rattle.laws.proofs.Truth.{and-left, and-right}
-use Rattle.rows.specs.Pack.{num, digits, each, Fit}
-use Rattle.rows.proofs.Bytes.{num-digits, digits-num, fit-take, fit-drop}
 use Rattle.model.specs.Map.{Asc}
 use Rattle.model.specs.Flow.{State, Good, empty}
-use Rattle.register.specs.Layout.{Layout, caseRest, eventRest, siad}
-use Rattle.register.specs.Bytes.{from, split, room, casesHeld, eventsHeld, rowAt, rowIn, casesFrom, eventsFrom, stateOf, rowsBytes, used, encode}
+use Rattle.rows.specs.Packing.{num, digits, each, Fit}
+use Rattle.rows.proofs.Bytes.{num-digits, digits-num, fit-take, fit-drop}
+use Rattle.register.specs.Layout.{Layout, caseRest, eventRest, room, casesHeld, eventsHeld, rowAt, rowIn}
+use Rattle.register.specs.State.{split, casesFrom, eventsFrom, stateOf, rowsBytes, used, encode}
 use Rattle.register.specs.Stored.{Laid, Fits, Stored}
 use Rattle.register.proofs.From.{from-length}
 use Rattle.register.proofs.RowBytes.{bytes-length, rows-back, bytes-back, fits-back}
-
-pub laid-siad : Laid siad
-laid-siad = record { some-bytes = omega arith; case-first = omega arith; in-row = omega arith }
 
 pub laid-case : {l : Layout} → Laid l → l .caseKey + caseRest l ≡ 8 * l .bytes
 laid-case {l} h = omega (arith, h .case-first, h .in-row)
@@ -38,9 +35,6 @@ room-holds l n k h g =
     let q = (n - 4) / l .bytes in
     let a : l .bytes * k ≤ l .bytes * q = mul-le-mul-left (l .bytes) (omega (arith, min-le-right 4096 q)) in
     (omega (arith, min-le-left 4096 q), omega (arith, mul-div-le (n - 4) (l .bytes)))
-
-pub holds-room : (l : Layout) (n k : ℕ) → 1 ≤ l .bytes → k ≤ 4096 → rowAt l k ≤ n → k ≤ room l n
-holds-room l n k b h g = le-min h (le-div-iff-mul-le {k = l .bytes} {x = k} {y = n - 4} b .1 (omega arith))
 
 -- ---- from the state to the bytes
 

@@ -7,12 +7,10 @@ use native.Mathlib.Nat.{zero-add, mul-le-mul-left}
 use native.Mathlib.Omega.{arith}
 use lib.Dec.{leb}
 use lib.ListN.{length}
-use borrow.Author.Tests.{leb-true, le-leb, le-ltb}
+use borrow.Author.Tests.{leb-true, le-leb}
 use Rattle.laws.proofs.Truth.{and-left, and-right}
-use Rattle.model.specs.Flow.{State, empty}
-use Rattle.register.specs.Layout.{Layout}
-use Rattle.register.specs.Bytes.{casesHeld, eventsHeld}
-use Rattle.register.specs.Calls.{emptied}
+use Rattle.model.specs.Flow.{State}
+use Rattle.register.specs.Layout.{Layout, casesHeld, eventsHeld}
 use Rattle.register.specs.Stored.{Laid, Stored, Group, cases, events, rowsOf}
 use Rattle.register.specs.Storing.{Dropped}
 use Rattle.register.specs.OnBytes.{DropDone}
@@ -20,7 +18,7 @@ use Rattle.register.specs.OnBytes.DropDone.{misfit, absent, gone}
 use Rattle.register.specs.View.{groupOf, rowsBy}
 use Rattle.register.specs.declared.store.Part.{Part}
 use Rattle.register.specs.declared.store.Rows.{Rows}
-use Rattle.register.proofs.States.{cases-held, events-held, stored-empty}
+use Rattle.register.proofs.States.{cases-held, events-held}
 use Rattle.register.proofs.Changes.{countAt, startOf}
 use Rattle.register.proofs.Storing.{drop-done, key-number}
 
@@ -76,8 +74,3 @@ module _ (g : Group) (a : List ℕ) (x : Rows) (hx : 4 ≤ length a → x ≡ ro
         refuses (misfit x q r) z = r
         refuses (absent i p t q r) z = r
         refuses (gone i p t q r) z = absurd (true≢false (sym q ∙ z))
-
--- an emptied register holds nothing
-pub stored-emptied : (l : Layout) (reg : List ℕ) → 4 ≤ length reg → Stored l (emptied reg .register) empty
-unfolding emptied
-stored-emptied l reg h = simp (le-ltb (length reg) 4 h) (stored-empty l (length reg) h)

@@ -7,16 +7,16 @@ use mathlib.Core.Option.{none}
 use native.Mathlib.Omega.{arith}
 use lib.Dec.{eqb}
 use lib.ListN.{length, length-append}
-use Rattle.rows.specs.Pack.{num, digits, each, Fit}
-use Rattle.rows.proofs.Bytes.{digits-num, num-lt}
 use Rattle.model.specs.Map.{Row, Map, Asc, isSome, find, has, put, del}
 use Rattle.model.specs.Flow.{State}
 use Rattle.model.proofs.MapLaws.{asc-put, asc-keep, keep-all}
 use Rattle.model.proofs.MapPlace.{AllBelow, put-in, put-over, find-out, del-out}
-use Rattle.register.specs.Layout.{Layout}
-use Rattle.register.specs.Bytes.{rowNumber, split, room, rowAt, encode}
+use Rattle.rows.specs.Packing.{num, digits, each, Fit}
+use Rattle.rows.proofs.Bytes.{digits-num, num-lt}
+use Rattle.register.specs.Layout.{Layout, room, rowAt}
+use Rattle.register.specs.State.{unsplit, split, encode}
 use Rattle.register.specs.Stored.{Laid, Fits, Stored, Group, cases, events, rowsOf, keyBitsOf, restOf, withRows}
-use Rattle.register.specs.Search.{keyOf}
+use Rattle.register.specs.Search.{probeKey}
 use Rattle.register.specs.Moves.{inserted, replaced, removed, withCount}
 use Rattle.register.specs.OnBytes.{standsAt, PlacedAt, DropDone}
 use Rattle.register.specs.OnBytes.DropDone.{misfit, absent, gone}
@@ -50,14 +50,14 @@ group-bits : (g : Group) {l : Layout} → Laid l → keyBitsOf g l + restOf g l 
 group-bits cases lay = laid-case lay
 group-bits events lay = laid-event lay
 
-pub key-number : (g : Group) (l : Layout) (row : List ℕ) → keyOf (l .bytes) (keyBitsOf g l) row ≡ num row / 2 ^ restOf g l
-unfolding keyOf
+pub key-number : (g : Group) (l : Layout) (row : List ℕ) → probeKey (l .bytes) (keyBitsOf g l) row ≡ num row / 2 ^ restOf g l
+unfolding probeKey
 key-number cases l row = refl
 key-number events l row = refl
 
 module _ (l : Layout) (g : Group) (row : List ℕ) (e : length row ≡ l .bytes) (f : Fit (each 8 row)) where
   -- a row's bytes, from its key and the rest
-  row-bytes : digits (l .bytes) (rowNumber (restOf g l) (split (restOf g l) (num row))) ≡ row
+  row-bytes : digits (l .bytes) (unsplit (restOf g l) (split (restOf g l) (num row))) ≡ row
   row-bytes =
       ap (digits (l .bytes)) (number-split (restOf g l) (num row)) ∙ ap (λ (k : ℕ). digits k (num row)) (sym e) ∙ digits-num row f
 
@@ -121,7 +121,7 @@ module _ (l : Layout) (lay : Laid l) (g : Group) (a : List ℕ) (s : State ℕ �
   -- ---- a row put in
   module _ (row : List ℕ) (er : length row ≡ l .bytes) (f : Fit (each 8 row)) where
     abbrev v : ℕ
-    v = keyOf (l .bytes) (keyBitsOf g l) row
+    v = probeKey (l .bytes) (keyBitsOf g l) row
 
     abbrev r : Row ℕ
     r = split (restOf g l) (num row)
@@ -192,7 +192,7 @@ module _ (l : Layout) (lay : Laid l) (g : Group) (a : List ℕ) (s : State ℕ �
   -- ---- a row taken out
   module _ (probe : List ℕ) where
     abbrev u : ℕ
-    u = keyOf (l .bytes) (keyBitsOf g l) probe
+    u = probeKey (l .bytes) (keyBitsOf g l) probe
 
     drop-gone : (b : List ℕ) (i : ℕ) → startOf g s ≤ i → Within m u (i - startOf g s) → length b ≡ length a →
         b ≡ withCount (countAt g) (end - startOf g s - 1) (removed (l .bytes) i n a) → Stored l b (withRows g (del u m) s)

@@ -12,22 +12,13 @@ use borrow.Author.Tests.{ltb-true, lt-ltb}
 use Rattle.laws.specs.Lists.{all}
 use Rattle.laws.proofs.Order.{Tri, below, equal, above, tri}
 use Rattle.laws.proofs.Truth.{and-left, and-right}
-use Rattle.rows.specs.Pack.{num}
+use Rattle.laws.proofs.Every.{Every, every-map, all-told, all-tell, same-truth, and-tell}
 use Rattle.model.specs.Map.{Row, Map}
-use Rattle.register.specs.Layout.{Layout, siad}
-use Rattle.register.specs.Bytes.{from, split, rowAt, rowIn}
-use Rattle.register.specs.Search.{keyAt, keyOf}
+use Rattle.rows.specs.Packing.{num}
+use Rattle.register.specs.Layout.{Layout, rowIn}
+use Rattle.register.specs.State.{from, split}
+use Rattle.register.specs.Search.{keyAt, probeKey}
 use Rattle.register.specs.Sound.{ascending}
-use Rattle.register.proofs.Every.{Every, every-map, all-told, all-tell, same-truth, and-tell}
-
--- ---- rows at places
-
-pub row-is : (reg : List ℕ) (i : ℕ) → rowAt siad (i + 1) ≤ length reg →
-    (num (take (4 + 91 * i + 91 - (4 + 91 * i)) (drop (4 + 91 * i) reg)) ≡ rowIn siad reg i) × (length (take (4 + 91 * i + 91 - (4 + 91 * i)) (drop (4 + 91 * i) reg)) ≡ 91)
-unfolding rowIn
-row-is reg i h =
-    let e : 4 + 91 * i + 91 - (4 + 91 * i) ≡ 91 = omega arith in
-    (ap (λ (k : ℕ). num (take k (drop (4 + 91 * i) reg))) e, ap (λ (k : ℕ). length (take k (drop (4 + 91 * i) reg))) e ∙ length-take-le 91 (drop (4 + 91 * i) reg) (rw length-drop (omega arith)))
 
 module _ {A : Type 0} (f : ℕ → A) where
   pub from-next : (i hi : ℕ) → i < hi → from f i (hi - i) ≡ f i ∷ from f (i + 1) (hi - (i + 1))
@@ -84,8 +75,8 @@ module _ (l : Layout) (w kbits : ℕ) (reg : List ℕ) (e : l .bytes ≡ w) wher
   unfolding keyAt rowIn
   key-here k = ap (λ (v : ℕ). num (take v (drop (4 + v * k) reg)) / 2 ^ (8 * w - kbits)) (sym e)
 
-  pub key-there : (k start : ℕ) → start ≡ 4 + w * k → keyOf w kbits (take (start + w - start) (drop start reg)) ≡ rows k .key
-  unfolding keyOf keyAt
+  pub key-there : (k start : ℕ) → start ≡ 4 + w * k → probeKey w kbits (take (start + w - start) (drop start reg)) ≡ rows k .key
+  unfolding probeKey keyAt
   key-there k start h =
       let q : start + w - start ≡ w = omega arith in
       ap (λ (v : ℕ). num (take v (drop start reg)) / 2 ^ (8 * w - kbits)) q ∙ ap (λ (v : ℕ). num (take w (drop v reg)) / 2 ^ (8 * w - kbits)) h ∙ key-here k
@@ -98,17 +89,17 @@ module _ (l : Layout) (w kbits : ℕ) (reg : List ℕ) (e : l .bytes ≡ w) wher
         ∙ climb (rows k) (rows (k + 1)) (from rows (k + 1 + 1) (hi - (k + 1 + 1)))
         ∙ ap (λ (m : Map ℕ). ltb (rows k .key) (rows (k + 1) .key) && ascending m) (sym n)
 
-    told : good ≡ ltb (keyAt w kbits reg k) (keyOf w kbits (take (4 + w * (k + 1) + w - (4 + w * (k + 1))) (drop (4 + w * (k + 1)) reg)) + 0) →
+    told : good ≡ ltb (keyAt w kbits reg k) (probeKey w kbits (take (4 + w * (k + 1) + w - (4 + w * (k + 1))) (drop (4 + w * (k + 1)) reg)) + 0) →
         good ≡ ltb (rows k .key) (rows (k + 1) .key)
     told g =
         let z : rows (k + 1) .key + 0 ≡ rows (k + 1) .key = omega arith in
         g ∙ ap₂ (λ (a b : ℕ). ltb a (b + 0)) (key-here k) (key-there (k + 1) (4 + w * (k + 1)) refl) ∙ ap (ltb (rows k .key)) z
 
-    pub climb-on : k + 1 < hi → good ≡ ltb (keyAt w kbits reg k) (keyOf w kbits (take (4 + w * (k + 1) + w - (4 + w * (k + 1))) (drop (4 + w * (k + 1)) reg)) + 0) →
+    pub climb-on : k + 1 < hi → good ≡ ltb (keyAt w kbits reg k) (probeKey w kbits (take (4 + w * (k + 1) + w - (4 + w * (k + 1))) (drop (4 + w * (k + 1)) reg)) + 0) →
         good ≡ true → target ≡ ascending (from rows (k + 1) (hi - (k + 1)))
     climb-on h g t = two h ∙ rw (sym (told g) ∙ t)
 
-    pub climb-not : k + 1 < hi → good ≡ ltb (keyAt w kbits reg k) (keyOf w kbits (take (4 + w * (k + 1) + w - (4 + w * (k + 1))) (drop (4 + w * (k + 1)) reg)) + 0) →
+    pub climb-not : k + 1 < hi → good ≡ ltb (keyAt w kbits reg k) (probeKey w kbits (take (4 + w * (k + 1) + w - (4 + w * (k + 1))) (drop (4 + w * (k + 1)) reg)) + 0) →
         good ≡ false → false ≡ target
     climb-not h g t = sym (two h ∙ rw (sym (told g) ∙ t))
 

@@ -3,7 +3,7 @@ use Prim.Native.Nat.{ℕ, _+_, _-_, _*_}
 use mathlib.Core.Path.{_≡_}
 use mathlib.Core.List.{List, _++_}
 use lib.ListN.{length, take, drop}
-use Rattle.rows.specs.Pack.{num, fieldAt}
+use Rattle.rows.specs.Packing.{num, fieldAt}
 
 -- b is a, whose n rows have w bytes, with a gap of j rows in front of row i: as many bytes behind the rows are gone
 pub record Gap (w i j n : ℕ) (a b : List ℕ) : Type 0 where

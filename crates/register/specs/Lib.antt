@@ -1,10 +1,5 @@
 pub mod Layout
-pub mod Bytes
-pub mod Fields
-pub mod Events
-pub mod Allowed
 pub mod Sound
-pub mod Calls
 pub mod Stored
 pub mod Moves
 pub mod Search
@@ -12,3 +7,4 @@ pub mod OnBytes
 pub mod Storing
 pub mod View
 pub mod Gap
+pub mod State

@@ -2,7 +2,7 @@
 use Prim.Native.Nat.{ℕ, _+_, _-_, _*_}
 use mathlib.Core.List.{List, _++_}
 use lib.ListN.{length, take, drop, replicate}
-use Rattle.rows.specs.Pack.{digits}
+use Rattle.rows.specs.Packing.{digits}
 
 -- f done to the part of k bytes that starts at `from`; every other byte stays
 unfoldable pub onPart : (List ℕ → List ℕ) → ℕ → ℕ → List ℕ → List ℕ

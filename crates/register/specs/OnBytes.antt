@@ -6,15 +6,15 @@ use mathlib.Core.List.{List}
 use lib.Dec.{eqb, ltb}
 use lib.ListN.{length}
 use Rattle.register.specs.Moves.{removed, withCount}
-use Rattle.register.specs.Search.{keyAt, keyOf, Placed}
+use Rattle.register.specs.Search.{keyAt, probeKey, Placed}
 
 -- row i is of the group and has the row's key
 abbrev pub standsAt : ℕ → ℕ → ℕ → List ℕ → List ℕ → ℕ → Bool
-standsAt w k hi row a i = ltb i hi && eqb (keyAt w k a i) (keyOf w k row)
+standsAt w k hi row a i = ltb i hi && eqb (keyAt w k a i) (probeKey w k row)
 
 -- i is the row's place in the group
 abbrev pub PlacedAt : ℕ → ℕ → ℕ → ℕ → List ℕ → List ℕ → ℕ → Type 0
-PlacedAt w k lo hi row a i = Placed (keyAt w k a) (keyOf w k row) lo hi i
+PlacedAt w k lo hi row a i = Placed (keyAt w k a) (probeKey w k row) lo hi i
 
 -- the counts claim too much; no row has the key; the row is taken out
 pub data DropDone (w k at lo hi n : ℕ) (probe a b : List ℕ) (r : Bool) : Type 0 where

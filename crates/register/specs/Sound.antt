@@ -7,11 +7,8 @@ use lib.ListN.{length, drop}
 use Rattle.laws.specs.Lists.{all}
 use Rattle.model.specs.Map.{Row, Map, has, keep}
 use Rattle.model.specs.Flow.{State}
-use Rattle.register.specs.Layout.{Layout, siad, caseOf}
-use Rattle.register.specs.Bytes.{room, stateOf, used}
-use Rattle.register.specs.Fields.{takenIn, eventIn}
-use Rattle.register.specs.Events.{t23, t25, t26, t27, t28}
-use Rattle.register.specs.Allowed.{caseRowAllowed, eventRowAllowed}
+use Rattle.register.specs.Layout.{Layout, caseNamed, room}
+use Rattle.register.specs.State.{stateOf, used}
 
 -- what a flow allows: a case's row, an event's row, and of a case's key the events together
 pub record Rules : Type 0 where
@@ -26,7 +23,7 @@ ascending (r ∷ m) = all (λ s. ltb (r .key) (s .key)) m && ascending m
 
 module _ (l : Layout) where
   abbrev pub eventsOf : ℕ → Map ℕ → Map ℕ
-  eventsOf c m = keep (λ k. eqb (caseOf l k) c) m
+  eventsOf c m = keep (λ k. eqb (caseNamed l k) c) m
 
   -- what stands is valid in a register of n bytes
   abbrev pub valid : Rules → ℕ → State ℕ ℕ → Bool
@@ -34,25 +31,10 @@ module _ (l : Layout) where
       leb (length (s .cases) + length (s .events)) (room l n)
       && ((all (rules .case-row) (s .cases) && all (rules .event-row) (s .events))
       && ((ascending (s .cases) && ascending (s .events))
-      && (all (λ e. has (caseOf l (e .key)) (s .cases)) (s .events)
+      && (all (λ e. has (caseNamed l (e .key)) (s .cases)) (s .events)
       && all (λ c. rules .together (c .key) (eventsOf (c .key) (s .events))) (s .cases))))
 
   -- a register's bytes are sound: "length at least 4, .., zero tail"
   abbrev pub soundBy : Rules → List ℕ → Bool
   soundBy rules reg =
       leb 4 (length reg) && (valid rules (length reg) (stateOf l reg) && all (λ b. eqb b 0) (drop (used l (stateOf l reg)) reg))
-
--- "each case's events free of 25 to 28 and 23"
-abbrev pub eventsFree : ℕ → List ℕ → Bool
-eventsFree taken es = not (t23 es || (t25 taken es || (t26 es || (t27 es || t28 es))))
-
-abbrev pub siadRules : Rules
-siadRules =
-    record {
-      case-row = caseRowAllowed;
-      event-row = eventRowAllowed;
-      together = λ c m. eventsFree (takenIn c) (map eventIn m);
-    }
-
-unfoldable pub isSound : List ℕ → Bool
-isSound reg = soundBy siad siadRules reg

@@ -5,8 +5,8 @@ use mathlib.Core.List.{List, [], _∷_}
 use lib.ListN.{length}
 use Rattle.model.specs.Map.{Map}
 use Rattle.model.specs.Flow.{State, Good}
-use Rattle.register.specs.Layout.{Layout, caseRest, eventRest}
-use Rattle.register.specs.Bytes.{room, encode}
+use Rattle.register.specs.Layout.{Layout, caseRest, eventRest, room}
+use Rattle.register.specs.State.{encode}
 
 -- a row has bytes, and both keys lie in it, the case's at the front of the event's
 pub record Laid (l : Layout) : Type 0 where

@@ -4,9 +4,9 @@ use mathlib.Core.Path.{_≡_}
 use mathlib.Core.Bool.{Bool, true, false}
 use mathlib.Core.List.{List}
 use lib.ListN.{length}
-use Rattle.rows.specs.Pack.{num}
 use Rattle.model.specs.Map.{del}
 use Rattle.model.specs.Flow.{State}
+use Rattle.rows.specs.Packing.{num}
 use Rattle.register.specs.Layout.{Layout}
 use Rattle.register.specs.Stored.{Laid, Stored, Group, rowsOf, keyBitsOf, restOf, withRows}
 

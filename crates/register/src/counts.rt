@@ -2,7 +2,7 @@
 ghost use mathlib.Core.Path.{_≡_};
 ghost use Prim.Native.Nat.{_+_, _≤_, _<_};
 ghost use lib.ListN.{length, take, drop};
-ghost use Rattle.rows.specs.Pack.{num};
+ghost use Rattle.rows.specs.Packing.{num};
 ghost use Rattle.register.specs.Moves.{withCount};
 
 fn wide(x: u8) -> usize

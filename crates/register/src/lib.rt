@@ -1,6 +1,5 @@
 // The register (document 01, "The register").
 pub mod counts;
-pub mod layout;
 pub mod moving;
 pub mod search;
 pub mod store;

@@ -6,7 +6,7 @@ ghost use lib.Dec.{ltb, eqb};
 ghost use lib.ListN.{length};
 ghost use Rattle.rows.specs.Ordering.{orderOf};
 ghost use Rattle.register.specs.Gap.{fieldIn};
-ghost use Rattle.register.specs.Search.{keyAt, keyOf, Placed, Ranged};
+ghost use Rattle.register.specs.Search.{keyAt, probeKey, Placed, Ranged};
 use rows::reader::Order;
 use rows::reader::compare;
 use rows::reader::get;
@@ -14,7 +14,7 @@ use rows::reader::get;
 // How the key of row i stands to the probe's.
 pub fn compare_row(reg: &[u8], w: usize, i: usize, probe: &[u8], kbits: usize) -> Order
     requires { ⌜ (4 + w * (i + 1) ≤ length (now reg)) × (length (now probe) ≡ w) × (kbits ≤ 8 * w) ⌝ }
-    ensures { λ r. ⌜ r ≡ orderOf (keyAt w kbits (now (reg .entry)) i) (keyOf w kbits (now (probe .entry))) ⌝ }
+    ensures { λ r. ⌜ r ≡ orderOf (keyAt w kbits (now (reg .entry)) i) (probeKey w kbits (now (probe .entry))) ⌝ }
 {
     let from = 4 + w * i;
     let to = from + w;
@@ -24,7 +24,7 @@ pub fn compare_row(reg: &[u8], w: usize, i: usize, probe: &[u8], kbits: usize) -
 // Whether the key of row i is below the probe's, or, with t 1, not above it.
 pub fn below(reg: &[u8], w: usize, i: usize, probe: &[u8], kbits: usize, t: usize) -> bool
     requires { ⌜ (4 + w * (i + 1) ≤ length (now reg)) × (length (now probe) ≡ w) × (kbits ≤ 8 * w) × (t ≤ 1) ⌝ }
-    ensures { λ r. ⌜ r ≡ ltb (keyAt w kbits (now (reg .entry)) i) (keyOf w kbits (now (probe .entry)) + t) ⌝ }
+    ensures { λ r. ⌜ r ≡ ltb (keyAt w kbits (now (reg .entry)) i) (probeKey w kbits (now (probe .entry)) + t) ⌝ }
 {
     let o = compare_row(reg, w, i, probe, kbits);
     match o {
@@ -45,7 +45,7 @@ pub fn place(
     t: usize,
 ) -> usize
     requires { ⌜ (lo ≤ hi) × (4 + w * hi ≤ length (now reg)) × (length (now probe) ≡ w) × (kbits ≤ 8 * w) × (t ≤ 1) ⌝ }
-    ensures { λ r. ⌜ Placed (keyAt w kbits (now (reg .entry))) (keyOf w kbits (now (probe .entry)) + t) lo hi r ⌝ }
+    ensures { λ r. ⌜ Placed (keyAt w kbits (now (reg .entry))) (probeKey w kbits (now (probe .entry)) + t) lo hi r ⌝ }
 {
     let mut a = lo;
     let mut e = hi;
@@ -63,7 +63,7 @@ pub fn place(
 // Whether row i, which is at most hi, has the probe's key.
 pub fn stands(reg: &[u8], w: usize, i: usize, hi: usize, probe: &[u8], kbits: usize) -> bool
     requires { ⌜ (4 + w * hi ≤ length (now reg)) × (length (now probe) ≡ w) × (kbits ≤ 8 * w) ⌝ }
-    ensures { λ r. ⌜ r ≡ ltb i hi && eqb (keyAt w kbits (now (reg .entry)) i) (keyOf w kbits (now (probe .entry))) ⌝ }
+    ensures { λ r. ⌜ r ≡ ltb i hi && eqb (keyAt w kbits (now (reg .entry)) i) (probeKey w kbits (now (probe .entry))) ⌝ }
 {
     if hi <= i {
         return false;
@@ -85,7 +85,7 @@ pub struct Span {
 // The rows with the probe's key among the rows from lo up to hi: with a case's key, its events.
 pub fn case_range(reg: &[u8], w: usize, lo: usize, hi: usize, probe: &[u8], kbits: usize) -> Span
     requires { ⌜ (lo ≤ hi) × (4 + w * hi ≤ length (now reg)) × (length (now probe) ≡ w) × (kbits ≤ 8 * w) ⌝ }
-    ensures { λ r. ⌜ Ranged (keyAt w kbits (now (reg .entry))) (keyOf w kbits (now (probe .entry))) lo hi (r .lo) (r .hi) ⌝ }
+    ensures { λ r. ⌜ Ranged (keyAt w kbits (now (reg .entry))) (probeKey w kbits (now (probe .entry))) lo hi (r .lo) (r .hi) ⌝ }
 {
     let a = place(reg, w, lo, hi, probe, kbits, 0);
     // None has the key: one comparison tells, in place of a second search.

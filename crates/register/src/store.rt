@@ -4,18 +4,20 @@ ghost use mathlib.Core.Bool.{_&&_};
 ghost use Prim.Native.Nat.{_+_, _*_, _≤_, _<_};
 ghost use lib.Dec.{leb};
 ghost use lib.ListN.{length};
-ghost use Rattle.register.specs.Bytes.{casesHeld, eventsHeld};
-ghost use Rattle.register.specs.Calls.{emptied};
+ghost use Rattle.register.specs.Layout.{casesHeld, eventsHeld};
+ghost use Rattle.register.specs.State.{emptied};
 ghost use Rattle.register.specs.OnBytes.{DropDone};
 ghost use Rattle.register.specs.Storing.{Dropped};
 ghost use Rattle.register.specs.View.{groupOf, rowsBy, InOrder};
 use crate::counts::count;
 use crate::counts::set_count;
-use crate::layout::MOST;
 use crate::moving::clear;
 use crate::moving::remove_row;
 use crate::search::place;
 use crate::search::stands;
+
+// No register has more rows.
+pub const MOST: usize = 4096;
 
 // "All cases, then all events": the two groups of rows.
 pub enum Part {

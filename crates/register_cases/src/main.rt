@@ -1,11 +1,11 @@
 // Reads each register image that its arguments name, and prints whether it is sound and where a case stands; then fills and clears a register of its own.
 // The images were packed by another tool (docs/REGISTER.md).
 ghost use Prim.Native.Nat.{_≤_};
+use home_care::layout::CASE_KEY;
+use home_care::layout::EVENT_KEY;
+use home_care::layout::ROW;
 use libc::STDOUT_FILENO;
 use markup::bytes::part;
-use register::layout::CASE_KEY;
-use register::layout::EVENT_KEY;
-use register::layout::ROW;
 use register::store::Part;
 
 fn word(s: &[u8]) {
@@ -116,7 +116,7 @@ fn clear(reg: &mut [u8], case: &[u8], event: &[u8]) {
     yes(b"drop_event", remove(reg, Part::Events, EVENT_KEY, event));
     yes(b"drop_case", remove(reg, Part::Cases, CASE_KEY, case));
     sound(reg);
-    yes(b"zero", soundness::texts::all_zero(reg));
+    yes(b"zero", home_care::texts::all_zero(reg));
 }
 
 // Room for three rows.

@@ -8,7 +8,7 @@ use native.Mathlib.Omega.{arith}
 use lib.ListN.{length, replicate, take, drop, getD, take-append-drop, length-drop}
 use lib.Pow.{shr-mono, shr-shr, pow-pos}
 use lib.Seq.{take-suc, take-take, length-take-le}
-use Rattle.rows.specs.Pack.{Field, bits, each, packs, width, Fit, num, fieldAt, digits, unpacks, values, widths, total, fields, firstBits}
+use Rattle.rows.specs.Packing.{Field, bits, each, packs, width, Fit, num, fieldAt, digits, unpacks, values, widths, total, fields, firstBits}
 use Rattle.rows.proofs.Packing.{packs-append, packs-lt, packs-high, unpacks-packs, packs-unpacks}
 
 pub each-append : (w : ℕ) (cs bs : List ℕ) → each w (cs ++ bs) ≡ each w cs ++ each w bs
@@ -79,9 +79,6 @@ run-total w (suc k) = ap (λ (z : ℕ). w + z) (run-total w k) ∙ add-comm w (w
 pub digits-num : (bs : List ℕ) → Fit (each 8 bs) → digits (length bs) (num bs) ≡ bs
 digits-num bs h =
     ap (λ (ws : List ℕ). unpacks ws (num bs)) (sym (each-widths 8 bs)) ∙ unpacks-packs (each 8 bs) 0 h ∙ each-values 8 bs
-
-pub num-injective : (cs bs : List ℕ) → length cs ≡ length bs → Fit (each 8 cs) → Fit (each 8 bs) → num cs ≡ num bs → cs ≡ bs
-num-injective cs bs e h k q = sym (digits-num cs h) ∙ ap₂ digits e q ∙ digits-num bs k
 
 -- bytes whose number is n are the bytes of n
 pub bytes-are : (bs : List ℕ) (k n : ℕ) → Fit (each 8 bs) → length bs ≡ k → num bs ≡ n → bs ≡ digits k n

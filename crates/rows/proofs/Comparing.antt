@@ -6,7 +6,7 @@ use native.Mathlib.Nat.{mod-lt}
 use native.Mathlib.Omega.{arith}
 use lib.ListN.{length, take}
 use lib.Pow.{pow-pos}
-use Rattle.rows.specs.Pack.{num, each, Fit, fieldAt, firstBits}
+use Rattle.rows.specs.Packing.{num, each, Fit, fieldAt, firstBits}
 use Rattle.rows.specs.Ordering.{orderOf}
 use Rattle.rows.specs.declared.reader.Order.{Order}
 use Rattle.rows.proofs.Bytes.{first-split}

@@ -5,8 +5,7 @@ use mathlib.Core.List.{List, [], _∷_, _++_}
 use native.Mathlib.Nat.{mod-eq-of-lt, mod-one, mul-one, add-zero, zero-add, zero-mul, add-mul, mul-assoc, add-assoc, add-comm}
 use lib.ListN.{replicate}
 use lib.Pow.{pow-add, mod-pow-add, shr-shr, shl-shr}
-use Rattle.rows.specs.Pack.{Field, bits, each, packs, width, Fit, fieldAt, total}
-use Rattle.rows.specs.Back.{run}
+use Rattle.rows.specs.Packing.{Field, each, packs, width, Fit, fieldAt, total, eachAt}
 use Rattle.rows.proofs.Packing.{packs-cons, width-append, field-back}
 use Rattle.rows.proofs.Bytes.{each-width, run-length, run-total}
 
@@ -26,11 +25,11 @@ pub field-up : (below p w n : ℕ) → fieldAt below w (n / 2 ^ p) ≡ fieldAt (
 field-up below p w n = ap (λ (z : ℕ). z % 2 ^ w) (shr-shr n p below ∙ ap (λ (z : ℕ). n / 2 ^ z) (add-comm p below))
 
 -- a run reads as it was read
-pub reads-run : (p k w n : ℕ) → Reads p (each w (run p k w n)) n
+pub reads-run : (p k w n : ℕ) → Reads p (each w (eachAt p k w n)) n
 reads-run p zero w n = tt
 reads-run p (suc k) w n =
-    let e : width (each w (run p k w n)) ≡ total (replicate k w) =
-    each-width w (run p k w n) ∙ ap (λ (z : ℕ). w * z) (run-length w k (n / 2 ^ p)) ∙ sym (run-total w k) in
+    let e : width (each w (eachAt p k w n)) ≡ total (replicate k w) =
+    each-width w (eachAt p k w n) ∙ ap (λ (z : ℕ). w * z) (run-length w k (n / 2 ^ p)) ∙ sym (run-total w k) in
     (ap (λ (z : ℕ). fieldAt (z + p) w n) e ∙ sym (field-up (total (replicate k w)) p w n), reads-run p k w n)
 
 -- fields that read so, above zero bits, are the number

@@ -2,9 +2,9 @@ pub mod Packing
 pub mod Bytes
 pub mod Fields
 pub mod Rows
-pub mod Table
 pub mod Ordering
 pub mod Steps
 pub mod Writing
 pub mod Reading
 pub mod Comparing
+pub mod Runs

@@ -5,7 +5,7 @@ use mathlib.Core.List.{List, [], _∷_, _++_}
 use native.Mathlib.Nat.{mod-one, add-zero, zero-add, zero-mul, mul-one, add-mul, mul-assoc, add-assoc, mul-add-div-right, mul-add-mod-self-right}
 use lib.Arith.{digits-lt}
 use lib.Pow.{pow-add, mod-pow-add, pow-pos, high, low}
-use Rattle.rows.specs.Pack.{Field, bits, packs, width, Fit, fieldAt, unpacks, values, widths, total, fields}
+use Rattle.rows.specs.Packing.{Field, bits, packs, width, Fit, fieldAt, unpacks, values, widths, total, fields}
 
 pub packs-append : (xs ys : List Field) (n : ℕ) → packs (xs ++ ys) n ≡ packs ys (packs xs n)
 unfolding packs
@@ -49,11 +49,6 @@ packs-cons x xs =
     packs-shift xs (0 * 2 ^ x .wide + x .value)
     ∙ ap (λ (z : ℕ). z * 2 ^ width xs + packs xs 0) (ap (λ (z : ℕ). z + x .value) (zero-mul (2 ^ x .wide)) ∙ zero-add (x .value))
 
--- a list of fields packs as one field of its width
-pub packs-one : (xs : List Field) (n : ℕ) → packs xs n ≡ packs (bits (width xs) (packs xs 0) ∷ []) n
-unfolding packs
-packs-one xs n = packs-shift xs n
-
 pub packs-lt : (xs : List Field) → Fit xs → packs xs 0 < 2 ^ width xs
 unfolding packs
 packs-lt [] h = pow-pos 0
@@ -63,9 +58,6 @@ packs-lt (x ∷ xs) h =
 -- above the fields stands what was there; below it, the fields
 pub packs-high : (xs : List Field) (n : ℕ) → Fit xs → packs xs n / 2 ^ width xs ≡ n
 packs-high xs n h = rw (packs-shift xs n) (high n (width xs) (packs-lt xs h))
-
-pub packs-low : (xs : List Field) (n : ℕ) → Fit xs → packs xs n % 2 ^ width xs ≡ packs xs 0
-packs-low xs n h = rw (packs-shift xs n) (low n (width xs) (packs-lt xs h))
 
 -- a field is read back, whatever stands above it
 pub field-back : (f : Field) (ys : List Field) (n : ℕ) → f .value < 2 ^ f .wide → Fit ys → fieldAt (width ys) (f .wide) (packs (f ∷ ys) n) ≡ f .value

@@ -6,7 +6,7 @@ use native.Mathlib.Nat.{mod-lt}
 use native.Mathlib.Omega.{arith}
 use lib.ListN.{length, take}
 use lib.Pow.{shr-shr, pow-pos}
-use Rattle.rows.specs.Pack.{num, each, Fit, fieldAt, Held}
+use Rattle.rows.specs.Packing.{num, each, Fit, fieldAt, HeldAt}
 use Rattle.rows.proofs.Packing.{window}
 use Rattle.rows.proofs.Bytes.{prefix}
 
@@ -24,7 +24,7 @@ read-window row first end x w below r f h k e =
 -- what `get` computes: the field begins in byte at / 8, and read = at % 8 + w bits are read to its end
 pub got : (row : List ℕ) (at w r : ℕ) → Fit (each 8 row) → at + w ≤ 8 * length row
     → num (take (at / 8 + (at % 8 + w + 7) / 8) row) ≡ num (take (at / 8) row) * 2 ^ (8 * (at / 8 + (at % 8 + w + 7) / 8 - at / 8)) + r
-    → Held row at w (r / 2 ^ (8 * ((at % 8 + w + 7) / 8) - (at % 8 + w)) % 2 ^ w)
+    → HeldAt row at w (r / 2 ^ (8 * ((at % 8 + w + 7) / 8) - (at % 8 + w)) % 2 ^ w)
 got row at w r f h e =
     let first = at / 8 in
     let end = at / 8 + (at % 8 + w + 7) / 8 in

@@ -9,7 +9,7 @@ use lib.Arith.{digits-lt}
 use lib.ListN.{length, take, set}
 use lib.Pow.{pow-add, pow-mono, shl-exact, split}
 use lib.Seq.{take-suc-set}
-use Rattle.rows.specs.Pack.{num}
+use Rattle.rows.specs.Packing.{num}
 use Rattle.rows.proofs.Packing.{regroup}
 use Rattle.rows.proofs.Bytes.{num-snoc}
 

@@ -1,5 +1,3 @@
-pub mod Back
 pub mod Ordering
-pub mod Pack
-pub mod Row
 pub mod Writer
+pub mod Packing

@@ -3,7 +3,7 @@ use Prim.Native.Nat.{ℕ, _+_, _*_, _^_, _<_}
 use mathlib.Core.Path.{_≡_}
 use mathlib.Core.List.{List}
 use lib.ListN.{take}
-use Rattle.rows.specs.Pack.{Field, packs, num, width}
+use Rattle.rows.specs.Packing.{Field, packs, num, width}
 use Rattle.rows.specs.declared.writer.Bits.{Bits}
 
 -- the number written so far

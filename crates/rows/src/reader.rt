@@ -2,7 +2,7 @@
 ghost use mathlib.Core.Path.{_≡_};
 ghost use Prim.Native.Nat.{_+_, _-_, _*_, _^_, _≤_, _<_};
 ghost use lib.ListN.{length, take};
-ghost use Rattle.rows.specs.Pack.{num, firstBits, Held};
+ghost use Rattle.rows.specs.Packing.{num, firstBits, HeldAt, eachAt};
 ghost use Rattle.rows.specs.Ordering.{orderOf};
 
 // The bytes from `first` to `end`, at most eight, as a number.
@@ -22,7 +22,7 @@ fn word(row: &[u8], first: usize, end: usize) -> u64
 // The w bits after a row's first `at`.
 pub fn get(row: &[u8], at: usize, w: usize) -> u64
     requires { ⌜ (w ≤ 56) × (at + w ≤ 8 * length (now row)) ⌝ }
-    ensures { λ r. ⌜ Held (now (row .entry)) at w r ⌝ }
+    ensures { λ r. ⌜ HeldAt (now (row .entry)) at w r ⌝ }
 {
     let first = at / 8;
     let read = at % 8 + w;
@@ -82,5 +82,17 @@ pub fn compare(a: &[u8], b: &[u8], k: usize) -> Order
             let y = get(b, 8 * whole, k % 8);
             order_of(x, y)
         }
+    }
+}
+
+// The 7-bit fields after a row's first `at` bits, as many as `out` has bytes.
+pub fn read_run(row: &[u8], at: usize, out: &mut [u8])
+    requires { ⌜ (length (now row) < 65536) × (at + 7 * length (now out) ≤ 8 * length (now row)) ⌝ }
+    ensures { λ _. ⌜ now (out .exit) ≡ eachAt (8 * length (now (row .entry)) - (at + 7 * length (now (out .entry)))) (length (now (out .entry))) 7 (num (now (row .entry))) ⌝ }
+{
+    let mut i = 0;
+    while i < out.len() {
+        out[i] = get(row, at + 7 * i, 7) as u8;
+        i += 1;
     }
 }

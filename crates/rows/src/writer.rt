@@ -3,18 +3,18 @@ ghost use mathlib.Core.Path.{_≡_};
 ghost use mathlib.Core.List.{[], _∷_};
 ghost use Prim.Native.Nat.{_+_, _-_, _*_, _^_, _≤_, _<_};
 ghost use lib.ListN.{length, take};
-ghost use Rattle.rows.specs.Pack.{«bits», «each», Fit, num};
+ghost use Rattle.rows.specs.Packing.{«bits», «each», Fit, num};
 ghost use Rattle.rows.specs.Writer.{soFar, count, Tidy, Wrote};
 
 // `at` bytes are written, and `have` bits, fewer than 8, wait in `acc`.
 pub struct Bits {
     pub acc: u64,
-    pub have: u32,
+    pub have: usize,
     pub at: usize,
 }
 
 // Writes the w bits of v.
-pub fn put(out: &mut [u8], s: Bits, w: u32, v: u64) -> Bits
+pub fn put(out: &mut [u8], s: Bits, w: usize, v: u64) -> Bits
     requires { ⌜ Tidy s ⌝ }
     requires { ⌜ (w ≤ 56) × (v < 2 ^ w) ⌝ }
     requires { ⌜ count s + w ≤ 8 * length (now out) ⌝ }
@@ -34,7 +34,7 @@ pub fn put(out: &mut [u8], s: Bits, w: u32, v: u64) -> Bits
 }
 
 // Writes the w bits of each value of vs.
-pub fn put_each(out: &mut [u8], s: Bits, w: u32, vs: &[u8]) -> Bits
+pub fn put_each(out: &mut [u8], s: Bits, w: usize, vs: &[u8]) -> Bits
     requires { ⌜ Tidy s ⌝ }
     requires { ⌜ (w ≤ 56) × Fit (each w (now vs)) ⌝ }
     requires { ⌜ count s + w * length (now vs) ≤ 8 * length (now out) ⌝ }

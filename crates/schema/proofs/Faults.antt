@@ -17,62 +17,61 @@ use Rattle.reading.proofs.Cut.{never, read-in}
 use Rattle.schema.specs.Schema.{Attr, leaf, group}
 use Rattle.schema.specs.Shape.{attrsFit, leafFits, faultIn, faultOf}
 use Rattle.schema.specs.Counted.{countIn, countOf}
-use Rattle.schema.specs.Table.{cell, textsOf, attrsAt, headAt, nodesBy, nodeAt}
-use Rattle.schema.specs.View.{faultWithin}
+use Rattle.schema.specs.Table.{kindCell, attrCell, attrsCell, groupKind, anotherKind, cell, textsOf, attrsAt, headAt, nodeAt}
+use Rattle.schema.specs.View.{nodesOf, faultWithin}
 use Rattle.schema.proofs.Tagged.{Tagged, tagged}
 use Rattle.schema.proofs.Counts.{countWithin, node-count, another-count, empty-count}
 
 module _ (table pool ranges : List ℕ) (row : ℕ) where
   -- the attributes of a row
   abbrev pub attrsOf : List Attr
-  attrsOf = attrsAt table pool ranges (cell table pool ranges row 9) (cell table pool ranges row 10)
+  attrsOf = attrsAt table pool ranges (cell table pool ranges row attrCell) (cell table pool ranges row attrsCell)
 
   two-tests : (a b : Bool) (z : ℕ) → cond (a && b) 0 z ≡ cond a (cond b 0 z) z
   two-tests true b z = refl
   two-tests false b z = refl
 
   by-kind : (d : ℕ) (p : Bool) (t : Tree)
-      → faultOf (cond p (group (headAt table pool ranges row) (nodesBy table pool ranges (nodeAt table pool ranges d) (cell table pool ranges row 7) (cell table pool ranges row 8))) (leaf (headAt table pool ranges row) (textsOf table pool ranges row))) t
+      → faultOf (cond p (group (headAt table pool ranges row) (nodesOf table pool ranges d row)) (leaf (headAt table pool ranges row) (textsOf table pool ranges row))) t
       ≡ cond (attrsFit [] attrsOf (t .pairs))
-      (cond p (faultIn (nodesBy table pool ranges (nodeAt table pool ranges d) (cell table pool ranges row 7) (cell table pool ranges row 8)) 0 (t .from) (t .inside)) (cond (leafFits (textsOf table pool ranges row) (t .inside)) 0 (t .from)))
+      (cond p (faultIn (nodesOf table pool ranges d row) 0 (t .from) (t .inside)) (cond (leafFits (textsOf table pool ranges row) (t .inside)) 0 (t .from)))
       (t .from)
   unfolding headAt
   by-kind d true t = refl
   by-kind d false t = two-tests (attrsFit [] attrsOf (t .pairs)) (leafFits (textsOf table pool ranges row) (t .inside)) (t .from)
 
-  module _ {kind : ℕ} (k : kind ≡ cell table pool ranges row 4) where
-    node-other : (d : ℕ) (t : Tree) → (kind ≡ 1 → ⊥) → faultOf (nodeAt table pool ranges (suc d) row) t ≡ cond (attrsFit [] attrsOf (t .pairs)) (faultWithin table pool ranges d row (t .from) (t .inside)) (t .from)
+  module _ {kind : ℕ} (k : kind ≡ cell table pool ranges row kindCell) where
+    node-other : (d : ℕ) (t : Tree) → (kind ≡ anotherKind → ⊥) → faultOf (nodeAt table pool ranges (suc d) row) t ≡ cond (attrsFit [] attrsOf (t .pairs)) (faultWithin table pool ranges d row (t .from) (t .inside)) (t .from)
     unfolding nodeAt
     node-other d t h =
-        let q : eqb (cell table pool ranges row 4) 1 ≡ false = ne-eqb (cell table pool ranges row 4) 1 (λ e. h (k ∙ e)) in
-        rw q (by-kind d (eqb (cell table pool ranges row 4) 0) t)
+        let q : eqb (cell table pool ranges row kindCell) anotherKind ≡ false = ne-eqb (cell table pool ranges row kindCell) anotherKind (λ e. h (k ∙ e)) in
+        rw q (by-kind d (eqb (cell table pool ranges row kindCell) groupKind) t)
 
-    pub node-another : (d : ℕ) (t : Tree) → kind ≡ 1 → faultOf (nodeAt table pool ranges d row) t ≡ 0
+    pub node-another : (d : ℕ) (t : Tree) → kind ≡ anotherKind → faultOf (nodeAt table pool ranges d row) t ≡ 0
     unfolding nodeAt
     node-another d t h = go d
       where
-        p : eqb (cell table pool ranges row 4) 0 ≡ false
-        p = ne-eqb (cell table pool ranges row 4) 0 (λ e. let i : kind ≡ 0 = k ∙ e in omega arith)
+        p : eqb (cell table pool ranges row kindCell) groupKind ≡ false
+        p = ne-eqb (cell table pool ranges row kindCell) groupKind (λ e. let i : kind ≡ groupKind = k ∙ e in omega arith)
 
-        q : eqb (cell table pool ranges row 4) 1 ≡ true
-        q = eq-eqb (cell table pool ranges row 4) 1 (sym k ∙ h)
+        q : eqb (cell table pool ranges row kindCell) anotherKind ≡ true
+        q = eq-eqb (cell table pool ranges row kindCell) anotherKind (sym k ∙ h)
 
         go : (d : ℕ) → faultOf (nodeAt table pool ranges d row) t ≡ 0
         go zero = rw (p, q)
         go (suc d) = rw (p, q)
 
 -- what stands in an element of a row, by its kind
-module _ (table pool ranges : List ℕ) (d row z : ℕ) (i : Inside) {kind : ℕ} (k : kind ≡ cell table pool ranges row 4) where
-  pub within-group : {first n : ℕ} → kind ≡ 0 → first ≡ cell table pool ranges row 7 → n ≡ cell table pool ranges row 8
-      → (faultWithin table pool ranges d row z i ≡ faultIn (nodesBy table pool ranges (nodeAt table pool ranges d) first n) 0 z i)
-      × (countWithin table pool ranges d row i ≡ countIn (nodesBy table pool ranges (nodeAt table pool ranges d) first n) 0 i)
-  within-group e f g =
-      let q : eqb (cell table pool ranges row 4) 0 ≡ true = eq-eqb (cell table pool ranges row 4) 0 (sym k ∙ e) in
-      (rw (q, f, g), rw (q, f, g))
+module _ (table pool ranges : List ℕ) (d row z : ℕ) (i : Inside) {kind : ℕ} (k : kind ≡ cell table pool ranges row kindCell) where
+  pub within-group : kind ≡ groupKind
+      → (faultWithin table pool ranges d row z i ≡ faultIn (nodesOf table pool ranges d row) 0 z i) × (countWithin table pool ranges d row i ≡ countIn (nodesOf table pool ranges d row) 0 i)
+  within-group e =
+      let q : eqb (cell table pool ranges row kindCell) groupKind ≡ true = eq-eqb (cell table pool ranges row kindCell) groupKind (sym k ∙ e) in
+      (rw q, rw q)
 
-  pub within-leaf : (kind ≡ 0 → ⊥) → (faultWithin table pool ranges d row z i ≡ cond (leafFits (textsOf table pool ranges row) i) 0 z) × (countWithin table pool ranges d row i ≡ 0)
+  pub within-leaf : (kind ≡ groupKind → ⊥) → (faultWithin table pool ranges d row z i ≡ cond (leafFits (textsOf table pool ranges row) i) 0 z) × (countWithin table pool ranges d row i ≡ 0)
   within-leaf e =
-      let q : eqb (cell table pool ranges row 4) 0 ≡ false = ne-eqb (cell table pool ranges row 4) 0 (λ h. e (k ∙ h)) in
+      let q : eqb (cell table pool ranges row kindCell) groupKind ≡ false = ne-eqb (cell table pool ranges row kindCell) groupKind (λ h. e (k ∙ h)) in
       (rw q, rw q)
 
 -- a start tag's end, as the code reads it
@@ -91,10 +90,10 @@ module _ (table pool ranges s : List ℕ) (at levels row : ℕ) (t : Tree) (m : 
   abbrev theCount : ℕ
   theCount = countOf (nodeAt table pool ranges levels row) t
 
-  pub another-known : {kind : ℕ} {y : List ℕ} → kind ≡ cell table pool ranges row 4 → kind ≡ 1 → y ≡ m → (theFault ≡ 0) × (0 ≡ theCount) × (y ≡ m)
+  pub another-known : {kind : ℕ} {y : List ℕ} → kind ≡ cell table pool ranges row kindCell → kind ≡ anotherKind → y ≡ m → (theFault ≡ 0) × (0 ≡ theCount) × (y ≡ m)
   another-known k h p = (node-another table pool ranges row k levels t h, another-count table pool ranges row k levels t (λ e. omega arith), p)
 
-  pub another-past : {kind : ℕ} {y : List ℕ} → kind ≡ cell table pool ranges row 4 → kind ≡ 1 → read tt y ≡ left (element levels (drop at s)) → (theFault ≡ 0) × (0 ≡ theCount) × (y ≡ m)
+  pub another-past : {kind : ℕ} {y : List ℕ} → kind ≡ cell table pool ranges row kindCell → kind ≡ anotherKind → read tt y ≡ left (element levels (drop at s)) → (theFault ≡ 0) × (0 ≡ theCount) × (y ≡ m)
   another-past k h p = another-known k h (read-in (rw e at p) .1)
 
   pub another-refused : refused ≡ left (element levels (drop at s)) → ⊥
@@ -117,7 +116,7 @@ module _ (table pool ranges s : List ℕ) (at levels row : ℕ) (t : Tree) (m : 
       ∙ node-count table pool ranges (levels - 1) row t
       ∙ ap (λ (t : Tree). countWithin table pool ranges (levels - 1) row (t .inside)) (parts .is)
 
-  module _ {kind : ℕ} (k : kind ≡ cell table pool ranges row 4) (h : kind ≡ 1 → ⊥) where
+  module _ {kind : ℕ} (k : kind ≡ cell table pool ranges row kindCell) (h : kind ≡ anotherKind → ⊥) where
     fault-is : theFault ≡ cond (attrsFit [] (attrsOf table pool ranges row) (parts .attrs .pairs)) (faultWithin table pool ranges (levels - 1) row (length s - at) (parts .inside)) (length s - at)
     fault-is =
         ap (λ (d : ℕ). faultOf (nodeAt table pool ranges d row) t) some-levels

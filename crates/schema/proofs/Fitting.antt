@@ -11,8 +11,9 @@ use borrow.Author.Tests.{eq-eqb, ne-eqb}
 use Rattle.laws.specs.Decimal.{decimal}
 use Rattle.laws.specs.Lists.{all}
 use Rattle.days.specs.Dates.{isDate}
-use Rattle.schema.specs.Texts.{Range, inRanges, digitsIn, unpadded, signedIn, fitsText}
-use Rattle.schema.specs.Table.{cell, rangesAt, textsOf}
+use Rattle.codes.specs.Ranges.{Range, inRanges}
+use Rattle.schema.specs.Texts.{digitsIn, unpadded, signedIn, fitsText}
+use Rattle.schema.specs.Table.{kindCell, numberCell, limitCell, firstCell, manyCell, dateKind, charsKind, signedKind, plainKind, cell, rangesAt, textsOf}
 
 -- a signed number by its first byte
 module _ (rs : List Range) (text : List ℕ) where
@@ -78,16 +79,16 @@ module _ (table pool ranges : List ℕ) (row : ℕ) (text : List ℕ) where
   abbrev fits : Bool
   fits = fitsText (textsOf table pool ranges row) text
 
-module _ (table pool ranges : List ℕ) (row : ℕ) (text : List ℕ) {kind : ℕ} (k : kind ≡ cell table pool ranges row 4) where
-  pub fits-date : kind ≡ 2 → isDate text ≡ fits table pool ranges row text
+module _ (table pool ranges : List ℕ) (row : ℕ) (text : List ℕ) {kind : ℕ} (k : kind ≡ cell table pool ranges row kindCell) where
+  pub fits-date : kind ≡ dateKind → isDate text ≡ fits table pool ranges row text
   unfolding fitsText
-  fits-date e = rw (← k, eq-eqb kind 2 e)
+  fits-date e = rw (← k, eq-eqb kind dateKind e)
 
-  module _ {first n : ℕ} (a : kind ≡ 2 → ⊥) (f : first ≡ cell table pool ranges row 7) (m : n ≡ cell table pool ranges row 8) where
-    module _ {x y : ℕ} (e : kind ≡ 3) (l : x ≡ cell table pool ranges row 5) (o : y ≡ cell table pool ranges row 6) where
+  module _ {first n : ℕ} (a : kind ≡ dateKind → ⊥) (f : first ≡ cell table pool ranges row firstCell) (m : n ≡ cell table pool ranges row manyCell) where
+    module _ {x y : ℕ} (e : kind ≡ charsKind) (l : x ≡ cell table pool ranges row numberCell) (o : y ≡ cell table pool ranges row limitCell) where
       chars-is : fits table pool ranges row text ≡ ((leb x (length text) && leb (length text) y) && all (inRanges (rangesAt table pool ranges first n)) text)
       unfolding fitsText
-      chars-is = rw (← k, ne-eqb kind 2 a, eq-eqb kind 3 e, ← f, ← m, ← l, ← o)
+      chars-is = rw (← k, ne-eqb kind dateKind a, eq-eqb kind charsKind e, ← f, ← m, ← l, ← o)
 
       pub chars-yes : (leb x (length text) && leb (length text) y) ≡ true → all (inRanges (rangesAt table pool ranges first n)) text ≡ fits table pool ranges row text
       chars-yes h = rw (chars-is, h)
@@ -95,28 +96,28 @@ module _ (table pool ranges : List ℕ) (row : ℕ) (text : List ℕ) {kind : �
       pub chars-no : (leb x (length text) && leb (length text) y) ≡ false → false ≡ fits table pool ranges row text
       chars-no h = rw (chars-is, h)
 
-    module _ (b : kind ≡ 3 → ⊥) where
-      pub fits-signed : kind ≡ 4 → signedIn (rangesAt table pool ranges first n) text ≡ fits table pool ranges row text
+    module _ (b : kind ≡ charsKind → ⊥) where
+      pub fits-signed : kind ≡ signedKind → signedIn (rangesAt table pool ranges first n) text ≡ fits table pool ranges row text
       unfolding fitsText
-      fits-signed e = rw (← k, ne-eqb kind 2 a, ne-eqb kind 3 b, eq-eqb kind 4 e, ← f, ← m)
+      fits-signed e = rw (← k, ne-eqb kind dateKind a, ne-eqb kind charsKind b, eq-eqb kind signedKind e, ← f, ← m)
 
-      module _ (c : kind ≡ 4 → ⊥) where
-        plain-is : kind ≡ 5 → fits table pool ranges row text ≡ (unpadded text && digitsIn (rangesAt table pool ranges first n) text)
+      module _ (c : kind ≡ signedKind → ⊥) where
+        plain-is : kind ≡ plainKind → fits table pool ranges row text ≡ (unpadded text && digitsIn (rangesAt table pool ranges first n) text)
         unfolding fitsText
-        plain-is e = rw (← k, ne-eqb kind 2 a, ne-eqb kind 3 b, ne-eqb kind 4 c, eq-eqb kind 5 e, ← f, ← m)
+        plain-is e = rw (← k, ne-eqb kind dateKind a, ne-eqb kind charsKind b, ne-eqb kind signedKind c, eq-eqb kind plainKind e, ← f, ← m)
 
-        pub plain-yes : {u : Bool} → kind ≡ 5 → u ≡ unpadded text → u ≡ true → digitsIn (rangesAt table pool ranges first n) text ≡ fits table pool ranges row text
+        pub plain-yes : {u : Bool} → kind ≡ plainKind → u ≡ unpadded text → u ≡ true → digitsIn (rangesAt table pool ranges first n) text ≡ fits table pool ranges row text
         plain-yes e g h = let i : unpadded text ≡ true = sym g ∙ h in rw (plain-is e, i)
 
-        pub plain-no : {u : Bool} → kind ≡ 5 → u ≡ unpadded text → u ≡ false → false ≡ fits table pool ranges row text
+        pub plain-no : {u : Bool} → kind ≡ plainKind → u ≡ unpadded text → u ≡ false → false ≡ fits table pool ranges row text
         plain-no e g h = let i : unpadded text ≡ false = sym g ∙ h in rw (plain-is e, i)
 
-        wide-is : {x : ℕ} → (kind ≡ 5 → ⊥) → x ≡ cell table pool ranges row 5 → fits table pool ranges row text ≡ (eqb (length text) x && digitsIn (rangesAt table pool ranges first n) text)
+        wide-is : {x : ℕ} → (kind ≡ plainKind → ⊥) → x ≡ cell table pool ranges row numberCell → fits table pool ranges row text ≡ (eqb (length text) x && digitsIn (rangesAt table pool ranges first n) text)
         unfolding fitsText
-        wide-is d l = rw (← k, ne-eqb kind 2 a, ne-eqb kind 3 b, ne-eqb kind 4 c, ne-eqb kind 5 d, ← f, ← m, ← l)
+        wide-is d l = rw (← k, ne-eqb kind dateKind a, ne-eqb kind charsKind b, ne-eqb kind signedKind c, ne-eqb kind plainKind d, ← f, ← m, ← l)
 
-        pub wide-yes : {x : ℕ} → (kind ≡ 5 → ⊥) → x ≡ cell table pool ranges row 5 → length text ≡ x → digitsIn (rangesAt table pool ranges first n) text ≡ fits table pool ranges row text
+        pub wide-yes : {x : ℕ} → (kind ≡ plainKind → ⊥) → x ≡ cell table pool ranges row numberCell → length text ≡ x → digitsIn (rangesAt table pool ranges first n) text ≡ fits table pool ranges row text
         wide-yes {x} d l h = rw (wide-is d l, eq-eqb (length text) x h)
 
-        pub wide-no : {x : ℕ} → (kind ≡ 5 → ⊥) → x ≡ cell table pool ranges row 5 → (length text ≡ x → ⊥) → false ≡ fits table pool ranges row text
+        pub wide-no : {x : ℕ} → (kind ≡ plainKind → ⊥) → x ≡ cell table pool ranges row numberCell → (length text ≡ x → ⊥) → false ≡ fits table pool ranges row text
         wide-no {x} d l h = rw (wide-is d l, ne-eqb (length text) x h)

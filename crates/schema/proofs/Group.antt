@@ -1,44 +1,54 @@
--- What stands in a group, piece after piece, held against the nodes still to come: its first fault, and beside that what g makes of it.
+-- What stands in a group, step after step, held against the nodes still to come: its first fault, and beside that what g makes of it.
 use Prim.Native.Nat.{ℕ, zero, suc, _+_, _<_}
 use mathlib.Core.Path.{_≡_, refl, sym, ap, _∙_}
-use mathlib.Core.Bool.{Bool, true, false}
-use mathlib.Core.List.{List}
-use native.Mathlib.Nat.{add-zero, sub-zero}
+use mathlib.Core.Bool.{true, false}
+use mathlib.Core.List.{List, []}
 use native.Mathlib.Numerals.{add-one}
 use native.Mathlib.Omega.{arith}
+use lib.ListN.{drop}
 use Rattle.laws.specs.Lists.{all}
 use Rattle.markup.specs.Bytes.{isWs}
-use Rattle.markup.specs.Reading.Read.{refused, read}
-use Rattle.markup.specs.Elements.{Inside, Tree, piece, content, element}
+use Rattle.markup.specs.Reading.Read.{read}
+use Rattle.markup.specs.Elements.{Inside, Tree, content, element, kidOn}
 use Rattle.markup.specs.Elements.Inside.{end, says, note}
-use Rattle.markup.specs.Elements.Piece.{words, aside, closing, child}
-use Rattle.reading.specs.Within.{kidOn}
 use Rattle.schema.specs.Schema.{Node, leaf, group, another, Nodes, _▸_}
-use Rattle.schema.specs.Shape.{nowhere, here, seek, enough, orElse, childFault, faultIn, faultOf}
-use Rattle.schema.specs.Table.{nodesBy, nodeAt}
-use Rattle.schema.proofs.Heads.{nodesFrom, nodes-turn}
-use Rattle.schema.proofs.Onward.{Onward, onward-start, onward-text, onward-note, onward-close, onward-refused, onward-child, onward-to}
+use Rattle.schema.specs.Shape.{nowhere, here, seek, enough, firstFault, childFault, faultIn, faultOf}
+use Rattle.schema.specs.Counted.{countOf}
+use Rattle.schema.specs.Table.{nameAt, nodeAt}
+use Rattle.schema.specs.declared.steps.Step.the-variants as step
+use Rattle.schema.specs.View.{nodesFrom, viewSpot, Passes, white, comment, SaysStep}
+use Rattle.schema.proofs.Heads.{nodes-turn, spot-named}
 
 -- a child's own fault comes before those that follow it
 child-is : (nd : Node) (ns : Nodes) (c z : ℕ) (t : Tree) (i : Inside)
     → childFault (λ ms. faultIn ms 0 (t .from) (t .inside)) (λ ms c. faultIn ms c z i) z (t .from) (t .pairs) (t .inside) (here nd ns c)
-    ≡ orElse (faultOf nd t) (faultIn (nd ▸ ns) (suc c) z i)
+    ≡ firstFault (faultOf nd t) (faultIn (nd ▸ ns) (suc c) z i)
 child-is (leaf h x) ns c z t i = refl
 child-is (group h ms) ns c z t i = refl
 child-is (another h) ns c z t i = refl
 
-first-fault : (w f : ℕ) → 0 < w → orElse w f ≡ w
+first-fault : (w f : ℕ) → 0 < w → firstFault w f ≡ w
 first-fault zero f h = absurd (omega arith)
 first-fault (suc w) f h = refl
 
 module _ (ns : Nodes) (k z : ℕ) (t : Tree) (i : Inside) where
-  kid-here : {nd : Node} {ms : Nodes} {c : ℕ} → here nd ms c ≡ seek (t .named) ns k → faultIn ns k z (kidOn t i) ≡ orElse (faultOf nd t) (faultIn (nd ▸ ms) (suc c) z i)
+  kid-here : {nd : Node} {ms : Nodes} {c : ℕ} → here nd ms c ≡ seek (t .named) ns k → faultIn ns k z (kidOn t i) ≡ firstFault (faultOf nd t) (faultIn (nd ▸ ms) (suc c) z i)
   unfolding faultIn
   kid-here {nd} {ms} {c} e = rw (← e) (child-is nd ms c z t i)
 
-  kid-nowhere : nowhere ≡ seek (t .named) ns k → faultIn ns k z (kidOn t i) ≡ z
+-- the faults that are the group's
+module _ (ns : Nodes) (k : ℕ) {i : Inside} where
+  pub wrong-end : i ≡ end → enough ns k ≡ false → (z : ℕ) → faultIn ns k z i ≡ z
   unfolding faultIn
-  kid-nowhere e = rw (← e)
+  wrong-end e h z = rw (e, h)
+
+  pub wrong-text : {t : List ℕ} {j : Inside} → i ≡ says t j → all isWs t ≡ false → (z : ℕ) → faultIn ns k z i ≡ z
+  unfolding faultIn
+  wrong-text e h z = rw (e, h)
+
+  pub wrong-child : {t : Tree} {j : Inside} → i ≡ kidOn t j → nowhere ≡ seek (t .named) ns k → (z : ℕ) → faultIn ns k z i ≡ z
+  unfolding faultIn
+  wrong-child e h z = rw (e, ← h)
 
 -- what g makes of it does not depend on texts and comments
 pub record Quiet {R : Type 0} (g : Inside → R) : Type 0 where
@@ -46,97 +56,54 @@ pub record Quiet {R : Type 0} (g : Inside → R) : Type 0 where
   pub notes : (i : Inside) → g (note i) ≡ g i
 
 -- the fault in what is left is that of the whole, and g makes of what is left what was told of the whole
-abbrev pub Walk : {R : Type 0} → ℕ → List ℕ → List ℕ → ℕ → R → Nodes → ℕ → ℕ → (Inside → R) → List ℕ → Type 0
-Walk {R} d n m fault told ns k z g l = Onward {R = ℕ × R} d n m (fault, told) (λ i. (faultIn ns k z i, g i)) l
+pub record Walk {R : Type 0} (d : ℕ) (n m : List ℕ) (fault : ℕ) (told : R) (ns : Nodes) (k z : ℕ) (g : Inside → R) (l : List ℕ) : Type 0 where
+  pub left : Inside
+  pub reads : content (element d) n l ≡ read left m
+  pub faulty : faultIn ns k z left ≡ fault
+  pub tells : g left ≡ told
 
-module _ {R : Type 0} {a b : ℕ} {p q : R} where
-  both : a ≡ b → p ≡ q → _≡_ {A = ℕ × R} (a, p) (b, q)
-  both e f = rw (e, f)
-
-  one : _≡_ {A = ℕ × R} (a, p) (b, q) → a ≡ b
-  one e = ap (λ (x : ℕ × R). x .0) e
-
-  other : _≡_ {A = ℕ × R} (a, p) (b, q) → p ≡ q
-  other e = ap (λ (x : ℕ × R). x .1) e
-
-module _ {R : Type 0} (d : ℕ) (n m : List ℕ) (fault : ℕ) (told : R) (ns : Nodes) (k z : ℕ) (g : Inside → R) (l : List ℕ) (o : Walk d n m fault told ns k z g l) where
-  abbrev f : Inside → ℕ × R
-  f i = (faultIn ns k z i, g i)
-
-  pub group-past : {y : List ℕ} {b : Bool} → read closing y ≡ piece n l → b ≡ enough ns k → b ≡ true → (fault ≡ 0) × (g end ≡ told) × (y ≡ m)
+module _ {R : Type 0} {d : ℕ} {n m : List ℕ} {fault : ℕ} {told : R} {ns : Nodes} {k z : ℕ} {g : Inside → R} {l : List ℕ} (o : Walk d n m fault told ns k z g l) where
+  pub walk-past : o .left ≡ end → enough ns k ≡ true → (fault ≡ 0) × (g end ≡ told)
   unfolding faultIn
-  group-past p e h =
-      let x = onward-close d n m (fault, told) f l o p in
-      let i = sym e ∙ h in
-      (sym (one (x .0)) ∙ rw i, other (x .0), x .1)
+  walk-past e h = (sym (o .faulty) ∙ rw (e, h), ap g (sym e) ∙ o .tells)
 
-  pub group-short : {y : List ℕ} {b : Bool} → read closing y ≡ piece n l → b ≡ enough ns k → b ≡ false → fault ≡ z
+  pub walk-wrong : ((z : ℕ) → faultIn ns k z (o .left) ≡ z) → fault ≡ z
+  walk-wrong h = sym (o .faulty) ∙ h z
+
+  pub walk-on : Quiet g → {y : List ℕ} (j : Inside) → Passes (o .left) j → content (element d) n y ≡ read j m → Walk d n m fault told ns k z g y
   unfolding faultIn
-  group-short p e h =
-      let x = onward-close d n m (fault, told) f l o p in
-      let i = sym e ∙ h in
-      sym (one (x .0)) ∙ rw i
+  walk-on q j (white t e h) r = record { left = j; reads = r; faulty = sym (rw (e, h)) ∙ o .faulty; tells = sym (q .texts t j) ∙ ap g (sym e) ∙ o .tells }
+  walk-on q j (comment e) r = record { left = j; reads = r; faulty = sym (rw e) ∙ o .faulty; tells = sym (q .notes j) ∙ ap g (sym e) ∙ o .tells }
 
-  pub group-text : {t y : List ℕ} {b : Bool} → Quiet g → read (words t) y ≡ piece n l → b ≡ all isWs t → b ≡ true → Walk d n m fault told ns k z g y
-  unfolding faultIn
-  group-text {t} q p e h =
-      let i = sym e ∙ h in
-      onward-to (λ j. both (rw i) (q .texts t j)) (onward-text d n m (fault, told) f l o p)
+-- a child, by the rows of a table
+module _ {R : Type 0} (table pool ranges s : List ℕ) (d at first n item : ℕ) {name m : List ℕ} {fault : ℕ} {told : R} {k z : ℕ} {g : Inside → R}
+    (o : Walk d name m fault told (nodesFrom table pool ranges d first n item) k z g (drop at s)) (j c : ℕ)
+    (x : SaysStep s at d name (nodesFrom table pool ranges d first n item) k (viewSpot table pool ranges d first n) (o .left) m (step.Child j c)) (h : j < n) where
+  child-named : x .0 .named ≡ nameAt table pool [] (first + j)
+  child-named = spot-named table pool ranges d (first + j) (nodesFrom table pool ranges d first n item) k (x .6)
 
-  pub group-between : {t y : List ℕ} {b : Bool} → read (words t) y ≡ piece n l → b ≡ all isWs t → b ≡ false → fault ≡ z
-  unfolding faultIn
-  group-between p e h =
-      let i = sym e ∙ h in
-      sym (one (onward-text d n m (fault, told) f l o p .same)) ∙ rw i
+  fault-is : fault ≡ firstFault (faultOf (nodeAt table pool ranges d (first + j)) (x .0)) (faultIn (nodesFrom table pool ranges d first n j) (c + 1) z (x .1))
+  fault-is =
+      sym (o .faulty)
+      ∙ ap (faultIn (nodesFrom table pool ranges d first n item) k z) (x .3)
+      ∙ kid-here (nodesFrom table pool ranges d first n item) k z (x .0) (x .1) (x .6)
+      ∙ rw (nodes-turn table pool ranges d first n j h, add-one c)
 
-  pub group-note : {y : List ℕ} → Quiet g → read aside y ≡ piece n l → Walk d n m fault told ns k z g y
-  unfolding faultIn
-  group-note q p = onward-to (λ j. both refl (q .notes j)) (onward-note d n m (fault, told) f l o p)
+  pub walk-fault : {w : ℕ} → (x .0 .named ≡ nameAt table pool [] (first + j) → (faultOf (nodeAt table pool ranges d (first + j)) (x .0) ≡ w) × (0 < w)) → (fault ≡ w) × (0 < w)
+  walk-fault {w} u =
+      let v = u child-named in
+      (fault-is ∙ rw (v .0) (first-fault w (faultIn (nodesFrom table pool ranges d first n j) (c + 1) z (x .1)) (v .1)), v .1)
 
-  pub group-refused : refused ≡ piece n l → ⊥
-  group-refused p = onward-refused d n m (fault, told) f l o p
-
-  -- what `known_piece` asks: a piece stands there
-  pub group-known : piece n l ≡ refused → ⊥
-  group-known p = group-refused (sym p)
-
-  module _ (p : read child l ≡ piece n l) where
-    pub group-nowhere : ((t : Tree) (y : List ℕ) → element d l ≡ read t y → nowhere ≡ seek (t .named) ns k) → fault ≡ z
-    group-nowhere h =
-        let x = onward-child d n m (fault, told) f l o p in
-        sym (one (x .3 .same)) ∙ kid-nowhere ns k z (x .0) (x .3 .left) (h (x .0) (x .1) (x .2))
-
-    module _ {nd : Node} {ms : Nodes} {c : ℕ} (h : (t : Tree) (y : List ℕ) → element d l ≡ read t y → here nd ms c ≡ seek (t .named) ns k) where
-      pub group-fault : {w : ℕ} → ((t : Tree) (y : List ℕ) → element d l ≡ read t y → (faultOf nd t ≡ w) × (0 < w)) → (fault ≡ w) × (0 < w)
-      group-fault {w} u =
-          let x = onward-child d n m (fault, told) f l o p in
-          let v = u (x .0) (x .1) (x .2) in
-          let e = kid-here ns k z (x .0) (x .3 .left) (h (x .0) (x .1) (x .2)) in
-          (sym (one (x .3 .same)) ∙ e ∙ rw (v .0) (first-fault w (faultIn (nd ▸ ms) (suc c) z (x .3 .left)) (v .1)), v .1)
-
-      -- after a child without fault: g' makes of what follows what g makes of it with the child
-      pub group-child : (g' : Inside → R) {q : List ℕ}
-          → ((t : Tree) (y : List ℕ) → element d l ≡ read t y → (faultOf nd t ≡ 0) × ((i : Inside) → g (kidOn t i) ≡ g' i) × (q ≡ y)) → Walk d n m fault told (nd ▸ ms) (suc c) z g' q
-      group-child g' {q} u =
-          let x = onward-child d n m (fault, told) f l o p in
-          let v = u (x .0) (x .1) (x .2) in
-          record {
-            left = x .3 .left;
-            reads = ap (content (element d) n) (v .2) ∙ x .3 .reads;
-            same = sym (both (kid-here ns k z (x .0) (x .3 .left) (h (x .0) (x .1) (x .2)) ∙ rw (v .0)) (v .1 (x .3 .left))) ∙ x .3 .same;
-          }
-
--- the nodes as rows of a table
-module _ {R : Type 0} (table pool ranges : List ℕ) (d first n z : ℕ) (g : Nodes → ℕ → Inside → R) where
-  nodes-start : nodesBy table pool ranges (nodeAt table pool ranges d) first n ≡ nodesFrom table pool ranges d first n 0
-  nodes-start = rw (add-zero first, sub-zero n)
-
-  pub group-start : (x l : List ℕ) (i : Inside) (m : List ℕ) → content (element d) x l ≡ read i m
-      → Walk d x m (faultIn (nodesBy table pool ranges (nodeAt table pool ranges d) first n) 0 z i) (g (nodesBy table pool ranges (nodeAt table pool ranges d) first n) 0 i) (nodesFrom table pool ranges d first n 0) 0 z (g (nodesFrom table pool ranges d first n 0) 0) l
-  group-start x l i m e = rw nodes-start (onward-start {R = ℕ × R} d x l i m (λ i. (faultIn (nodesFrom table pool ranges d first n 0) 0 z i, g (nodesFrom table pool ranges d first n 0) 0 i)) e)
-
-  -- the item of the child that was passed, with one more of it
-  pub group-next : {x m l : List ℕ} {fault : ℕ} {told : R} (j c : ℕ) → j < n
-      → Walk d x m fault told (nodeAt table pool ranges d (first + j) ▸ nodesFrom table pool ranges d first n (j + 1)) (suc c) z (g (nodeAt table pool ranges d (first + j) ▸ nodesFrom table pool ranges d first n (j + 1)) (suc c)) l
-      → Walk d x m fault told (nodesFrom table pool ranges d first n j) (c + 1) z (g (nodesFrom table pool ranges d first n j) (c + 1)) l
-  group-next j c h o = rw (nodes-turn table pool ranges d first n j h, add-one c) o
+  -- after one without fault: g' makes of what follows what g makes of it with the child
+  pub walk-child : (g' : Inside → R) {held : ℕ} {q : List ℕ}
+      → (x .0 .named ≡ nameAt table pool [] (first + j) → (faultOf (nodeAt table pool ranges d (first + j)) (x .0) ≡ 0) × (held ≡ countOf (nodeAt table pool ranges d (first + j)) (x .0)) × (q ≡ x .2))
+      → (held ≡ countOf (nodeAt table pool ranges d (first + j)) (x .0) → g (kidOn (x .0) (x .1)) ≡ g' (x .1))
+      → Walk d name m fault told (nodesFrom table pool ranges d first n j) (c + 1) z g' q
+  walk-child g' u e =
+      let v = u child-named in
+      record {
+        left = x .1;
+        reads = ap (content (element d) name) (v .2) ∙ x .5;
+        faulty = sym (fault-is ∙ rw (v .0));
+        tells = sym (e (v .1)) ∙ ap g (sym (x .3)) ∙ o .tells;
+      }

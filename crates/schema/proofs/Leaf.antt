@@ -1,44 +1,50 @@
 -- What stands in an element, by its first piece; a leaf's text, and an element that is empty.
-use Prim.Native.Nat.{ℕ, _+_, _-_, _≤_}
+use Prim.Native.Nat.{ℕ, _≤_}
 use mathlib.Core.Path.{_≡_, refl, sym, _∙_}
 use mathlib.Core.Bool.{Bool, true, false, cond}
 use mathlib.Core.List.{List, []}
-use native.Mathlib.Nat.{add-zero, sub-zero}
 use native.Mathlib.Omega.{arith}
 use lib.Dec.{eqb}
 use borrow.Author.Tests.{eq-eqb, ne-eqb}
+use Rattle.markup.specs.Reading.{Read}
 use Rattle.markup.specs.Reading.Read.{refused, read}
-use Rattle.markup.specs.Elements.{Inside, Tree, piece, content, element}
+use Rattle.markup.specs.Elements.{Inside, Tree, Piece, piece, content, element, kidOn}
 use Rattle.markup.specs.Elements.Inside.{end, says, note, elem}
 use Rattle.markup.specs.Elements.Piece.{words, aside, closing, child}
-use Rattle.reading.specs.Within.{kidOn}
 use Rattle.schema.specs.Texts.{Texts, fitsText}
 use Rattle.schema.specs.Shape.{leafFits, enough, faultIn}
-use Rattle.schema.specs.Table.{cell, textsOf, nodesBy, nodeAt}
+use Rattle.schema.specs.Table.{kindCell, firstCell, manyCell, groupKind, cell, textsOf}
 use Rattle.schema.specs.declared.Outcome.{Outcome}
 use Rattle.schema.specs.declared.Outcome.the-variants as outcome
-use Rattle.schema.specs.View.{Tells, okOutcome, isEnd, faultWithin}
+use Rattle.schema.specs.View.{nodesFrom, Tells, okOutcome, isEnd, faultWithin}
+use Rattle.schema.proofs.Heads.{nodes-start}
 use Rattle.schema.proofs.Onward.{Onward, onward-start, onward-text, onward-note, onward-close, onward-refused, onward-child}
 
--- what f says of it
-module _ (d : ℕ) (n l : List ℕ) (i : Inside) (m : List ℕ) (e : content (element d) n l ≡ read i m) (f : Inside → ℕ) where
-  whole : Onward d n m (f i) f l
-  whole = onward-start d n l i m f e
+-- its first piece, as `known_piece` tells it
+module _ (d : ℕ) (n l : List ℕ) (i : Inside) (m : List ℕ) (e : content (element d) n l ≡ read i m) where
+  whole : Onward d n m i (λ j. j) l
+  whole = onward-start d n l i m (λ j. j) e
 
-  pub first-close : {y : List ℕ} → read closing y ≡ piece n l → (f i ≡ f end) × (y ≡ m)
-  first-close p = let x = onward-close d n m (f i) f l whole p in (sym (x .0), x .1)
+  abbrev Known : Read Piece → Type 0
+  Known r = (piece n l ≡ refused → ⊥) → r ≡ piece n l
 
-  pub first-text : {t y : List ℕ} → read (words t) y ≡ piece n l → (k : Inside) × (content (element d) n y ≡ read k m) × (f i ≡ f (says t k))
-  first-text {t} p = let x = onward-text d n m (f i) f l whole p in (x .left, x .reads, sym (x .same))
+  known : piece n l ≡ refused → ⊥
+  known p = onward-refused d n m i (λ j. j) l whole (sym p)
 
-  pub first-note : {y : List ℕ} → read aside y ≡ piece n l → (k : Inside) × (f i ≡ f (note k))
-  first-note p = let x = onward-note d n m (f i) f l whole p in (x .left, sym (x .same))
+  pub first-close : {y : List ℕ} → Known (read closing y) → (i ≡ end) × (y ≡ m)
+  first-close p = let x = onward-close d n m i (λ j. j) l whole (p known) in (sym (x .0), x .1)
 
-  pub first-child : read child l ≡ piece n l → (t : Tree) × (k : Inside) × (f i ≡ f (kidOn t k))
-  first-child p = let x = onward-child d n m (f i) f l whole p in (x .0, x .3 .left, sym (x .3 .same))
+  pub first-text : {t y : List ℕ} → Known (read (words t) y) → (k : Inside) × (content (element d) n y ≡ read k m) × (i ≡ says t k)
+  first-text p = let x = onward-text d n m i (λ j. j) l whole (p known) in (x .left, x .reads, sym (x .same))
 
-  pub first-refused : refused ≡ piece n l → ⊥
-  first-refused p = onward-refused d n m (f i) f l whole p
+  pub first-note : {y : List ℕ} → Known (read aside y) → (k : Inside) × (content (element d) n y ≡ read k m) × (i ≡ note k)
+  first-note p = let x = onward-note d n m i (λ j. j) l whole (p known) in (x .left, x .reads, sym (x .same))
+
+  pub first-child : Known (read child l) → (t : Tree) × (k : Inside) × (y : List ℕ) × (i ≡ kidOn t k) × (element d l ≡ read t y) × (content (element d) n y ≡ read k m)
+  first-child p = let x = onward-child d n m i (λ j. j) l whole (p known) in (x .0, x .3 .left, x .1, sym (x .3 .same), x .2, x .3 .reads)
+
+  pub first-refused : Known refused → ⊥
+  first-refused p = onward-refused d n m i (λ j. j) l whole (p known)
 
 -- the fault of what is no end, of what no leaf may hold
 abbrev pub endFault : ℕ → Inside → ℕ
@@ -70,15 +76,13 @@ further s a b (outcome.Past p c) h k = omega arith
 further s a b (outcome.Fault z) h k = tt
 
 -- an element of a row that is empty
-module _ (table pool ranges : List ℕ) (d row z : ℕ) {kind : ℕ} (k : kind ≡ cell table pool ranges row 4) where
-  pub empty-group : {first n : ℕ} {b : Bool} → kind ≡ 0 → first ≡ cell table pool ranges row 7 → n ≡ cell table pool ranges row 8
-      → b ≡ enough (nodesBy table pool ranges (nodeAt table pool ranges d) (first + 0) (n - 0)) 0 → cond b 0 z ≡ faultWithin table pool ranges d row z end
+module _ (table pool ranges : List ℕ) (d row z : ℕ) {kind : ℕ} (k : kind ≡ cell table pool ranges row kindCell) where
+  pub empty-group : {first n : ℕ} {b : Bool} → kind ≡ groupKind → first ≡ cell table pool ranges row firstCell → n ≡ cell table pool ranges row manyCell
+      → b ≡ enough (nodesFrom table pool ranges d first n 0) 0 → cond b 0 z ≡ faultWithin table pool ranges d row z end
   unfolding faultIn
-  empty-group {first} {n} e f m g =
-      let i = rw (add-zero first, sub-zero n) at g in
-      rw (← k, eq-eqb kind 0 e, ← f, ← m, i)
+  empty-group {first} {n} e f m g = rw (← k, eq-eqb kind groupKind e, nodes-start table pool ranges d row f m, g)
 
-  pub empty-leaf : {b : Bool} → (kind ≡ 0 → ⊥) → b ≡ fitsText (textsOf table pool ranges row) [] → cond b 0 z ≡ faultWithin table pool ranges d row z end
+  pub empty-leaf : {b : Bool} → (kind ≡ groupKind → ⊥) → b ≡ fitsText (textsOf table pool ranges row) [] → cond b 0 z ≡ faultWithin table pool ranges d row z end
   empty-leaf e g =
-      let q : eqb (cell table pool ranges row 4) 0 ≡ false = ne-eqb (cell table pool ranges row 4) 0 (λ h. e (k ∙ h)) in
+      let q : eqb (cell table pool ranges row kindCell) groupKind ≡ false = ne-eqb (cell table pool ranges row kindCell) groupKind (λ h. e (k ∙ h)) in
       rw (q, g)

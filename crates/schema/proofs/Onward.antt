@@ -3,14 +3,13 @@ use Prim.Native.Nat.{ℕ}
 use mathlib.Core.Path.{_≡_, refl, sym, ap, _∙_}
 use mathlib.Core.List.{List}
 use Rattle.laws.specs.Loop.Step.{stop, next}
+use Rattle.laws.proofs.Fuel.{loop-next, loop-stop}
 use Rattle.markup.specs.Reading.{Read}
 use Rattle.markup.specs.Reading.Read.{refused, read}
-use Rattle.markup.specs.Elements.{Inside, Tree, piece, onto, afterChild, afterPiece, contentStep, content, element}
+use Rattle.markup.specs.Elements.{Inside, Tree, piece, onto, afterChild, afterPiece, contentStep, content, element, kidOn}
 use Rattle.markup.specs.Elements.Inside.{end, says, note}
 use Rattle.markup.specs.Elements.Piece.{words, aside, closing, child}
-use Rattle.reading.specs.Within.{kidOn}
 use Rattle.reading.proofs.Cut.{never, then-is, read-in}
-use Rattle.laws.proofs.Fuel.{loop-next, loop-stop}
 use Rattle.reading.proofs.Steps.{inside-less}
 
 pub record Onward {R : Type 0} (d : ℕ) (n : List ℕ) (m : List ℕ) (target : R) (f : Inside → R) (l : List ℕ) : Type 0 where
@@ -59,7 +58,3 @@ module _ {R : Type 0} (d : ℕ) (n m : List ℕ) (target : R) (f : Inside → R)
       go : (r : Read Tree) → element d l ≡ r → (t : Tree) × (y : List ℕ) × (element d l ≡ read t y) × Onward d n m target (λ i. f (kidOn t i)) y
       go refused e = let q = stopped refused (step ∙ ap afterChild e) in never cc
       go (read t y) e = (t, y, e, onward-by (kidOn t) y (step ∙ ap afterChild e))
-
--- the same with another reading of what is left, and of the list
-pub onward-to : {R : Type 0} {d : ℕ} {n m : List ℕ} {target : R} {f g : Inside → R} {l : List ℕ} → ((i : Inside) → f i ≡ g i) → Onward d n m target f l → Onward d n m target g l
-onward-to h o = record { left = o .left; reads = o .reads; same = sym (h (o .left)) ∙ o .same }

@@ -12,7 +12,7 @@ use Rattle.markup.specs.Tags.{Pair}
 use Rattle.schema.specs.Texts.{fitsText}
 use Rattle.schema.specs.Schema.{Attr}
 use Rattle.schema.specs.Shape.{isNamed, attrFits, attrsFit, begins}
-use Rattle.schema.specs.Table.{cell, nameAt, namesAt, attrsAt}
+use Rattle.schema.specs.Table.{leastCell, cell, nameAt, namesAt, attrsAt}
 use Rattle.schema.specs.View.{takes, attrAt}
 use Rattle.schema.proofs.Ranges.{one-left, none-left}
 
@@ -90,7 +90,7 @@ not-not : (a : Bool) → not (not a) ≡ a
 not-not true = refl
 not-not false = refl
 
-pub attr-start : (table pool ranges : List ℕ) (row : ℕ) (ps : List Pair) {x : ℕ} → x ≡ cell table pool ranges row 2
+pub attr-start : (table pool ranges : List ℕ) (row : ℕ) (ps : List Pair) {x : ℕ} → x ≡ cell table pool ranges row leastCell
     → attrAfter (attrAt table pool ranges row) (eqb x 0) ps ≡ attrFits ps (attrAt table pool ranges row)
 attr-start table pool ranges row ps {x} e = rw (← e, not-not (eqb x 0))
 

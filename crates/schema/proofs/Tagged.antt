@@ -13,10 +13,9 @@ use Rattle.markup.specs.Reading.{Read, then}
 use Rattle.markup.specs.Reading.Read.{refused, read}
 use Rattle.markup.specs.Names.{byte, name}
 use Rattle.markup.specs.Tags.{Pair, Attributes, attributes, differ, Tag, tagOf, tag}
-use Rattle.markup.specs.Elements.{Inside, Tree, content, element}
+use Rattle.markup.specs.Elements.{Inside, Tree, content, element, mk}
 use Rattle.markup.specs.Elements.Inside.{end}
 use Rattle.markup.specs.View.{part}
-use Rattle.reading.specs.Within.{mk}
 use Rattle.reading.proofs.Cut.{never, then-is, cond-is, read-in}
 use Rattle.reading.proofs.Leaves.{name-is}
 use Rattle.reading.proofs.Steps.{built}

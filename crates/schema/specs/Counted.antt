@@ -5,10 +5,10 @@ use mathlib.Core.List.{List, [], _∷_}
 use lib.Dec.{eqb, ltb}
 use Rattle.markup.specs.Elements.{Inside, Tree}
 use Rattle.markup.specs.Elements.Inside.{end, says, note, elem}
-use Rattle.schema.specs.Schema.{Head, Node, leaf, group, another, Nodes, _▸_, Schema}
+use Rattle.schema.specs.Schema.{Particle, Node, leaf, group, another, Nodes, _▸_, Schema}
 use Rattle.schema.specs.Shape.{Seek, nowhere, here, seek, Shape, fine, faulty, recordsOf, shapeOf}
 
-abbrev pub marked : Head → ℕ
+abbrev pub marked : Particle → ℕ
 marked h = cond (h .counted) 1 0
 
 -- a child and what follows it: `within` is the number in it by its nodes, `after` the number in what follows

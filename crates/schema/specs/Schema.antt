@@ -12,7 +12,7 @@ pub record Attr : Type 0 where
   pub texts : Texts
 
 -- an element: its name, how often it may stand in its place (most 0: any number of times), its attributes, and whether it is counted
-pub record Head : Type 0 where
+pub record Particle : Type 0 where
   pub named : List ℕ
   pub least : ℕ
   pub most : ℕ
@@ -22,19 +22,19 @@ pub record Head : Type 0 where
 mutual
   -- "A leaf is an element whose schema type has no child elements"; a group's children come in order; a record is held against its own node
   pub data Node : Type 0 where
-    leaf : Head → Texts → Node
-    group : Head → Nodes → Node
-    another : Head → Node
+    leaf : Particle → Texts → Node
+    group : Particle → Nodes → Node
+    another : Particle → Node
 
   pub data Nodes : Type 0 where
     none : Nodes
     _▸_ : Node → Nodes → Nodes
 
 infixr 20 _▸_
-abbrev pub headOf : Node → Head
-headOf (leaf h t) = h
-headOf (group h ns) = h
-headOf (another h) = h
+abbrev pub particleOf : Node → Particle
+particleOf (leaf h t) = h
+particleOf (group h ns) = h
+particleOf (another h) = h
 
 -- a file's schema: the root's name, how the names of its attributes may begin, its children with the records among them, the record, and how many counted
 -- elements a record may have

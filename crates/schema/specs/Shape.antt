@@ -7,11 +7,10 @@ use lib.ListN.{length, take}
 use Rattle.laws.specs.Lists.{all, any, same}
 use Rattle.markup.specs.Bytes.{isWs}
 use Rattle.markup.specs.Tags.{Pair}
-use Rattle.markup.specs.Elements.{Inside, Tree}
+use Rattle.markup.specs.Elements.{Inside, Tree, kids}
 use Rattle.markup.specs.Elements.Inside.{end, says, note, elem}
-use Rattle.reading.specs.Within.{kids}
 use Rattle.schema.specs.Texts.{Texts, fitsText}
-use Rattle.schema.specs.Schema.{Attr, Head, Node, leaf, group, another, Nodes, none, _▸_, headOf, Schema}
+use Rattle.schema.specs.Schema.{Attr, Particle, Node, leaf, group, another, Nodes, none, _▸_, particleOf, Schema}
 
 -- the values of the attribute n: "attributes may come in any order"
 abbrev pub isNamed : List ℕ → Pair → Bool
@@ -44,30 +43,30 @@ pub data Seek : Type 0 where
   nowhere : Seek
   here : Node → Nodes → ℕ → Seek
 
-abbrev pub mayCome : List ℕ → Head → ℕ → Bool
+abbrev pub mayCome : List ℕ → Particle → ℕ → Bool
 mayCome x h k = same x (h .named) && (eqb (h .most) 0 || ltb k (h .most))
 
 unfoldable pub seek : List ℕ → Nodes → ℕ → Seek
 seek x none k = nowhere
-seek x (n ▸ ns) k = cond (mayCome x (headOf n) k) (here n ns k) (cond (ltb k (headOf n .least)) nowhere (seek x ns 0))
+seek x (n ▸ ns) k = cond (mayCome x (particleOf n) k) (here n ns k) (cond (ltb k (particleOf n .least)) nowhere (seek x ns 0))
 
 -- none that must come is left
 unfoldable pub enough : Nodes → ℕ → Bool
 enough none k = true
-enough (n ▸ ns) k = leb (headOf n .least) k && enough ns 0
+enough (n ▸ ns) k = leb (particleOf n .least) k && enough ns 0
 
 -- the first of two faults
-abbrev pub orElse : ℕ → ℕ → ℕ
-orElse zero f = f
-orElse (suc e) f = suc e
+abbrev pub firstFault : ℕ → ℕ → ℕ
+firstFault zero f = f
+firstFault (suc e) f = suc e
 
 -- a child that opened with y bytes left, and what follows it: `within` is the fault in it by its nodes, `after` the one in what follows
 abbrev pub childFault : (Nodes → ℕ) → (Nodes → ℕ → ℕ) → ℕ → ℕ → List Pair → Inside → Seek → ℕ
 childFault within after z y ps i nowhere = z
 childFault within after z y ps i (here (leaf h t) ns k) =
-    orElse (cond (attrsFit [] (h .attrs) ps && leafFits t i) 0 y) (after (leaf h t ▸ ns) (suc k))
+    firstFault (cond (attrsFit [] (h .attrs) ps && leafFits t i) 0 y) (after (leaf h t ▸ ns) (suc k))
 childFault within after z y ps i (here (group h ms) ns k) =
-    orElse (cond (attrsFit [] (h .attrs) ps) (within ms) y) (after (group h ms ▸ ns) (suc k))
+    firstFault (cond (attrsFit [] (h .attrs) ps) (within ms) y) (after (group h ms ▸ ns) (suc k))
 childFault within after z y ps i (here (another h) ns k) = after (another h ▸ ns) (suc k)
 
 -- the first fault in what stands in a group that opened with z bytes left, by the nodes still to come: "anything between the children but white space and
@@ -95,7 +94,7 @@ namedIn x [] = []
 namedIn x (t ∷ ts) = cond (same x (t .named)) (t ∷ namedIn x ts) (namedIn x ts)
 
 abbrev pub recordsOf : Schema → Tree → List Tree
-recordsOf s t = namedIn (headOf (s .each) .named) (kids (t .inside))
+recordsOf s t = namedIn (particleOf (s .each) .named) (kids (t .inside))
 
 -- what answer 6 says of a file: of the shape, with so many records; or the number of the record at fault and the fault, 0 for one outside every record
 pub data Shape : Type 0 where

@@ -6,20 +6,9 @@ use mathlib.Core.List.{List, [], _∷_}
 use lib.Dec.{eqb, leb}
 use lib.ListN.{length}
 use Rattle.laws.specs.Decimal.{isDigit, decimal}
-use Rattle.laws.specs.Lists.{all, any}
+use Rattle.laws.specs.Lists.{all}
+use Rattle.codes.specs.Ranges.{Range, inRanges}
 use Rattle.days.specs.Dates.{isDate}
-
--- from one number, or character, to another
-pub record Range : Type 0 where
-  pub from : ℕ
-  pub to : ℕ
-
-abbrev pub _to_ : ℕ → ℕ → Range
-a to b = record { from = a; to = b }
-
-infix 40 _to_
-abbrev pub inRanges : List Range → ℕ → Bool
-inRanges rs n = any (λ r. leb (r .from) n && leb n (r .to)) rs
 
 -- how digits may write a number: with a sign and leading zeros, as `xs:int`, `xs:long` and `xs:integer` do; without either; in so many digits
 pub data Style : Type 0 where

@@ -8,8 +8,11 @@ ghost use Rattle.laws.specs.Lists.{all, any, same};
 ghost use Rattle.markup.specs.View.{OfPairs};
 ghost use Rattle.schema.specs.Texts.{fitsText};
 ghost use Rattle.schema.specs.Shape.{attrFits, attrsFit};
-ghost use Rattle.schema.specs.Table.{cell, nameAt, namesAt, textsOf, attrsAt};
+ghost use Rattle.schema.specs.Table.{attrCell, attrsCell, cell, nameAt, namesAt, textsOf, attrsAt};
 ghost use Rattle.schema.specs.View.{takes, attrAt};
+use crate::table::ATTR;
+use crate::table::ATTRS;
+use crate::table::LEAST;
 use crate::table::cell;
 use crate::table::name_of;
 use crate::texts::fits_text;
@@ -107,7 +110,7 @@ fn value_fits(
 fn attr_fits(table: &[u16], pool: &[u8], ranges: &[u16], row: usize, s: &[u8], after: usize) -> bool
     ensures { λ r. ⌜ OfPairs (λ ps. attrFits ps (attrAt (now (table .entry)) (now (pool .entry)) (now (ranges .entry)) row)) (drop after (now (s .entry))) r ⌝ }
 {
-    let mut seen = cell(table, row, 2) == 0;
+    let mut seen = cell(table, row, LEAST) == 0;
     let mut at = after;
     loop {
         let here = Cursor { at };
@@ -161,10 +164,10 @@ pub fn attrs_fit(
     s: &[u8],
     after: usize,
 ) -> bool
-    ensures { λ r. ⌜ OfPairs (attrsFit [] (attrsAt (now (table .entry)) (now (pool .entry)) (now (ranges .entry)) (cell (now (table .entry)) [] [] row 9) (cell (now (table .entry)) [] [] row 10))) (drop after (now (s .entry))) r ⌝ }
+    ensures { λ r. ⌜ OfPairs (attrsFit [] (attrsAt (now (table .entry)) (now (pool .entry)) (now (ranges .entry)) (cell (now (table .entry)) [] [] row attrCell) (cell (now (table .entry)) [] [] row attrsCell))) (drop after (now (s .entry))) r ⌝ }
 {
-    let first = cell(table, row, 9);
-    let n = cell(table, row, 10);
+    let first = cell(table, row, ATTR);
+    let n = cell(table, row, ATTRS);
     if all_attrs(table, pool, ranges, first, n, s, after) {
         all_known(table, pool, first, n, false, s, after)
     } else {
@@ -174,9 +177,9 @@ pub fn attrs_fit(
 
 // The attributes of the root.
 pub fn root_attrs_fit(table: &[u16], pool: &[u8], s: &[u8], after: usize) -> bool
-    ensures { λ r. ⌜ ((ranges : List ℕ) → OfPairs (attrsFit (namesAt (now (table .entry)) (now (pool .entry)) ranges (cell (now (table .entry)) [] [] 0 9) (cell (now (table .entry)) [] [] 0 10)) []) (drop after (now (s .entry))) r) ⌝ }
+    ensures { λ r. ⌜ ((ranges : List ℕ) → OfPairs (attrsFit (namesAt (now (table .entry)) (now (pool .entry)) ranges (cell (now (table .entry)) [] [] 0 attrCell) (cell (now (table .entry)) [] [] 0 attrsCell)) []) (drop after (now (s .entry))) r) ⌝ }
 {
-    let first = cell(table, 0, 9);
-    let n = cell(table, 0, 10);
+    let first = cell(table, 0, ATTR);
+    let n = cell(table, 0, ATTRS);
     all_known(table, pool, first, n, true, s, after)
 }

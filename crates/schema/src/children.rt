@@ -1,13 +1,12 @@
 // The children of a group, held against the rows of its nodes.
 ghost use mathlib.Core.Path.{_≡_};
 ghost use mathlib.Core.List.{List};
-ghost use Prim.Native.Nat.{ℕ, _+_, _-_, _<_};
-ghost use lib.ListN.{drop};
-ghost use Rattle.markup.specs.Reading.Read.{read};
-ghost use Rattle.markup.specs.Elements.{Tree, element};
-ghost use Rattle.schema.specs.Shape.{mayCome, seek, enough};
-ghost use Rattle.schema.specs.Table.{headAt, nodesBy, nodeAt};
-ghost use Rattle.schema.specs.View.{viewSpot, okSpot};
+ghost use Prim.Native.Nat.{ℕ, _<_};
+ghost use Rattle.schema.specs.Shape.{mayCome, enough};
+ghost use Rattle.schema.specs.Table.{headAt};
+ghost use Rattle.schema.specs.View.{nodesFrom, Sought, Spotted};
+use crate::table::LEAST;
+use crate::table::MOST;
 use crate::table::cell;
 use crate::table::name_of;
 use markup::Cursor;
@@ -25,7 +24,7 @@ pub enum Spot {
 fn may_come(table: &[u16], pool: &[u8], row: usize, count: usize, x: &[u8]) -> bool
     ensures { λ r. ⌜ ((ranges : List ℕ) → r ≡ mayCome (now (x .entry)) (headAt (now (table .entry)) (now (pool .entry)) ranges row) count) ⌝ }
 {
-    let most = cell(table, row, 3);
+    let most = cell(table, row, MOST);
     same(x, name_of(table, pool, row)) & ((most == 0) | (count < most))
 }
 
@@ -40,7 +39,7 @@ fn seek(
     x: &[u8],
 ) -> Spot
     requires { ⌜ (first < 65536) × (n < 65536) ⌝ }
-    ensures { λ r. ⌜ ((ranges : List ℕ) (d : ℕ) → viewSpot (now (table .entry)) (now (pool .entry)) ranges d first n r ≡ seek (now (x .entry)) (nodesBy (now (table .entry)) (now (pool .entry)) ranges (nodeAt (now (table .entry)) (now (pool .entry)) ranges d) (first + item) (n - item)) count) × okSpot n count r ⌝ }
+    ensures { λ r. ⌜ Sought (now (table .entry)) (now (pool .entry)) (now (x .entry)) first n item count r ⌝ }
 {
     let mut j = item;
     let mut k = count;
@@ -49,7 +48,7 @@ fn seek(
         if may_come(table, pool, row, k, x) {
             return Spot::Here { item: j, count: k };
         }
-        if k < cell(table, row, 2) {
+        if k < cell(table, row, LEAST) {
             return Spot::Nowhere;
         }
         j += 1;
@@ -61,12 +60,12 @@ fn seek(
 // None that must come is left, from an item on of which `count` have been.
 pub fn enough(table: &[u16], first: usize, n: usize, item: usize, count: usize) -> bool
     requires { ⌜ (first < 65536) × (n < 65536) ⌝ }
-    ensures { λ r. ⌜ ((pool ranges : List ℕ) (d : ℕ) → r ≡ enough (nodesBy (now (table .entry)) pool ranges (nodeAt (now (table .entry)) pool ranges d) (first + item) (n - item)) count) ⌝ }
+    ensures { λ r. ⌜ ((pool ranges : List ℕ) (d : ℕ) → r ≡ enough (nodesFrom (now (table .entry)) pool ranges d first n item) count) ⌝ }
 {
     let mut j = item;
     let mut k = count;
     while j < n {
-        if k < cell(table, first + j, 2) {
+        if k < cell(table, first + j, LEAST) {
             return false;
         }
         j += 1;
@@ -87,7 +86,7 @@ pub fn spot_of(
     count: usize,
 ) -> Spot
     requires { ⌜ (first < 65536) × (n < 65536) ⌝ }
-    ensures { λ r. ⌜ ((ranges : List ℕ) (d e : ℕ) (t : Tree) (m : List ℕ) → element e (drop at (now (s .entry))) ≡ read t m → viewSpot (now (table .entry)) (now (pool .entry)) ranges d first n r ≡ seek (t .named) (nodesBy (now (table .entry)) (now (pool .entry)) ranges (nodeAt (now (table .entry)) (now (pool .entry)) ranges d) (first + item) (n - item)) count) × okSpot n count r ⌝ }
+    ensures { λ r. ⌜ Spotted (now (table .entry)) (now (pool .entry)) (now (s .entry)) at first n item count r ⌝ }
 {
     if s.len() <= at {
         return Spot::Nowhere;

@@ -1,33 +1,31 @@
 // The shape of a whole file.
 ghost use mathlib.Core.Path.{_≡_};
-ghost use mathlib.Core.Bool.{true, cond};
-ghost use mathlib.Core.List.{List, [], _∷_};
+ghost use mathlib.Core.Bool.{cond};
+ghost use mathlib.Core.List.{[]};
 ghost use lib.Dec.{ltb};
-ghost use Prim.Native.Nat.{ℕ, _+_, _<_, _≤_};
-ghost use lib.ListN.{length, drop};
-ghost use Rattle.laws.specs.Lists.{same};
-ghost use Rattle.markup.specs.Reading.Read.{read};
-ghost use Rattle.markup.specs.Elements.{Inside, Tree, content, element};
-ghost use Rattle.markup.specs.Document.{depth};
-ghost use Rattle.markup.specs.View.{part};
-ghost use Rattle.schema.specs.Schema.{Schema};
-ghost use Rattle.schema.specs.Shape.{orElse, faultOf};
-ghost use Rattle.schema.specs.Counted.{countOf, heldOf};
-ghost use Rattle.schema.specs.Table.{cell, nameAt, nodeAt, schemaAt};
-ghost use Rattle.schema.specs.View.{Tells, okOutcome, viewShape, okShape, heldAfter, heldInside, okSeen};
+ghost use Prim.Native.Nat.{_<_, _≤_};
+ghost use Rattle.markup.specs.View.{ahead};
+ghost use Rattle.schema.specs.Shape.{firstFault};
+ghost use Rattle.schema.specs.Table.{limitCell, cell};
+ghost use Rattle.schema.specs.View.{okSeen, Answers, HasName, Takes, JudgedPast, HeldWithin, HeldFile};
 use crate::Outcome;
 use crate::attrs::root_attrs_fit;
-use crate::children::Spot;
 use crate::children::enough;
-use crate::children::spot_of;
 use crate::elements::fault;
-use crate::leaves::all_ws;
+use crate::steps::Step;
+use crate::steps::advance;
+use crate::table::ANOTHER;
+use crate::table::BELOW_ROOT;
+use crate::table::FIRST;
+use crate::table::KIND;
+use crate::table::LIMIT;
+use crate::table::MANY;
+use crate::table::NUMBER;
 use crate::table::cell;
 use crate::table::name_of;
 use markup::Cursor;
 use markup::Ending;
 use markup::Got;
-use markup::Piece;
 use markup::bytes::part;
 use markup::bytes::same;
 
@@ -53,7 +51,7 @@ pub struct Taken {
 
 // The element at a place has the name of a row.
 fn has_name(table: &[u16], pool: &[u8], row: usize, s: &[u8], at: usize) -> bool
-    ensures { λ r. ⌜ ((d : ℕ) (tree : Tree) (m : List ℕ) → element d (drop at (now (s .entry))) ≡ read tree m → r ≡ same (nameAt (now (table .entry)) (now (pool .entry)) [] row) (tree .named)) × (r ≡ true → at < length (now (s .entry))) ⌝ }
+    ensures { λ r. ⌜ HasName (now (table .entry)) (now (pool .entry)) (now (s .entry)) at row r ⌝ }
 {
     if s.len() <= at {
         return false;
@@ -67,9 +65,9 @@ fn has_name(table: &[u16], pool: &[u8], row: usize, s: &[u8], at: usize) -> bool
 
 // The first record with too many counted elements, after a record of this number that has so many.
 fn first_over(table: &[u16], over: usize, number: usize, count: usize) -> usize
-    ensures { λ r. ⌜ (r ≡ orElse over (cond (ltb (cell (now (table .entry)) [] [] 0 6) count) number 0)) × (over ≤ number → r ≤ number) ⌝ }
+    ensures { λ r. ⌜ (r ≡ firstFault over (cond (ltb (cell (now (table .entry)) [] [] 0 limitCell) count) number 0)) × (over ≤ number → r ≤ number) ⌝ }
 {
-    let most = cell(table, 0, 6);
+    let most = cell(table, 0, LIMIT);
     if over == 0 {
         if most < count {
             return number;
@@ -81,17 +79,17 @@ fn first_over(table: &[u16], over: usize, number: usize, count: usize) -> usize
 // A record is held against its row, as long as none was at fault; another child changes nothing.
 fn take_record(table: &[u16], pool: &[u8], ranges: &[u16], s: &[u8], at: usize, seen: Seen) -> Taken
     requires { ⌜ okSeen at seen ⌝ }
-    ensures { λ r. ⌜ ((tree : Tree) (m : List ℕ) → element 11 (drop at (now (s .entry))) ≡ read tree m → ((ts : List Tree) → heldAfter (schemaAt (now (table .entry)) (now (pool .entry)) (now (ranges .entry)) 11) (r .seen) ts ≡ heldAfter (schemaAt (now (table .entry)) (now (pool .entry)) (now (ranges .entry)) 11) seen (tree ∷ ts)) × (0 < r .next → drop (r .next) (now (s .entry)) ≡ m)) × okSeen (at + 1) (r .seen) × (0 < r .next → (at < r .next) × (r .next ≤ length (now (s .entry)))) ⌝ }
+    ensures { λ r. ⌜ Takes (now (table .entry)) (now (pool .entry)) (now (ranges .entry)) (now (s .entry)) at seen r ⌝ }
 {
     let Seen::Good { number, over } = seen else {
         return Taken { seen, next: 0 };
     };
-    let each = cell(table, 0, 5);
+    let each = cell(table, 0, NUMBER);
     if !has_name(table, pool, each, s, at) {
         return Taken { seen, next: 0 };
     }
     let number = number + 1;
-    match fault(table, pool, ranges, s, at, 11, each) {
+    match fault(table, pool, ranges, s, at, BELOW_ROOT, each) {
         Outcome::Fault(from) => Taken {
             seen: Seen::Bad { number, from },
             next: 0,
@@ -116,23 +114,23 @@ fn past_child(
     row: usize,
     known: usize,
 ) -> Outcome
-    requires { ⌜ (0 < known → (at < known) × (known ≤ length (now s))) ⌝ }
-    ensures { λ r. ⌜ ((tree : Tree) (m : List ℕ) → element 11 (drop at (now (s .entry))) ≡ read tree m → tree .named ≡ nameAt (now (table .entry)) (now (pool .entry)) [] row → (0 < known → drop known (now (s .entry)) ≡ m) → Tells (now (s .entry)) r (faultOf (nodeAt (now (table .entry)) (now (pool .entry)) (now (ranges .entry)) 11 row) tree) (countOf (nodeAt (now (table .entry)) (now (pool .entry)) (now (ranges .entry)) 11 row) tree) m) × okOutcome (now (s .entry)) at r ⌝ }
+    requires { ⌜ (0 < known → ahead (now s) at known) ⌝ }
+    ensures { λ r. ⌜ JudgedPast (now (table .entry)) (now (pool .entry)) (now (ranges .entry)) (now (s .entry)) at row known r ⌝ }
 {
     if 0 < known {
-        if cell(table, row, 4) == 1 {
+        if cell(table, row, KIND) == ANOTHER {
             return Outcome::Past {
                 next: known,
                 count: 0,
             };
         }
     }
-    fault(table, pool, ranges, s, at, 11, row)
+    fault(table, pool, ranges, s, at, BELOW_ROOT, row)
 }
 
 // What is known after all records.
 fn answer(seen: Seen) -> ShapeAnswer
-    ensures { λ r. ⌜ ((schema : Schema) → viewShape r ≡ heldAfter schema seen []) × ((s : List ℕ) (at : ℕ) → okSeen at seen → at ≤ length s → okShape s r) ⌝ }
+    ensures { λ r. ⌜ Answers seen r ⌝ }
 {
     match seen {
         Seen::Good { number, over } => {
@@ -156,64 +154,46 @@ fn root_inside(
     name_end: usize,
     from: usize,
 ) -> ShapeAnswer
-    ensures { λ r. ⌜ ((i : Inside) (m : List ℕ) → content (element 11) (part (now (s .entry)) name «name_end») (drop start (now (s .entry))) ≡ read i m → 0 < from → viewShape r ≡ heldInside (schemaAt (now (table .entry)) (now (pool .entry)) (now (ranges .entry)) 11) from i) × okShape (now (s .entry)) r ⌝ }
+    ensures { λ r. ⌜ HeldWithin (now (table .entry)) (now (pool .entry)) (now (ranges .entry)) (now (s .entry)) start name «name_end» from r ⌝ }
 {
-    let first = cell(table, 0, 7);
-    let n = cell(table, 0, 8);
+    let first = cell(table, 0, FIRST);
+    let n = cell(table, 0, MANY);
     let mut at = start;
     let mut item = 0;
     let mut count = 0;
     let mut seen = Seen::Good { number: 0, over: 0 };
     loop {
-        let here = Cursor { at };
-        match here.next_piece(s, name, name_end) {
-            Piece::Refused => {
-                return ShapeAnswer::Fine(0);
+        match advance(table, pool, s, at, name, name_end, first, n, item, count) {
+            Step::Past(_) => {
+                return answer(seen);
             }
-            Piece::Close(_) => {
-                if enough(table, first, n, item, count) {
-                    return answer(seen);
-                }
+            Step::Wrong => {
                 return ShapeAnswer::Faulty { number: 0, from };
             }
-            Piece::Words { start: text, end } => {
-                if !all_ws(part(s, text, end)) {
-                    return ShapeAnswer::Faulty { number: 0, from };
-                }
-                at = end;
+            Step::On(next) => {
+                at = next;
             }
-            Piece::Aside(done) => {
-                at = done.at;
-            }
-            Piece::Kid => match spot_of(table, pool, s, at, first, n, item, count) {
-                Spot::Nowhere => {
-                    return ShapeAnswer::Faulty { number: 0, from };
-                }
-                Spot::Here {
-                    item: now,
-                    count: before,
-                } => {
-                    let taken = take_record(table, pool, ranges, s, at, seen);
-                    match past_child(table, pool, ranges, s, at, first + now, taken.next) {
-                        Outcome::Fault(_) => {
-                            return ShapeAnswer::Faulty { number: 0, from };
-                        }
-                        Outcome::Past { next, .. } => {
-                            at = next;
-                            item = now;
-                            count = before + 1;
-                            seen = taken.seen;
-                        }
+            Step::Child { now, before } => {
+                let taken = take_record(table, pool, ranges, s, at, seen);
+                match past_child(table, pool, ranges, s, at, first + now, taken.next) {
+                    Outcome::Fault(_) => {
+                        return ShapeAnswer::Faulty { number: 0, from };
+                    }
+                    Outcome::Past { next, .. } => {
+                        at = next;
+                        item = now;
+                        count = before + 1;
+                        seen = taken.seen;
                     }
                 }
-            },
+            }
         }
     }
 }
 
 // The file whose root stands at a place: its tag, then what stands in it.
 pub fn shape(table: &[u16], pool: &[u8], ranges: &[u16], s: &[u8], root: usize) -> ShapeAnswer
-    ensures { λ r. ⌜ ((tree : Tree) (m : List ℕ) → element depth (drop root (now (s .entry))) ≡ read tree m → viewShape r ≡ heldOf (schemaAt (now (table .entry)) (now (pool .entry)) (now (ranges .entry)) 11) tree) × okShape (now (s .entry)) r ⌝ }
+    ensures { λ r. ⌜ HeldFile (now (table .entry)) (now (pool .entry)) (now (ranges .entry)) (now (s .entry)) root r ⌝ }
 {
     if s.len() <= root {
         return ShapeAnswer::Fine(0);
@@ -232,7 +212,7 @@ pub fn shape(table: &[u16], pool: &[u8], ranges: &[u16], s: &[u8], root: usize) 
     match next.attributes(s) {
         Ending::Refused => ShapeAnswer::Fine(0),
         Ending::Shut(_) => {
-            if enough(table, cell(table, 0, 7), cell(table, 0, 8), 0, 0) {
+            if enough(table, cell(table, 0, FIRST), cell(table, 0, MANY), 0, 0) {
                 return ShapeAnswer::Fine(0);
             }
             ShapeAnswer::Faulty { number: 0, from }

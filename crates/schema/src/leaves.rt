@@ -2,19 +2,19 @@
 ghost use mathlib.Core.Path.{_≡_};
 ghost use mathlib.Core.Bool.{cond};
 ghost use mathlib.Core.List.{List};
-ghost use Prim.Native.Nat.{ℕ, _<_};
-ghost use lib.ListN.{drop};
+ghost use Prim.Native.Nat.{ℕ};
 ghost use Rattle.laws.specs.Lists.{all};
 ghost use Rattle.markup.specs.Bytes.{isWs};
-ghost use Rattle.markup.specs.Reading.Read.{read};
-ghost use Rattle.markup.specs.Elements.{Inside, content, element};
 ghost use Rattle.markup.specs.Elements.Inside.{end};
-ghost use Rattle.markup.specs.View.{part};
 ghost use Rattle.schema.specs.Shape.{leafFits};
 ghost use Rattle.schema.specs.Table.{textsOf};
-ghost use Rattle.schema.specs.View.{Tells, okOutcome, isEnd, faultWithin};
+ghost use Rattle.schema.specs.View.{isEnd, faultWithin, LeafJudged};
 use crate::Outcome;
 use crate::children::enough;
+use crate::table::FIRST;
+use crate::table::GROUP;
+use crate::table::KIND;
+use crate::table::MANY;
 use crate::table::cell;
 use crate::texts::fits_text;
 use markup::Cursor;
@@ -37,7 +37,7 @@ pub fn all_ws(text: &[u8]) -> bool
 
 // Nothing more stands in an element that opened with `from` bytes left.
 fn end_of(s: &[u8], start: usize, name: usize, name_end: usize, from: usize) -> Outcome
-    ensures { λ r. ⌜ ((d : ℕ) (i : Inside) (m : List ℕ) → content (element d) (part (now (s .entry)) name «name_end») (drop start (now (s .entry))) ≡ read i m → 0 < from → Tells (now (s .entry)) r (cond (isEnd i) 0 from) 0 m) × okOutcome (now (s .entry)) start r ⌝ }
+    ensures { λ r. ⌜ LeafJudged (now (s .entry)) start name «name_end» from isEnd r ⌝ }
 {
     let here = Cursor { at: start };
     match here.known_piece(s, name, name_end) {
@@ -63,7 +63,7 @@ pub fn leaf_inside(
     name_end: usize,
     from: usize,
 ) -> Outcome
-    ensures { λ r. ⌜ ((pool : List ℕ) (d : ℕ) (i : Inside) (m : List ℕ) → content (element d) (part (now (s .entry)) name «name_end») (drop start (now (s .entry))) ≡ read i m → 0 < from → Tells (now (s .entry)) r (cond (leafFits (textsOf (now (table .entry)) pool (now (ranges .entry)) row) i) 0 from) 0 m) × okOutcome (now (s .entry)) start r ⌝ }
+    ensures { λ r. ⌜ ((pool : List ℕ) → LeafJudged (now (s .entry)) start name «name_end» from (leafFits (textsOf (now (table .entry)) pool (now (ranges .entry)) row)) r) ⌝ }
 {
     let here = Cursor { at: start };
     match here.known_piece(s, name, name_end) {
@@ -92,8 +92,8 @@ pub fn leaf_inside(
 pub fn may_be_empty(table: &[u16], ranges: &[u16], row: usize) -> bool
     ensures { λ r. ⌜ ((pool : List ℕ) (d z : ℕ) → cond r 0 z ≡ faultWithin (now (table .entry)) pool (now (ranges .entry)) d row z end) ⌝ }
 {
-    if cell(table, row, 4) == 0 {
-        return enough(table, cell(table, row, 7), cell(table, row, 8), 0, 0);
+    if cell(table, row, KIND) == GROUP {
+        return enough(table, cell(table, row, FIRST), cell(table, row, MANY), 0, 0);
     }
     fits_text(table, ranges, row, b"")
 }

@@ -4,6 +4,7 @@ pub mod children;
 pub mod elements;
 pub mod file;
 pub mod leaves;
+pub mod steps;
 pub mod table;
 pub mod texts;
 

@@ -2,17 +2,28 @@
 ghost use mathlib.Core.Path.{_≡_};
 ghost use mathlib.Core.List.{List};
 ghost use mathlib.Core.Bool.{_&&_};
-ghost use Prim.Native.Nat.{ℕ, _+_, _*_, _<_, _≤_};
+ghost use Prim.Native.Nat.{ℕ, _<_};
 ghost use lib.Dec.{eqb};
 ghost use lib.ListN.{drop};
-ghost use Rattle.laws.specs.Decimal.{isDigit, decimal};
+ghost use Rattle.laws.specs.Decimal.{decimal};
 ghost use Rattle.laws.specs.Lists.{all};
 ghost use Rattle.days.specs.Dates.{isDate};
-ghost use Rattle.schema.specs.Texts.{inRanges, digitsIn, unpadded, signedIn, fitsText};
+ghost use Rattle.codes.specs.Ranges.{inRanges};
+ghost use Rattle.schema.specs.Texts.{digitsIn, unpadded, signedIn, fitsText};
 ghost use Rattle.schema.specs.Table.{rangesAt, textsOf};
 ghost use Rattle.schema.specs.View.{Near, SaysNumber};
+use crate::table::CHARS;
+use crate::table::DATE;
+use crate::table::FIRST;
+use crate::table::KIND;
+use crate::table::LIMIT;
+use crate::table::MANY;
+use crate::table::NUMBER;
+use crate::table::PLAIN;
+use crate::table::SIGNED;
 use crate::table::cell;
 use crate::table::number_at;
+use codes::digits::read_digits;
 use days::dates::Parts;
 use days::dates::date_parts;
 
@@ -54,38 +65,17 @@ fn all_in_ranges(ranges: &[u16], first: usize, n: usize, text: &[u8]) -> bool
     true
 }
 
-fn is_digit(b: u8) -> bool
-    ensures { λ r. ⌜ r ≡ isDigit b ⌝ }
-{
-    (b'0' <= b) & (b <= b'9')
-}
-
-// The number goes on with a digit.
-fn goes_on(number: usize, digit: u8) -> usize
-    requires { ⌜ number ≤ 65536 ⌝ }
-    ensures { λ r. ⌜ (r ≤ 65536) × Near r (number * 10 + digit) ⌝ }
-{
-    let next = number * 10 + digit as usize;
-    if next < 65536 { next } else { 65536 }
-}
-
 fn number_of(text: &[u8], from: usize) -> Number
     ensures { λ r. ⌜ SaysNumber (drop from (now (text .entry))) r ⌝ }
 {
     if text.len() <= from {
         return Number::Refused;
     }
-    let mut number = 0;
-    let mut at = from;
-    while at < text.len() {
-        let b = text[at];
-        if !is_digit(b) {
-            return Number::Refused;
-        }
-        number = goes_on(number, b - b'0');
-        at += 1;
+    let read = read_digits(&text[from..], 65536);
+    if !read.good {
+        return Number::Refused;
     }
-    Number::Is(number)
+    Number::Is(read.number as usize)
 }
 
 fn digits_in(ranges: &[u16], first: usize, n: usize, text: &[u8], from: usize) -> bool
@@ -156,30 +146,30 @@ fn is_date(text: &[u8]) -> bool
 pub fn fits_text(table: &[u16], ranges: &[u16], row: usize, text: &[u8]) -> bool
     ensures { λ r. ⌜ ((pool : List ℕ) → r ≡ fitsText (textsOf (now (table .entry)) pool (now (ranges .entry)) row) (now (text .entry))) ⌝ }
 {
-    let kind = cell(table, row, 4);
-    if kind == 2 {
+    let kind = cell(table, row, KIND);
+    if kind == DATE {
         return is_date(text);
     }
-    let first = cell(table, row, 7);
-    let n = cell(table, row, 8);
-    if kind == 3 {
-        let least = cell(table, row, 5);
-        let most = cell(table, row, 6);
+    let first = cell(table, row, FIRST);
+    let n = cell(table, row, MANY);
+    if kind == CHARS {
+        let least = cell(table, row, NUMBER);
+        let most = cell(table, row, LIMIT);
         if (least <= text.len()) & (text.len() <= most) {
             return all_in_ranges(ranges, first, n, text);
         }
         return false;
     }
-    if kind == 4 {
+    if kind == SIGNED {
         return signed_in(ranges, first, n, text);
     }
-    if kind == 5 {
+    if kind == PLAIN {
         if is_unpadded(text) {
             return digits_in(ranges, first, n, text, 0);
         }
         return false;
     }
-    if text.len() == cell(table, row, 5) {
+    if text.len() == cell(table, row, NUMBER) {
         return digits_in(ranges, first, n, text, 0);
     }
     false

@@ -12,10 +12,10 @@ use Rattle.laws.specs.Lists.{all}
 use Rattle.laws.proofs.Order.{Tri, below, equal, above, tri}
 use Rattle.laws.proofs.Lists.{all-append, all-left, all-right, all-join}
 use Rattle.laws.proofs.Truth.{and-left, and-right, and-false}
+use Rattle.laws.proofs.Every.{Every, every-map, all-told, all-tell, same-truth, and-tell}
 use Rattle.model.specs.Map.{Row, Map, find, has, keep, Asc, isSome}
 use Rattle.model.proofs.MapLaws.{asc-weaken, find-below}
 use Rattle.register.specs.Sound.{Rules, ascending}
-use Rattle.register.proofs.Every.{Every, every-map, all-told, all-tell, same-truth, and-tell}
 use Rattle.register.proofs.Ascending.{asc-told, asc-tell}
 use Rattle.soundness.specs.Walk.{runOf, goodRun}
 

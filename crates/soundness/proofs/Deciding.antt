@@ -11,11 +11,13 @@ use borrow.Author.Tests.{leb-true, le-leb, lt-leb}
 use Rattle.laws.specs.Lists.{all}
 use Rattle.laws.proofs.Truth.{and-left, and-right}
 use Rattle.model.specs.Map.{has}
-use Rattle.register.specs.Layout.{siad, caseOf, caseRest, eventRest}
-use Rattle.register.specs.Bytes.{split, room, casesHeld, eventsHeld, rowAt, rowIn, casesFrom, eventsFrom, stateOf, used}
-use Rattle.register.specs.Allowed.{caseRowAllowed, eventRowAllowed}
-use Rattle.register.specs.Sound.{ascending, eventsOf, valid, siadRules, isSound}
+use Rattle.register.specs.Layout.{caseNamed, caseRest, eventRest, room, casesHeld, eventsHeld, rowAt, rowIn}
+use Rattle.register.specs.State.{split, casesFrom, eventsFrom, stateOf, used}
+use Rattle.register.specs.Sound.{ascending, eventsOf, valid}
 use Rattle.register.proofs.From.{from-length}
+use Rattle.home_care.specs.Row.{siad, rowBytes}
+use Rattle.home_care.specs.Allowed.{caseRowAllowed, eventRowAllowed}
+use Rattle.soundness.specs.Sound.{siadRules, isSound}
 use Rattle.soundness.proofs.OnePass.{state}
 
 pub too-short : (reg : List ℕ) → length reg < 4 → false ≡ isSound reg
@@ -30,7 +32,7 @@ module _ (reg : List ℕ) (cases events : ℕ) (ec : cases ≡ casesHeld reg) (e
   good = valid siad siadRules (length reg) (state reg cases rows)
 
   abbrev tail : Bool
-  tail = all (λ b. eqb b 0) (drop (4 + 91 * rows) reg)
+  tail = all (λ b. eqb b 0) (drop (4 + rowBytes * rows) reg)
 
   whole : isSound reg ≡ good && tail
   unfolding isSound
@@ -48,10 +50,10 @@ module _ (reg : List ℕ) (cases events : ℕ) (ec : cases ≡ casesHeld reg) (e
   pub not-valid : (v : Bool) → v ≡ good → v ≡ false → false ≡ isSound reg
   not-valid v g f = sym (whole ∙ rw (sym g ∙ f))
 
-  pub by-tail : (v z : Bool) → v ≡ good → v ≡ true → z ≡ all (λ b. eqb b 0) (take (length reg - (4 + 91 * rows)) (drop (4 + 91 * rows) reg)) → z ≡ isSound reg
+  pub by-tail : (v z : Bool) → v ≡ good → v ≡ true → z ≡ all (λ b. eqb b 0) (take (length reg - (4 + rowBytes * rows)) (drop (4 + rowBytes * rows) reg)) → z ≡ isSound reg
   by-tail v z g f e =
-      let l : length (drop (4 + 91 * rows) reg) ≤ length reg - (4 + 91 * rows) = rw length-drop (omega arith) in
-      e ∙ ap (all (λ b. eqb b 0)) (take-all (length reg - (4 + 91 * rows)) (drop (4 + 91 * rows) reg) l) ∙ sym (whole ∙ rw (sym g ∙ f))
+      let l : length (drop (4 + rowBytes * rows) reg) ≤ length reg - (4 + rowBytes * rows) = rw length-drop (omega arith) in
+      e ∙ ap (all (λ b. eqb b 0)) (take-all (length reg - (4 + rowBytes * rows)) (drop (4 + rowBytes * rows) reg) l) ∙ sym (whole ∙ rw (sym g ∙ f))
 
 -- ---- what soundness tells
 
@@ -62,7 +64,7 @@ pub record SoundFacts (reg : List ℕ) : Type 0 where
   pub event-rows : all eventRowAllowed (stateOf siad reg .events) ≡ true
   pub cases-up : ascending (stateOf siad reg .cases) ≡ true
   pub events-up : ascending (stateOf siad reg .events) ≡ true
-  pub stand : all (λ e. has (caseOf siad (e .key)) (stateOf siad reg .cases)) (stateOf siad reg .events) ≡ true
+  pub stand : all (λ e. has (caseNamed siad (e .key)) (stateOf siad reg .cases)) (stateOf siad reg .events) ≡ true
   pub free : all (λ c. siadRules .together (c .key) (eventsOf siad (c .key) (stateOf siad reg .events))) (stateOf siad reg .cases) ≡ true
   pub tail : all (λ b. eqb b 0) (drop (used siad (stateOf siad reg)) reg) ≡ true
 
@@ -86,8 +88,8 @@ sound-told reg h =
       event-rows = and-right (all caseRowAllowed (s .cases)) _ rows;
       cases-up = and-left (ascending (s .cases)) _ up;
       events-up = and-right (ascending (s .cases)) _ up;
-      stand = and-left (all (λ e. has (caseOf siad (e .key)) (s .cases)) (s .events)) _ c;
-      free = and-right (all (λ e. has (caseOf siad (e .key)) (s .cases)) (s .events)) _ c;
+      stand = and-left (all (λ e. has (caseNamed siad (e .key)) (s .cases)) (s .events)) _ c;
+      free = and-right (all (λ e. has (caseNamed siad (e .key)) (s .cases)) (s .events)) _ c;
       tail = and-right (valid siad siadRules n s) (all (λ b. eqb b 0) (drop (used siad s) reg)) v;
     }
 

@@ -7,10 +7,9 @@ use native.Mathlib.Omega.{arith}
 use lib.Dec.{eqb, ltb, leb}
 use borrow.Author.Tests.{ltb-true, ltb-false, leb-true, leb-false, eqb-true, eqb-false, lt-ltb, le-ltb, le-leb, lt-leb, eq-eqb, ne-eqb, not-true}
 use Rattle.laws.proofs.Truth.{and-left, and-right}
-use Rattle.rows.specs.Row.{never}
-use Rattle.register.specs.Fields.{kindOf, dateOf, endOf, eventKeyOf}
-use Rattle.register.specs.Events.{isSuspension, isConclusion, shareDay, afterConclusion}
-use Rattle.register.proofs.Every.{Every, same-truth, and-tell, not-tell, nand-told, both-false}
+use Rattle.laws.proofs.Every.{Every, same-truth, and-tell, not-tell, nand-told, both-false}
+use Rattle.home_care.specs.Row.{never, kindOf, dateOf, endOf, eventKeyOf}
+use Rattle.home_care.specs.Anomalies.{isSuspension, isConclusion, shareDay, afterConclusion}
 
 -- the last day that an event names
 abbrev pub late : ℕ → ℕ

@@ -5,12 +5,11 @@ use mathlib.Core.Bool.{true, false, cond}
 use mathlib.Core.List.{List}
 use lib.Dec.{ltb}
 use lib.ListN.{length}
-use Rattle.rows.specs.Row.{keyNumber}
 use Rattle.model.specs.Map.{has, keep}
-use Rattle.register.specs.Layout.{siad}
-use Rattle.register.specs.Bytes.{rowAt, stateOf}
-use Rattle.register.specs.Calls.{Found, textsAllowed, keyOfTexts, found}
-use Rattle.register.specs.Sound.{isSound}
+use Rattle.register.specs.Layout.{rowAt}
+use Rattle.register.specs.State.{stateOf}
+use Rattle.home_care.specs.Row.{keyNumber, siad}
+use Rattle.soundness.specs.Sound.{Found, textsAllowed, keyOfTexts, found, isSound}
 
 module _ (reg region asl date id : List ℕ) where
   pub unsound : isSound reg ≡ false → record { answer = 3; place = 0 } ≡ found reg region asl date id

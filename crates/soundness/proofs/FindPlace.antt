@@ -9,18 +9,19 @@ use lib.Dec.{eqb, ltb}
 use lib.ListN.{length, length-append}
 use borrow.Author.Tests.{lt-ltb, le-ltb}
 use Rattle.laws.proofs.Order.{Tri, below, equal, above, tri}
+use Rattle.laws.proofs.Every.{Every, every-map}
 use Rattle.model.specs.Map.{Row, Map, Asc, find, has, isSome, keep}
 use Rattle.model.proofs.MapPlace.{AllBelow, find-in, find-out}
-use Rattle.register.specs.Layout.{siad, caseRest}
-use Rattle.register.specs.Bytes.{from, split, rowIn, rowAt, casesHeld, stateOf}
-use Rattle.register.specs.Calls.{Found}
-use Rattle.register.specs.Search.{keyAt, keyOf, Rises, Placed}
+use Rattle.register.specs.Layout.{caseRest, rowIn, rowAt, casesHeld}
+use Rattle.register.specs.State.{from, split, stateOf}
+use Rattle.register.specs.Search.{keyAt, probeKey, Rises, Placed}
 use Rattle.register.specs.Sound.{ascending}
-use Rattle.register.proofs.Every.{Every, every-map}
-use Rattle.soundness.proofs.CaseRuns.{keep-append, keep-every, keep-none}
 use Rattle.register.proofs.From.{from-length, from-cut}
 use Rattle.register.proofs.Walks.{from-next, from-none, from-every}
 use Rattle.register.proofs.Ascending.{asc-told, asc-part}
+use Rattle.home_care.specs.Row.{siad, rowBytes, keyBits}
+use Rattle.soundness.specs.Sound.{Found}
+use Rattle.soundness.proofs.CaseRuns.{keep-append, keep-every, keep-none}
 
 module _ (rows : ℕ → Row ℕ) where
   low : (b i k : ℕ) → Asc b (from rows i k) → (q : ℕ) → i ≤ q → q < i + k → b ≤ rows q .key
@@ -104,27 +105,27 @@ module _ (rows : ℕ → Row ℕ) where
         go (above l e _) = absurd (omega arith)
 
 -- what finding answers, by the place and whether the key stands there
-module _ (reg probe : List ℕ) (cases i : ℕ) (stand : Bool) (held : cases ≡ casesHeld reg) (p : Placed (keyAt 91 662 reg) (keyOf 91 662 probe + 0) 0 cases i)
-    (told : stand ≡ ltb i cases && eqb (keyAt 91 662 reg i) (keyOf 91 662 probe)) (up : ascending (stateOf siad reg .cases) ≡ true) where
+module _ (reg probe : List ℕ) (cases i : ℕ) (stand : Bool) (held : cases ≡ casesHeld reg) (p : Placed (keyAt rowBytes keyBits reg) (probeKey rowBytes keyBits probe + 0) 0 cases i)
+    (told : stand ≡ ltb i cases && eqb (keyAt rowBytes keyBits reg i) (probeKey rowBytes keyBits probe)) (up : ascending (stateOf siad reg .cases) ≡ true) where
   abbrev caseRow : ℕ → Row ℕ
   caseRow j = split (caseRest siad) (rowIn siad reg j)
 
   abbrev key : ℕ
-  key = keyOf 91 662 probe
+  key = probeKey rowBytes keyBits probe
 
   abbrev answer : Found
   answer =
       cond (has key (stateOf siad reg .cases)) (record { answer = 0; place = rowAt siad (length (keep (λ k. ltb k key) (stateOf siad reg .cases))) })
       (record { answer = 30; place = 0 })
 
-  row-key : (k : ℕ) → keyAt 91 662 reg k ≡ caseRow k .key
+  row-key : (k : ℕ) → keyAt rowBytes keyBits reg k ≡ caseRow k .key
   unfolding keyAt rowIn
   row-key k = refl
 
   asc : Asc 0 (from caseRow 0 cases)
   asc = rw held (asc-told (stateOf siad reg .cases) up)
 
-  rises : Rises (keyAt 91 662 reg) 0 cases
+  rises : Rises (keyAt rowBytes keyBits reg) 0 cases
   rises a b x y z =
       let q : caseRow a .key < caseRow b .key = keys-rise caseRow 0 0 cases asc a b x y (omega arith) in
       rw (row-key a, row-key b) (omega arith)
@@ -142,7 +143,7 @@ module _ (reg probe : List ℕ) (cases i : ℕ) (stand : Bool) (held : cases ≡
   counted : length (keep (λ k. ltb k key) (stateOf siad reg .cases)) ≡ i
   counted = rw (← held) (count-smaller caseRow key cases i asc (p .high) under over)
 
-  pub found-at : stand ≡ true → record { answer = 0; place = 4 + 91 * i } ≡ answer
+  pub found-at : stand ≡ true → record { answer = 0; place = 4 + rowBytes * i } ≡ answer
   found-at e = rw (stood ∙ e, counted)
 
   pub found-not : stand ≡ false → record { answer = 30; place = 0 } ≡ answer

@@ -1,10 +1,6 @@
 pub mod EventFacts
 pub mod Neighbours
 pub mod CaseRuns
-pub mod EventTests
-pub mod TextTests
-pub mod Runs
-pub mod RowFields
 pub mod CaseEvents
 pub mod CaseWalk
 pub mod OnePass
@@ -13,4 +9,4 @@ pub mod KeyTexts
 pub mod FindPlace
 pub mod ProbeTexts
 pub mod FindAnswers
-pub mod RoundTrips
+pub mod SoundLaws

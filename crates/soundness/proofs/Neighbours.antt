@@ -7,13 +7,12 @@ use mathlib.Core.List.{List, [], _∷_}
 use native.Mathlib.Omega.{arith}
 use lib.Dec.{ltb}
 use borrow.Author.Tests.{ltb-false, eqb-false, le-ltb, eq-eqb, not-true}
-use Rattle.laws.specs.Lists.{any}
+use Rattle.laws.specs.Lists.{any, somePair}
 use Rattle.laws.proofs.Truth.{or-left, or-right, and-left, and-right}
-use Rattle.rows.specs.Row.{never}
-use Rattle.register.specs.Fields.{kindOf, dateOf, endOf, eventKeyOf}
-use Rattle.register.specs.Events.{pair, isSuspension, isConclusion, t23, t25, shareDay, t26, t27, afterConclusion, t28}
-use Rattle.register.specs.Sound.{eventsFree}
-use Rattle.register.proofs.Every.{Every, every-map, every-both, any-told, any-tell, same-truth, and-tell, or-tell, not-tell}
+use Rattle.laws.proofs.Every.{Every, every-map, every-both, any-told, any-tell, same-truth, and-tell, or-tell, not-tell}
+use Rattle.home_care.specs.Row.{never, kindOf, dateOf, endOf, eventKeyOf}
+use Rattle.home_care.specs.Anomalies.{isSuspension, isConclusion, t23, t25, shareDay, t26, t27, afterConclusion, t28}
+use Rattle.soundness.specs.Sound.{eventsFree}
 use Rattle.soundness.proofs.EventFacts.{late, after-late, fits, passes, Rising, Sane, Alone, Apart, Free, Next, share-told, share-tell, ends-told, ends-tell, single-told, single-tell, last-told, last-tell, fits-alone, fits-next, fits-tell, across}
 
 -- ---- along the list
@@ -76,7 +75,7 @@ tests-tell t es h =
 -- the tests of a longer list
 module _ (t e : ℕ) (es : List ℕ) where
   rest : Tests t (e ∷ es) → Tests t es
-  unfolding any pair
+  unfolding any somePair
   rest h =
       record {
         f23 = or-right (isSuspension e && ltb (endOf e) (dateOf e)) _ (h .f23);
@@ -103,7 +102,7 @@ module _ (t e : ℕ) (es : List ℕ) where
 
   -- the pairs of this event with the later ones
   pairs : Rising (suc (eventKeyOf e)) es → Every (Alone t) es → Tests t (e ∷ es) → Every (Apart e) es
-  unfolding any pair
+  unfolding any somePair
   pairs r a h =
       let s = any-told (shareDay e) es (or-left (any (shareDay e) es) _ (h .f26)) in
       let c = any-told (λ b. isConclusion e && isConclusion b) es (or-left (any (λ b. isConclusion e && isConclusion b) es) _ (h .f27)) in
@@ -115,7 +114,7 @@ module _ (t e : ℕ) (es : List ℕ) where
 
   -- and back
   tests-more : Sane e → Rising (suc (eventKeyOf e)) es → Every Sane es → Alone t e → Every (Apart e) es → Tests t es → Tests t (e ∷ es)
-  unfolding any pair
+  unfolding any somePair
   tests-more s r ss a p h =
       let o : Every (λ f. (eventKeyOf e < eventKeyOf f) × Sane f) es = every-both es (λ f q k. (q, k)) (above (suc (eventKeyOf e)) es r) ss in
       record {
@@ -138,7 +137,7 @@ module _ (t e : ℕ) (es : List ℕ) where
 -- ---- both ways
 
 tests-free : (t : ℕ) (es : List ℕ) → Rising 0 es → Every Sane es → Free t es → Tests t es
-unfolding Rising Free any pair
+unfolding Rising Free any somePair
 tests-free t [] r s f = record { f23 = refl; f25 = refl; f26 = refl; f27 = refl; f28 = refl }
 tests-free t (e ∷ es) r s f =
     tests-more t e es (s .0) (r .1) (s .1) (f .0) (f .1) (tests-free t es (lower (suc (eventKeyOf e)) es (r .1)) (s .1) (f .2))

@@ -11,17 +11,19 @@ use borrow.Author.Tests.{le-leb, eq-eqb, ne-eqb}
 use Rattle.laws.specs.Lists.{all}
 use Rattle.laws.proofs.Order.{Tri, below, equal, above, tri}
 use Rattle.laws.proofs.Truth.{and-left, and-right, and-false}
-use Rattle.rows.specs.Pack.{num}
 use Rattle.model.specs.Map.{Row, Map}
 use Rattle.model.specs.Flow.{State}
-use Rattle.register.specs.Layout.{siad, caseOf, caseRest, eventRest}
-use Rattle.register.specs.Bytes.{from, room, split, rowIn, casesFrom, eventsFrom}
-use Rattle.register.specs.Allowed.{caseRowAllowed}
-use Rattle.register.specs.Search.{keyAt, keyOf}
-use Rattle.register.specs.Sound.{ascending, valid, siadRules}
+use Rattle.rows.specs.Packing.{num}
+use Rattle.register.specs.Layout.{caseNamed, caseRest, eventRest, room, rowIn}
+use Rattle.register.specs.State.{from, split, casesFrom, eventsFrom}
+use Rattle.register.specs.Search.{keyAt, probeKey}
+use Rattle.register.specs.Sound.{ascending, valid}
 use Rattle.register.proofs.From.{from-length, from-cut}
 use Rattle.register.proofs.Walks.{from-next, from-none, row-good, row-bad, rows-done, climb-on, climb-not, climb-done, key-here, key-there}
 use Rattle.register.proofs.Ascending.{asc-told}
+use Rattle.home_care.specs.Row.{siad, rowBytes, keyBits}
+use Rattle.home_care.specs.Allowed.{caseRowAllowed}
+use Rattle.soundness.specs.Sound.{siadRules}
 use Rattle.soundness.specs.Walk.{runOf, goodRun, ran}
 use Rattle.soundness.specs.declared.together.Run.{Run}
 use Rattle.soundness.specs.declared.together.Run.the-variants.{End, Bad}
@@ -44,8 +46,8 @@ module _ (reg row : List ℕ) (i : ℕ) (good : Bool) (own : num row ≡ rowIn s
   pub case-first : good ≡ true → i ≡ 0 → true ≡ caseFits reg i
   case-first e z = rw (sym allowed ∙ e, eq-eqb i 0 z)
 
-  pub case-next : (up : Bool) → good ≡ true → (i ≡ 0 → ⊥) → up ≡ ltb (keyAt 91 662 reg (i - 1)) (keyOf 91 662 row + 0) → up ≡ caseFits reg i
-  unfolding keyAt keyOf rowIn
+  pub case-next : (up : Bool) → good ≡ true → (i ≡ 0 → ⊥) → up ≡ ltb (keyAt rowBytes keyBits reg (i - 1)) (probeKey rowBytes keyBits row + 0) → up ≡ caseFits reg i
+  unfolding keyAt probeKey rowIn
   case-next up e z h =
       let n : num row / 2 ^ 66 + 0 ≡ caseAt reg i = let o = own in omega arith in
       h ∙ rw (sym allowed ∙ e, ne-eqb i 0 z, n)
@@ -86,7 +88,7 @@ module _ (reg : List ℕ) (cases rows : ℕ) where
   es j = eventsFrom siad reg j (rows - j)
 
   abbrev walked : Map ℕ → Map ℕ → Bool
-  walked l m = grouped (caseOf siad) siadRules l m
+  walked l m = grouped (caseNamed siad) siadRules l m
 
   abbrev pub state : State ℕ ℕ
   state = record { cases = cs; events = es cases }
@@ -113,17 +115,17 @@ module _ (reg : List ℕ) (cases rows : ℕ) where
         let f : cases + (rows - cases) ≤ room siad n = omega arith in
         rw (from-length caseRow 0 cases, from-length eventRow cases (rows - cases), le-leb (cases + (rows - cases)) (room siad n) f)
         (shuffle (all caseRowAllowed cs) _ (ascending cs) _ _
-        ∙ ap (λ (b : Bool). all caseRowAllowed cs && b) (and-under (ascending cs) _ _ (λ u. sym (grouped-is (caseOf siad) (λ j k h. omega arith) siadRules 0 cs (es cases) (asc-told cs u)))))
+        ∙ ap (λ (b : Bool). all caseRowAllowed cs && b) (and-under (ascending cs) _ _ (λ u. sym (grouped-is (caseNamed siad) (λ j k h. omega arith) siadRules 0 cs (es cases) (asc-told cs u)))))
 
     module _ (i j : ℕ) (rest : Rest i j) where
       module _ (h : i < cases) where
         -- the test of the keys as the code makes it
-        above-last : (i ≡ 0 → ⊥) → ltb (caseAt reg (i - 1)) (caseAt reg i) ≡ ltb (keyAt 91 662 reg (i - 1)) (keyOf 91 662 (take (4 + 91 * (i - 1 + 1) + 91 - (4 + 91 * (i - 1 + 1))) (drop (4 + 91 * (i - 1 + 1)) reg)) + 0)
+        above-last : (i ≡ 0 → ⊥) → ltb (caseAt reg (i - 1)) (caseAt reg i) ≡ ltb (keyAt rowBytes keyBits reg (i - 1)) (probeKey rowBytes keyBits (take (4 + rowBytes * (i - 1 + 1) + rowBytes - (4 + rowBytes * (i - 1 + 1))) (drop (4 + rowBytes * (i - 1 + 1)) reg)) + 0)
         above-last z =
             let e : i ≡ i - 1 + 1 = omega (arith, z) in
             let d : caseAt reg (i - 1 + 1) ≡ caseAt reg (i - 1 + 1) + 0 = omega arith in
             ap (λ (k : ℕ). ltb (caseAt reg (i - 1)) (caseAt reg k)) e
-            ∙ ap₂ ltb (sym (key-here siad 91 662 reg refl (i - 1))) (d ∙ ap (λ (k : ℕ). k + 0) (sym (key-there siad 91 662 reg refl (i - 1 + 1) (4 + 91 * (i - 1 + 1)) refl)))
+            ∙ ap₂ ltb (sym (key-here siad rowBytes keyBits reg refl (i - 1))) (d ∙ ap (λ (k : ℕ). k + 0) (sym (key-there siad rowBytes keyBits reg refl (i - 1 + 1) (4 + rowBytes * (i - 1 + 1)) refl)))
 
         pub case-not : (good : Bool) → good ≡ caseFits reg i → good ≡ false → false ≡ valid siad siadRules n state
         case-not good told e = go (caseRowAllowed (caseRow i)) refl (tri i 0)
@@ -134,7 +136,7 @@ module _ (reg : List ℕ) (cases rows : ℕ) where
             go true a (equal l _ f) = let z : true ≡ false = sym (rw (a, f) at told) ∙ e in absurd (true≢false z)
             go true a (above l _ f) =
                 let u : ltb (caseAt reg (i - 1)) (caseAt reg i) ≡ false = sym (rw (a, f) at told) ∙ e in
-                let d = climb-not siad 91 662 reg refl _ _ (i - 1) cases (rest .up) (omega arith) (above-last (λ z. omega arith)) u in
+                let d = climb-not siad rowBytes keyBits reg refl _ _ (i - 1) cases (rest .up) (omega arith) (above-last (λ z. omega arith)) u in
                 sym (valid-is ∙ rw (sym d) (and-false (all caseRowAllowed cs)))
 
         -- the case at i passes
@@ -150,14 +152,14 @@ module _ (reg : List ℕ) (cases rows : ℕ) where
             go (above l _ f) =
                 let k : i - 1 + 1 ≡ i + 1 - 1 = omega arith in
                 let u : ltb (caseAt reg (i - 1)) (caseAt reg i) ≡ true = rw f at (and-right (caseRowAllowed (caseRow i)) _ e) in
-                climb-on siad 91 662 reg refl _ _ (i - 1) cases (rest .up) (omega arith) (above-last (λ z. omega arith)) u
+                climb-on siad rowBytes keyBits reg refl _ _ (i - 1) cases (rest .up) (omega arith) (above-last (λ z. omega arith)) u
                 ∙ ap (λ (k : ℕ). ascending (casesFrom siad reg k (cases - k))) k
 
         -- and its events
         abbrev run : Map ℕ
-        run = runOf (caseOf siad) (caseAt reg i) (es j)
+        run = runOf (caseNamed siad) (caseAt reg i) (es j)
 
-        one-case : walked cs (es cases) ≡ (goodRun siadRules (caseAt reg i) run && walked (casesFrom siad reg (i + 1) (cases - (i + 1))) (restOf (caseOf siad) (caseAt reg i) (es j)))
+        one-case : walked cs (es cases) ≡ (goodRun siadRules (caseAt reg i) run && walked (casesFrom siad reg (i + 1) (cases - (i + 1))) (restOf (caseNamed siad) (caseAt reg i) (es j)))
         unfolding grouped
         one-case = rest .runs ∙ ap (λ (l : Map ℕ). walked l (es j)) (from-next caseRow i cases h)
 
@@ -168,16 +170,16 @@ module _ (reg : List ℕ) (cases rows : ℕ) where
 
         run-short : j ≤ rows → length run ≤ rows - j
         run-short l =
-            let e : length run + length (restOf (caseOf siad) (caseAt reg i) (es j)) ≡ rows - j =
-            sym (length-append run (restOf (caseOf siad) (caseAt reg i) (es j))) ∙ ap length (run-rest (caseOf siad) (caseAt reg i) (es j)) ∙ from-length eventRow j (rows - j) in
+            let e : length run + length (restOf (caseNamed siad) (caseAt reg i) (es j)) ≡ rows - j =
+            sym (length-append run (restOf (caseNamed siad) (caseAt reg i) (es j))) ∙ ap length (run-rest (caseNamed siad) (caseAt reg i) (es j)) ∙ from-length eventRow j (rows - j) in
             omega arith
 
-        rest-from : j ≤ rows → restOf (caseOf siad) (caseAt reg i) (es j) ≡ es (j + length run)
+        rest-from : j ≤ rows → restOf (caseNamed siad) (caseAt reg i) (es j) ≡ es (j + length run)
         rest-from l =
             let s = run-short l in
             let k : length (from eventRow j (j + length run - j)) ≡ length run = from-length eventRow j (j + length run - j) ∙ (let z : j + length run - j ≡ length run = omega arith in z) in
-            sym (drop-at run (restOf (caseOf siad) (caseAt reg i) (es j)) (length run) refl)
-            ∙ ap (drop (length run)) (run-rest (caseOf siad) (caseAt reg i) (es j) ∙ from-cut eventRow j (j + length run) rows (omega arith) (omega arith))
+            sym (drop-at run (restOf (caseNamed siad) (caseAt reg i) (es j)) (length run) refl)
+            ∙ ap (drop (length run)) (run-rest (caseNamed siad) (caseAt reg i) (es j) ∙ from-cut eventRow j (j + length run) rows (omega arith) (omega arith))
             ∙ drop-at (from eventRow j (j + length run - j)) (es (j + length run)) (length run) k
 
         -- a good run ends within the rows, and the rest goes on from there
@@ -200,7 +202,7 @@ module _ (reg : List ℕ) (cases rows : ℕ) where
       unfolding grouped
       pass-done h l =
           let a = rows-done caseRow caseRowAllowed _ true i cases (rest .allow) h in
-          let u = climb-done siad 91 662 reg refl _ true (i - 1) cases (rest .up) (omega arith) in
+          let u = climb-done siad rowBytes keyBits reg refl _ true (i - 1) cases (rest .up) (omega arith) in
           sym (valid-is ∙ rw (sym a, sym u, rest .runs, from-none caseRow i cases h) (go (tri j rows)))
         where
           go : Tri j rows → walked [] (es j) ≡ eqb j rows

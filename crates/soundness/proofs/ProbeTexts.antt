@@ -1,66 +1,46 @@
 -- Each way out of `probe_of`: which texts are allowed, and the key that they make.
-use Prim.Native.Nat.{ℕ, _-_, _*_, _/_, _^_, _≤_, _<_}
+use Prim.Native.Nat.{ℕ, _-_, _*_, _/_, _^_, _<_}
 use mathlib.Core.Path.{_≡_, refl, sym, ap, ap₂, _∙_, subst}
 use mathlib.Core.Bool.{Bool, true, false, cond, not, _&&_, _||_, false≢true, true≢false}
 use mathlib.Core.List.{List, [], _∷_}
 use native.Mathlib.Omega.{arith}
-use lib.Dec.{eqb, ltb, leb}
+use lib.Dec.{eqb, leb}
 use lib.ListN.{length, drop}
 use lib.Pow.{shl-shr}
 use lib.Seq.{take-all}
-use borrow.Author.Tests.{lt-leb, ltb-true, eqb-true, not-false}
+use borrow.Author.Tests.{eqb-true, not-false}
 use Rattle.laws.specs.Decimal.{decimal, isDigit}
 use Rattle.laws.specs.Lists.{all, any}
-use Rattle.laws.proofs.Order.{Tri, below, equal, above, tri}
 use Rattle.laws.proofs.Truth.{and-left, and-right, and-false}
-use Rattle.codes.specs.Chars.{isAlnum, idChar}
-use Rattle.codes.specs.Codes.{isOneOf, regions}
+use Rattle.codes.specs.Ranges.{Range, inRanges}
+use Rattle.codes.specs.Chars.{alnums, idChars}
+use Rattle.codes.specs.Codes.{regions}
+use Rattle.codes.proofs.Ranges.{ranges-below}
 use Rattle.days.specs.Calendar.{dayCount}
 use Rattle.days.specs.Dates.{isDate, dayOf, dated, undated, dateAt}
 use Rattle.days.specs.View.{viewDate, okDate}
 use Rattle.days.specs.declared.dates.Date.{Date}
 use Rattle.days.specs.declared.dates.Date.the-variants as read
-use Rattle.rows.specs.Pack.{packs, num, each, Fit}
-use Rattle.rows.specs.Row.{keyOf, keyFields, keyNumber, rowNumber, KeyFits}
-use Rattle.rows.proofs.Table.{key-width}
-use Rattle.register.specs.Calls.{textsAllowed, keyOfTexts}
+use Rattle.rows.specs.Packing.{packs, num, each, Fit, rowNumber}
 use Rattle.register.specs.Search as search
+use Rattle.home_care.specs.Fits.{keyWith, KeyFits}
+use Rattle.home_care.specs.Row.{keyFields, keyNumber, rowBytes, keyBits}
+use Rattle.home_care.proofs.Table.{key-width}
+use Rattle.soundness.specs.Sound.{textsAllowed, keyOfTexts}
 use Rattle.soundness.proofs.KeyTexts.{regionOf}
 
 -- ---- sizes of what is allowed
 
-low : (p : ℕ → Bool) → ((b : ℕ) → 128 ≤ b → p b ≡ false) → (b : ℕ) → p b ≡ true → b < 128
-low p h b e = go (tri b 128)
-  where
-    go : Tri b 128 → b < 128
-    go (below l _ _) = l
-    go (equal l _ _) = absurd (false≢true (sym (h b (omega arith)) ∙ e))
-    go (above l _ _) = absurd (false≢true (sym (h b (omega arith)) ∙ e))
-
-fit-chars : (p : ℕ → Bool) → ((b : ℕ) → 128 ≤ b → p b ≡ false) → (l : List ℕ) → all p l ≡ true → Fit (each 7 l)
+fit-chars : (rs : List Range) → all (λ r. leb (r .to) 127) rs ≡ true → (l : List ℕ) → all (inRanges rs) l ≡ true → Fit (each 7 l)
 unfolding all
-fit-chars p h [] e = tt
-fit-chars p h (b ∷ l) e = (low p h b (and-left (p b) _ e), fit-chars p h l (and-right (p b) _ e))
+fit-chars rs h [] e = tt
+fit-chars rs h (b ∷ l) e =
+    let k = ranges-below rs 127 b h (and-left (inRanges rs b) _ e) in
+    (omega arith, fit-chars rs h l (and-right (inRanges rs b) _ e))
 
-alnum-low : (b : ℕ) → 128 ≤ b → isAlnum b ≡ false
-alnum-low b h =
-    rw (lt-leb b 90 (omega arith), lt-leb b 122 (omega arith), lt-leb b 57 (omega arith), and-false (leb 65 b), and-false (leb 97 b), and-false (leb 48 b))
-
-id-low : (b : ℕ) → 128 ≤ b → idChar b ≡ false
-id-low b h = rw (lt-leb b 126 (omega arith), and-false (leb 33 b))
-
-one-of-lt : (k : ℕ) (l : List ℕ) (n : ℕ) → all (λ m. ltb m k) l ≡ true → isOneOf l n ≡ true → n < k
-unfolding all any
-one-of-lt k [] n a e = absurd (false≢true e)
-one-of-lt k (m ∷ l) n a e = go (eqb m n) refl (one-of-lt k l n (and-right (ltb m k) _ a))
-  where
-    go : (b : Bool) → eqb m n ≡ b → (isOneOf l n ≡ true → n < k) → n < k
-    go true q ih = subst (λ (z : ℕ). z < k) (eqb-true m n q) (ltb-true m k (and-left (ltb m k) _ a))
-    go false q ih = ih (rw q at e)
-
-region-lt : (n : ℕ) → isOneOf regions n ≡ true → n < 256
+region-lt : (n : ℕ) → inRanges regions n ≡ true → n < 256
 unfolding all
-region-lt n e = one-of-lt 256 regions n refl e
+region-lt n e = let k = ranges-below regions 200 n refl e in omega arith
 
 -- ---- lengths, contents, date
 
@@ -76,31 +56,31 @@ undated-other t e = rw e
 
 module _ (region asl date id : List ℕ) where
   -- a region's text is allowed where its number is
-  region-is : isOneOf regions (regionOf region) ≡ ((eqb (length region) 3 && all isDigit region) && isOneOf regions (decimal region))
+  region-is : inRanges regions (regionOf region) ≡ ((eqb (length region) 3 && all isDigit region) && inRanges regions (decimal region))
   unfolding any
   region-is = go (eqb (length region) 3 && all isDigit region)
     where
-      go : (b : Bool) → isOneOf regions (cond b (decimal region) 0) ≡ (b && isOneOf regions (decimal region))
+      go : (b : Bool) → inRanges regions (cond b (decimal region) 0) ≡ (b && inRanges regions (decimal region))
       go true = refl
       go false = refl
 
-  texts-are : textsAllowed region asl date id ≡ (isOneOf regions (regionOf region) && ((eqb (length asl) 3 && all isAlnum asl) && (isDate date && (eqb (length id) 88 && all idChar id))))
+  texts-are : textsAllowed region asl date id ≡ (inRanges regions (regionOf region) && ((eqb (length asl) 3 && all (inRanges alnums) asl) && (isDate date && (eqb (length id) 88 && all (inRanges idChars) id))))
   texts-are = rw region-is
 
   pub lengths-bad : not (eqb (length asl) 3) || (not (eqb (length date) 10) || not (eqb (length id) 88)) ≡ true → false ≡ textsAllowed region asl date id
   lengths-bad h = sym (texts-are ∙ go (eqb (length asl) 3) (eqb (length date) 10) refl (eqb (length id) 88) h)
     where
       go : (a d : Bool) → eqb (length date) 10 ≡ d → (i : Bool) → not a || (not d || not i) ≡ true →
-          isOneOf regions (regionOf region) && ((a && all isAlnum asl) && (isDate date && (i && all idChar id))) ≡ false
-      go false d q i h = and-false (isOneOf regions (regionOf region))
+          inRanges regions (regionOf region) && ((a && all (inRanges alnums) asl) && (isDate date && (i && all (inRanges idChars) id))) ≡ false
+      go false d q i h = and-false (inRanges regions (regionOf region))
       go true false q i h =
-          rw (undated-other date q, and-false (all isAlnum asl)) (and-false (isOneOf regions (regionOf region)))
+          rw (undated-other date q, and-false (all (inRanges alnums) asl)) (and-false (inRanges regions (regionOf region)))
       go true true q false h =
-          rw (and-false (isDate date), and-false (all isAlnum asl)) (and-false (isOneOf regions (regionOf region)))
+          rw (and-false (isDate date), and-false (all (inRanges alnums) asl)) (and-false (inRanges regions (regionOf region)))
       go true true q true h = absurd (false≢true h)
 
   module _ (fit : not (eqb (length asl) 3) || (not (eqb (length date) 10) || not (eqb (length id) 88)) ≡ false)
-      (number : ℕ) (listed good chars : Bool) (en : number ≡ regionOf region) (el : listed ≡ isOneOf regions number) (eg : good ≡ all isAlnum asl) (ec : chars ≡ all idChar id) where
+      (number : ℕ) (listed good chars : Bool) (en : number ≡ regionOf region) (el : listed ≡ inRanges regions number) (eg : good ≡ all (inRanges alnums) asl) (ec : chars ≡ all (inRanges idChars) id) where
     sizes : (eqb (length asl) 3 ≡ true) × (eqb (length date) 10 ≡ true) × (eqb (length id) 88 ≡ true)
     sizes = three-true (eqb (length asl) 3) (eqb (length date) 10) (eqb (length id) 88) fit
 
@@ -161,14 +141,15 @@ module _ (region asl date id : List ℕ) where
         day-lt : day < dayCount
         day-lt = subst (λ (d : Date). okDate date 0 d) is ok .0
 
-        pub key-fits : KeyFits (keyOf number asl day id)
+        pub key-fits : KeyFits (keyWith number asl day id)
+        unfolding all
         key-fits =
             record {
               region = region-lt number (sym el ∙ is-listed);
-              asl = fit-chars isAlnum alnum-low asl (sym eg ∙ is-good);
+              asl = fit-chars alnums refl asl (sym eg ∙ is-good);
               asl-length = eqb-true (length asl) 3 (sizes .0);
               taken = let l = day-lt in omega arith;
-              id = fit-chars idChar id-low id (sym ec ∙ is-chars);
+              id = fit-chars idChars refl id (sym ec ∙ is-chars);
               id-length = eqb-true (length id) 88 (sizes .2);
             }
 
@@ -178,11 +159,11 @@ module _ (region asl date id : List ℕ) where
             go : (b : Bool) → (eqb (length region) 3 && all isDigit region) ≡ b → cond b (decimal region) 0 ≡ decimal region
             go true e = refl
             go false e =
-                absurd (false≢true (sym (region-is ∙ rw e) ∙ sym (el ∙ ap (isOneOf regions) en) ∙ is-listed))
+                absurd (false≢true (sym (region-is ∙ rw e) ∙ sym (el ∙ ap (inRanges regions) en) ∙ is-listed))
 
-        pub key-made : (out : List ℕ) (n : ℕ) → n ≡ 91 → num out ≡ rowNumber n (keyFields (keyOf number asl day id)) → search.keyOf 91 662 out ≡ keyNumber (keyOfTexts region asl date id)
-        unfolding search.keyOf
+        pub key-made : (out : List ℕ) (n : ℕ) → n ≡ rowBytes → num out ≡ rowNumber n (keyFields (keyWith number asl day id)) → search.probeKey rowBytes keyBits out ≡ keyNumber (keyOfTexts region asl date id)
+        unfolding search.probeKey
         key-made out n l e =
-            ap (λ (z : ℕ). z / 2 ^ 66) (e ∙ ap (λ (k : ℕ). rowNumber k (keyFields (keyOf number asl day id))) l ∙ ap (λ (w : ℕ). packs (keyFields (keyOf number asl day id)) 0 * 2 ^ (8 * 91 - w)) (key-width (keyOf number asl day id) key-fits))
-            ∙ shl-shr (packs (keyFields (keyOf number asl day id)) 0) 66
-            ∙ ap₂ (λ (a d : ℕ). keyNumber (keyOf a asl d id)) number-is (day-read .1)
+            ap (λ (z : ℕ). z / 2 ^ 66) (e ∙ ap (λ (k : ℕ). rowNumber k (keyFields (keyWith number asl day id))) l ∙ ap (λ (w : ℕ). packs (keyFields (keyWith number asl day id)) 0 * 2 ^ (8 * rowBytes - w)) (key-width (keyWith number asl day id) key-fits))
+            ∙ shl-shr (packs (keyFields (keyWith number asl day id)) 0) 66
+            ∙ ap₂ (λ (a d : ℕ). keyNumber (keyWith a asl d id)) number-is (day-read .1)

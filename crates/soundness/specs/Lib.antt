@@ -1,2 +1,3 @@
 pub mod View
 pub mod Walk
+pub mod Sound

@@ -1,5 +1,5 @@
 -- What the code's answers say.
-use Rattle.register.specs.Calls.{Found}
+use Rattle.soundness.specs.Sound.{Found}
 use Rattle.soundness.specs.declared.find.Lookup.{Lookup}
 use Rattle.soundness.specs.declared.find.Lookup.the-variants.{At, Unsound, Nowhere}
 

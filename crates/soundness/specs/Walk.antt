@@ -6,8 +6,10 @@ use lib.Dec.{eqb}
 use lib.ListN.{length}
 use Rattle.laws.specs.Lists.{all}
 use Rattle.model.specs.Map.{Map}
-use Rattle.register.specs.Layout.{siad, caseOf}
-use Rattle.register.specs.Sound.{Rules, ascending, siadRules}
+use Rattle.register.specs.Layout.{caseNamed}
+use Rattle.register.specs.Sound.{Rules, ascending}
+use Rattle.home_care.specs.Row.{siad}
+use Rattle.soundness.specs.Sound.{siadRules}
 use Rattle.soundness.specs.declared.together.Run.{Run}
 use Rattle.soundness.specs.declared.together.Run.the-variants.{End, Bad}
 
@@ -22,4 +24,4 @@ goodRun rules c m = all (rules .event-row) m && (ascending m && rules .together 
 
 -- the answer for the case c and the rows m, of which the first is row j: the row at which its events end, where they are good
 abbrev pub ran : ℕ → ℕ → Map ℕ → Run
-ran c j m = cond (goodRun siadRules c (runOf (caseOf siad) c m)) (End (j + length (runOf (caseOf siad) c m))) Bad
+ran c j m = cond (goodRun siadRules c (runOf (caseNamed siad) c m)) (End (j + length (runOf (caseNamed siad) c m))) Bad

@@ -1,25 +1,26 @@
 // Finding a case by the texts of its key (document 01, "What is built").
 ghost use mathlib.Core.Path.{_≡_};
 ghost use mathlib.Core.Bool.{true, cond, _&&_};
-ghost use Prim.Native.Nat.{_-_, _≤_, _<_};
+ghost use Prim.Native.Nat.{_≤_};
 ghost use lib.Dec.{eqb, ltb};
 ghost use lib.ListN.{length};
 ghost use Rattle.laws.specs.Decimal.{decimal, isDigit};
 ghost use Rattle.laws.specs.Lists.{all};
 ghost use Rattle.days.specs.Table.{Firsts};
-ghost use Rattle.rows.specs.Row.{rowBytes, keyBits, keyNumber};
 ghost use Rattle.model.specs.Map.{has, keep};
-ghost use Rattle.register.specs.Bytes.{rowAt, casesHeld, stateOf};
-ghost use Rattle.register.specs.Calls.{textsAllowed, keyOfTexts, found};
-ghost use Rattle.register.specs.Layout.{siad};
-ghost use Rattle.register.specs.Search.{keyOf};
+ghost use Rattle.register.specs.Layout.{rowAt, casesHeld};
+ghost use Rattle.register.specs.State.{stateOf};
+ghost use Rattle.register.specs.Search.{probeKey};
 ghost use Rattle.register.specs.Sound.{ascending};
+ghost use Rattle.home_care.specs.Row.{rowBytes, keyBits, keyNumber, siad};
+ghost use Rattle.soundness.specs.Sound.{textsAllowed, keyOfTexts, found};
 ghost use Rattle.soundness.specs.View.{viewFind};
 use crate::sound::sound;
+use codes::digits::read_digits;
 use days::dates::Date;
+use home_care::layout::CASE_KEY;
+use home_care::layout::ROW;
 use register::counts::count;
-use register::layout::CASE_KEY;
-use register::layout::ROW;
 use register::search::place;
 use register::search::stands;
 
@@ -29,19 +30,6 @@ pub enum Lookup {
     Nowhere,
 }
 
-// The value of a digit, and 10 for any other byte.
-fn digit(b: u8) -> u64
-    ensures { λ r. ⌜ (r ≡ cond (isDigit b) (b - 48) 10) × (r ≤ 10) ⌝ }
-{
-    if b < b'0' {
-        return 10;
-    }
-    if b'9' < b {
-        return 10;
-    }
-    (b - b'0') as u64
-}
-
 // The number of a text of three digits; 0, which is no region, for any other text.
 fn region_of(s: &[u8]) -> u64
     ensures { λ r. ⌜ r ≡ cond (eqb (length (now (s .entry))) 3 && all isDigit (now (s .entry))) (decimal (now (s .entry))) 0 ⌝ }
@@ -49,21 +37,19 @@ fn region_of(s: &[u8]) -> u64
     if s.len() != 3 {
         return 0;
     }
-    let a = digit(s[0]);
-    let b = digit(s[1]);
-    let c = digit(s[2]);
-    if (9 < a) | ((9 < b) | (9 < c)) {
+    let read = read_digits(s, 9999);
+    if !read.good {
         return 0;
     }
-    (a * 10 + b) * 10 + c
+    read.number
 }
 
 // The case with the probe's key.
 fn find_key(reg: &[u8], probe: &[u8]) -> Lookup
     requires { ⌜ (4 ≤ length (now reg)) × (rowAt siad (casesHeld (now reg)) ≤ length (now reg)) × (length (now probe) ≡ rowBytes) ⌝ }
     ensures { λ r. ⌜ (ascending (stateOf siad (now (reg .entry)) .cases) ≡ true
-        → viewFind r ≡ cond (has (keyOf rowBytes keyBits (now (probe .entry))) (stateOf siad (now (reg .entry)) .cases))
-        (record { answer = 0; place = rowAt siad (length (keep (λ k. ltb k (keyOf rowBytes keyBits (now (probe .entry)))) (stateOf siad (now (reg .entry)) .cases))) })
+        → viewFind r ≡ cond (has (probeKey rowBytes keyBits (now (probe .entry))) (stateOf siad (now (reg .entry)) .cases))
+        (record { answer = 0; place = rowAt siad (length (keep (λ k. ltb k (probeKey rowBytes keyBits (now (probe .entry)))) (stateOf siad (now (reg .entry)) .cases))) })
         (record { answer = 30; place = 0 })) ⌝ }
 {
     let cases = count(reg, 0);
@@ -85,7 +71,7 @@ fn probe_of(
 ) -> bool
     requires { ⌜ Firsts (now t) × (length (now out) ≡ rowBytes) ⌝ }
     ensures { λ r. ⌜ (r ≡ textsAllowed (now (region .entry)) (now (asl .entry)) (now (date .entry)) (now (id .entry)))
-        × (r ≡ true → keyOf rowBytes keyBits (now (out .exit)) ≡ keyNumber (keyOfTexts (now (region .entry)) (now (asl .entry)) (now (date .entry)) (now (id .entry)))) ⌝ }
+        × (r ≡ true → probeKey rowBytes keyBits (now (out .exit)) ≡ keyNumber (keyOfTexts (now (region .entry)) (now (asl .entry)) (now (date .entry)) (now (id .entry)))) ⌝ }
 {
     if (asl.len() != 3) | ((date.len() != 10) | (id.len() != 88)) {
         return false;
@@ -98,7 +84,7 @@ fn probe_of(
     let read = days::dates::read_date(t, date, 0);
     match read {
         Date::Day { day, next: _ } => {
-            rows::pack::pack_key(out, number, asl, day as u64, id);
+            home_care::pack::pack_key(out, number, asl, day as u64, id);
             true
         }
         Date::Refused => false,

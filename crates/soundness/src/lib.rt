@@ -1,7 +1,4 @@
 // The register is sound or it is not; a case is found in it (document 01, "The register", "What is built").
-pub mod allowed;
-pub mod fields;
 pub mod find;
 pub mod sound;
-pub mod texts;
 pub mod together;

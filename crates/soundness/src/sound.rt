@@ -5,19 +5,22 @@ ghost use Prim.Native.Nat.{_+_, _-_, _/_, _^_, _≤_};
 ghost use lib.Dec.{eqb, ltb};
 ghost use lib.ListN.{length};
 ghost use Rattle.days.specs.Table.{Firsts};
-ghost use Rattle.register.specs.Allowed.{caseRowAllowed};
-ghost use Rattle.register.specs.Bytes.{room, rowAt, rowIn, split, casesFrom, eventsFrom};
-ghost use Rattle.register.specs.Layout.{siad, caseRest};
-ghost use Rattle.register.specs.Sound.{valid, siadRules, isSound};
-use crate::allowed::case_row_allowed;
-use crate::fields::row_at;
-use crate::texts::all_zero;
+ghost use Rattle.register.specs.Layout.{room, rowAt, rowIn, caseRest};
+ghost use Rattle.register.specs.State.{split, casesFrom, eventsFrom};
+ghost use Rattle.register.specs.Sound.{valid};
+ghost use Rattle.home_care.specs.Allowed.{caseRowAllowed};
+ghost use Rattle.home_care.specs.Row.{siad};
+ghost use Rattle.soundness.specs.Sound.{siadRules, isSound};
 use crate::together::Run;
 use crate::together::case_events;
+use home_care::allowed::case_row_allowed;
+use home_care::layout::CASE_KEY;
+use home_care::layout::ROW;
+use home_care::row::row_at;
+use home_care::texts::all_zero;
 use register::counts::count;
-use register::layout::CASE_KEY;
-use register::layout::ROW;
 use register::search::below;
+use register::store::MOST;
 
 // The rows that a register of that many bytes has room for.
 pub fn room_of(len: usize) -> usize
@@ -27,8 +30,8 @@ pub fn room_of(len: usize) -> usize
         return 0;
     }
     let fit = (len - 4) / ROW;
-    if 4096 < fit {
-        return 4096;
+    if MOST < fit {
+        return MOST;
     }
     fit
 }

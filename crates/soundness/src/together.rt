@@ -4,23 +4,26 @@ ghost use mathlib.Core.Bool.{cond, not, _&&_};
 ghost use Prim.Native.Nat.{_+_, _-_, _/_, _^_, _≤_, _<_, max};
 ghost use lib.Dec.{eqb, ltb, leb};
 ghost use lib.ListN.{length};
-ghost use Rattle.rows.specs.Row.{never};
-ghost use Rattle.register.specs.Layout.{siad, caseRest};
-ghost use Rattle.register.specs.Bytes.{rowAt, rowIn, eventsFrom};
-ghost use Rattle.register.specs.Fields.{dateOf, endOf, eventKeyOf};
-ghost use Rattle.register.specs.Events.{isSuspension, isConclusion, shareDay};
+ghost use Rattle.register.specs.Layout.{caseRest, rowAt, rowIn};
+ghost use Rattle.register.specs.State.{eventsFrom};
+ghost use Rattle.home_care.specs.Row.{never, siad, dateOf, endOf, eventKeyOf};
+ghost use Rattle.home_care.specs.Anomalies.{isSuspension, isConclusion, shareDay};
 ghost use Rattle.soundness.specs.Walk.{ran};
-use crate::allowed::event_of;
-use crate::allowed::event_row_allowed;
-use crate::fields::date_of;
-use crate::fields::end_of;
-use crate::fields::event_key_of;
-use crate::fields::kind_of;
-use crate::fields::row_at;
-use register::layout::CASE_KEY;
-use register::layout::NEVER;
-use register::layout::ROW;
-use register::layout::TAKEN;
+use codes::lists::CONCLUSION;
+use codes::lists::SUSPENSION;
+use home_care::allowed::event_row_allowed;
+use home_care::event::date_of;
+use home_care::event::end_of;
+use home_care::event::event_key_of;
+use home_care::event::event_of;
+use home_care::event::kind_of;
+use home_care::event::share_day;
+use home_care::layout::CASE_KEY;
+use home_care::layout::DAY_BITS;
+use home_care::layout::NEVER;
+use home_care::layout::ROW;
+use home_care::layout::TAKEN;
+use home_care::row::row_at;
 use register::search::stands;
 
 // What a case's events so far ask of the next: the least key, the event before it and the latest day; zeros at first.
@@ -34,16 +37,6 @@ struct Before {
 pub enum Run {
     End(usize),
     Bad,
-}
-
-// Whether two suspensions share a day.
-pub fn share_day(a: u64, b: u64) -> bool
-    ensures { λ r. ⌜ r ≡ shareDay a b ⌝ }
-{
-    let both = (kind_of(a) == 2) & (kind_of(b) == 2);
-    let before = date_of(a) <= end_of(b);
-    let after = date_of(b) <= end_of(a);
-    both & (before & after)
 }
 
 fn larger(a: u64, b: u64) -> u64
@@ -79,8 +72,10 @@ fn fits_after(taken: u64, b: Before, e: u64) -> bool
     let shared = share_day(b.prev, e);
     (b.least <= event_key_of(e))
         & ((taken <= date)
-            & (!((kind == 2) & (end < date))
-                & (!shared & (!((last == 3) & (kind == 3)) & !((kind == 3) & (date < b.latest))))))
+            & (!((kind == SUSPENSION) & (end < date))
+                & (!shared
+                    & (!((last == CONCLUSION) & (kind == CONCLUSION))
+                        & !((kind == CONCLUSION) & (date < b.latest))))))
 }
 
 // What is asked of the next event once e is passed.
@@ -102,7 +97,7 @@ pub fn case_events(reg: &[u8], i: usize, j: usize, rows: usize) -> Run
     ensures { λ r. ⌜ r ≡ ran (rowIn siad (now (reg .entry)) i / 2 ^ caseRest siad) j (eventsFrom siad (now (reg .entry)) j (rows - j)) ⌝ }
 {
     let case = row_at(reg, i);
-    let taken = rows::reader::get(case, TAKEN, 17);
+    let taken = rows::reader::get(case, TAKEN, DAY_BITS);
     let mut b = Before {
         least: 0,
         prev: 0,

@@ -5,30 +5,32 @@ use mathlib.Core.Path.{_≡_, refl, ap}
 use mathlib.Core.Bool.{Bool, true}
 use mathlib.Core.List.{List, [], _∷_}
 use mathlib.Core.Logic.{_⊎_, inl, inr}
-use Rattle.codes.specs.Chars.{isLetter}
 use native.Mathlib.Omega.{arith}
 use lib.Dec.{leb}
 use borrow.Author.Tests.{leb-true, le-leb}
-use Rattle.laws.specs.Decimal.{isDigit, decimalAfter, decimal}
+use Rattle.laws.specs.Decimal.{decimalAfter, decimal}
 use Rattle.laws.specs.Lists.{all, same}
 use Rattle.laws.specs.Text.{bytes}
+use Rattle.codes.specs.Ranges.{Range, inRanges}
+use Rattle.codes.specs.Chars.{letters, alnums}
 use Rattle.markup.specs.Elements.{Tree}
-use Rattle.schema.specs.Texts.{Range, inRanges, Texts, chars, fitsText}
-use Rattle.schema.specs.Schema.{Head, Node, leaf, group, another, Nodes, none, _▸_}
+use Rattle.schema.specs.Texts.{Texts, chars, fitsText}
+use Rattle.schema.specs.Schema.{Particle, Node, leaf, group, another, Nodes, none, _▸_}
 use Rattle.nodes.specs.Lookup.{childOf, textOf}
 use Rattle.nodes.proofs.Present.{nodeOf, only, owed, MayLack, lacks, has, child-one, child-maybe}
 use Rattle.nodes.proofs.Fields.{attrNamed}
 use Rattle.nodes.proofs.Legible.{Legible}
-use Rattle.tracks.specs.Types
-use Rattle.tracks.specs.Track1
+use Rattle.schemas.specs.FieldTexts
+use Rattle.schemas.specs.Parts
+use Rattle.schemas.specs.Track1
 use Rattle.tracks.specs.Record.{_▹_, admissionOf, headOf}
-use Rattle.tracks.specs.WellRead.{HeadRead, CaseRead, ResidenceRead, AdmissionRead, PrevalenteRead, Spelled}
-use Rattle.tracks.proofs.Sets.{digit-in, alnum-in, letter-in, residence-in, upto-three, upto-two}
-use Rattle.tracks.proofs.Texts.{spelled, one-digit, wide-fit, digits-below}
+use Rattle.tracks.specs.WellRead.{WellHead, WellCase, WellResidence, WellAdmission, WellPrevalente, Spelled}
+use Rattle.tracks.proofs.Sets.{written-below}
+use Rattle.tracks.proofs.Texts.{spelled, one-digit, wide-fit, four-digits}
 use Rattle.tracks.proofs.Paths.{Clean, far, text-fits, head-read, prevalente-read}
 
 -- a scale that may be missing: its number passes a test that 0 passes
-scale-read : {h : Head} {ns : Nodes} {t : Tree} (m : Clean (group h ns) t) (x : List ℕ) (d : Head) (rs : List Range) (q : ℕ → Bool) → nodeOf x ns ≡ only (leaf d (chars rs 1 1))
+scale-read : {h : Particle} {ns : Nodes} {t : Tree} (m : Clean (group h ns) t) (x : List ℕ) (d : Particle) (rs : List Range) (q : ℕ → Bool) → nodeOf x ns ≡ only (leaf d (chars rs 1 1))
     → ((b : ℕ) → inRanges rs b ≡ true → q (b - code "0") ≡ true) → q 0 ≡ true → q (decimal (textOf (childOf x t))) ≡ true
 unfolding decimalAfter
 scale-read {t = t} m x d rs q e h z = go (child-maybe Legible far m x (leaf d (chars rs 1 1)) e)
@@ -57,16 +59,16 @@ valued-nodes = inside Track1.valutazione
 -- ---- the groups on the way
 
 module _ (a : Tree) (m : Clean Track1.assistenza a) where
-  trasmissione : Clean Types.trasmissione (a ▹ "Trasmissione")
+  trasmissione : Clean Parts.trasmissione (a ▹ "Trasmissione")
   unfolding nodeOf owed same
-  trasmissione = child-one Legible far m (bytes "Trasmissione") Types.trasmissione refl refl
+  trasmissione = child-one Legible far m (bytes "Trasmissione") Parts.trasmissione refl refl
 
-  erogatore : Clean Types.erogatore (a ▹ "Erogatore")
+  erogatore : Clean Parts.erogatore (a ▹ "Erogatore")
   unfolding nodeOf owed same
-  erogatore = child-one Legible far m (bytes "Erogatore") Types.erogatore refl refl
+  erogatore = child-one Legible far m (bytes "Erogatore") Parts.erogatore refl refl
 
   abbrev eventi : Node
-  eventi = Types.all-of "Eventi" [] (Track1.presaInCarico ▸ Track1.valutazione ▸ none)
+  eventi = Parts.all-of "Eventi" [] (Track1.presaInCarico ▸ Track1.valutazione ▸ none)
 
   events : Clean eventi (a ▹ "Eventi")
   unfolding nodeOf owed same
@@ -80,9 +82,9 @@ module _ (a : Tree) (m : Clean Track1.assistenza a) where
   unfolding nodeOf owed same
   value = child-one Legible far events (bytes "Valutazione") Track1.valutazione refl refl
 
-  disturbi : Clean (Types.all-of "Disturbi" [] Types.disturbi) (a ▹ "Eventi" ▹ "Valutazione" ▹ "Disturbi")
+  disturbi : Clean (Parts.all-of "Disturbi" [] Parts.disturbi) (a ▹ "Eventi" ▹ "Valutazione" ▹ "Disturbi")
   unfolding nodeOf owed same
-  disturbi = child-one Legible far value (bytes "Disturbi") (Types.all-of "Disturbi" [] Types.disturbi) refl refl
+  disturbi = child-one Legible far value (bytes "Disturbi") (Parts.all-of "Disturbi" [] Parts.disturbi) refl refl
 
   assistito : Clean Track1.assistito (a ▹ "Assistito")
   unfolding nodeOf owed same
@@ -90,19 +92,19 @@ module _ (a : Tree) (m : Clean Track1.assistenza a) where
 
   abbrev persona : Nodes
   persona =
-      Types.one "CUNI" Types.cuni ▸
-      Types.one "validitaCI" Types.validitaCI ▸
-      Types.one "tipologiaCI" Types.tipologiaCI ▸
-      Types.one "AnnoNascita" Types.anno ▸
-      Types.one "Genere" Types.genere ▸
-      Types.one "Cittadinanza" Types.cittadinanza ▸
-      Types.one "StatoCivile" Types.statoCivile ▸
+      Parts.one "CUNI" FieldTexts.cuni ▸
+      Parts.one "validitaCI" FieldTexts.validitaCI ▸
+      Parts.one "tipologiaCI" FieldTexts.tipologiaCI ▸
+      Parts.one "AnnoNascita" FieldTexts.anno ▸
+      Parts.one "Genere" FieldTexts.genere ▸
+      Parts.one "Cittadinanza" FieldTexts.cittadinanza ▸
+      Parts.one "StatoCivile" FieldTexts.statoCivile ▸
       Track1.residenza ▸
       none
 
-  person : Clean (Types.all-of "DatiAnagrafici" [] persona) (a ▹ "Assistito" ▹ "DatiAnagrafici")
+  person : Clean (Parts.all-of "DatiAnagrafici" [] persona) (a ▹ "Assistito" ▹ "DatiAnagrafici")
   unfolding nodeOf owed same
-  person = child-one Legible far assistito (bytes "DatiAnagrafici") (Types.all-of "DatiAnagrafici" [] persona) refl refl
+  person = child-one Legible far assistito (bytes "DatiAnagrafici") (Parts.all-of "DatiAnagrafici" [] persona) refl refl
 
   home : Clean Track1.residenza (a ▹ "Assistito" ▹ "DatiAnagrafici" ▹ "Residenza")
   unfolding nodeOf owed same
@@ -110,50 +112,50 @@ module _ (a : Tree) (m : Clean Track1.assistenza a) where
 
   -- ---- the fields
 
-  pub head-1 : HeadRead (headOf a)
+  pub head-1 : WellHead (headOf a)
   unfolding attrNamed same
   head-1 = head-read a trasmissione erogatore presa refl
 
-  anno : Clean (Types.one "AnnoNascita" Types.anno) (a ▹ "Assistito" ▹ "DatiAnagrafici" ▹ "AnnoNascita")
+  anno : Clean (Parts.one "AnnoNascita" FieldTexts.anno) (a ▹ "Assistito" ▹ "DatiAnagrafici" ▹ "AnnoNascita")
   unfolding nodeOf owed same
-  anno = child-one Legible far person (bytes "AnnoNascita") (Types.one "AnnoNascita" Types.anno) refl refl
+  anno = child-one Legible far person (bytes "AnnoNascita") (Parts.one "AnnoNascita" FieldTexts.anno) refl refl
 
   -- a leaf of the residence that must come
-  at-home : (x : List ℕ) (d : Head) (y : Texts) → nodeOf x residence-nodes ≡ only (leaf d y) → owed x residence-nodes 0 ≡ true
+  at-home : (x : List ℕ) (d : Particle) (y : Texts) → nodeOf x residence-nodes ≡ only (leaf d y) → owed x residence-nodes 0 ≡ true
       → fitsText y (textOf (childOf x (a ▹ "Assistito" ▹ "DatiAnagrafici" ▹ "Residenza"))) ≡ true
   at-home x d y e o = text-fits (child-one Legible far home x (leaf d y) e o)
 
-  stato : (textOf (a ▹ "Assistito" ▹ "DatiAnagrafici" ▹ "Residenza" ▹ "StatoEstero") ≡ []) ⊎ Spelled isLetter 2 (textOf (a ▹ "Assistito" ▹ "DatiAnagrafici" ▹ "Residenza" ▹ "StatoEstero"))
+  stato : (textOf (a ▹ "Assistito" ▹ "DatiAnagrafici" ▹ "Residenza" ▹ "StatoEstero") ≡ []) ⊎ Spelled (inRanges letters) 2 (textOf (a ▹ "Assistito" ▹ "DatiAnagrafici" ▹ "Residenza" ▹ "StatoEstero"))
   unfolding nodeOf same
-  stato = go (child-maybe Legible far home (bytes "StatoEstero") (Types.maybe "StatoEstero" Types.statoEstero) refl)
+  stato = go (child-maybe Legible far home (bytes "StatoEstero") (Parts.maybe "StatoEstero" FieldTexts.statoEstero) refl)
     where
-      go : MayLack Legible (Types.maybe "StatoEstero" Types.statoEstero) (bytes "StatoEstero") (a ▹ "Assistito" ▹ "DatiAnagrafici" ▹ "Residenza")
-          → (textOf (a ▹ "Assistito" ▹ "DatiAnagrafici" ▹ "Residenza" ▹ "StatoEstero") ≡ []) ⊎ Spelled isLetter 2 (textOf (a ▹ "Assistito" ▹ "DatiAnagrafici" ▹ "Residenza" ▹ "StatoEstero"))
+      go : MayLack Legible (Parts.maybe "StatoEstero" FieldTexts.statoEstero) (bytes "StatoEstero") (a ▹ "Assistito" ▹ "DatiAnagrafici" ▹ "Residenza")
+          → (textOf (a ▹ "Assistito" ▹ "DatiAnagrafici" ▹ "Residenza" ▹ "StatoEstero") ≡ []) ⊎ Spelled (inRanges letters) 2 (textOf (a ▹ "Assistito" ▹ "DatiAnagrafici" ▹ "Residenza" ▹ "StatoEstero"))
       go (lacks u v) = inl (ap textOf v)
-      go (has u v) = inr (spelled Types.letters isLetter 2 (textOf (a ▹ "Assistito" ▹ "DatiAnagrafici" ▹ "Residenza" ▹ "StatoEstero")) letter-in (text-fits v))
+      go (has u v) = inr (spelled letters 2 (textOf (a ▹ "Assistito" ▹ "DatiAnagrafici" ▹ "Residenza" ▹ "StatoEstero")) (text-fits v))
 
-  residence-read : ResidenceRead (admissionOf a .residence)
+  residence-read : WellResidence (admissionOf a .residence)
   unfolding nodeOf owed same
   residence-read =
-      let r = wide-fit 3 _ (textOf (a ▹ "Assistito" ▹ "DatiAnagrafici" ▹ "Residenza" ▹ "Regione")) (at-home (bytes "Regione") _ Types.regioneResidenza refl refl) in
+      let r = wide-fit 3 _ (textOf (a ▹ "Assistito" ▹ "DatiAnagrafici" ▹ "Residenza" ▹ "Regione")) (at-home (bytes "Regione") _ FieldTexts.regioneResidenza refl refl) in
       record {
         region = r .0;
-        listed = residence-in _ (r .1);
-        asl = spelled Types.alnums _ 3 _ alnum-in (at-home (bytes "ASL") _ Types.codASL refl refl);
-        comune = spelled Types.alnums _ 6 _ alnum-in (at-home (bytes "Comune") _ Types.comune refl refl);
+        listed = r .1;
+        asl = spelled alnums 3 _ (at-home (bytes "ASL") _ FieldTexts.codASL refl refl);
+        comune = spelled alnums 6 _ (at-home (bytes "Comune") _ FieldTexts.comune refl refl);
         stato = stato;
       }
 
-  three : (x : List ℕ) (d : Head) → nodeOf x valued-nodes ≡ only (leaf d Types.autonomia) → leb (decimal (textOf (childOf x (a ▹ "Eventi" ▹ "Valutazione")))) 3 ≡ true
-  three x d e = scale-read value x d _ (λ n. leb n 3) e upto-three refl
+  three : (x : List ℕ) (d : Particle) → nodeOf x valued-nodes ≡ only (leaf d FieldTexts.autonomia) → leb (decimal (textOf (childOf x (a ▹ "Eventi" ▹ "Valutazione")))) 3 ≡ true
+  three x d e = scale-read value x d _ (λ n. leb n 3) e (written-below 1 3) refl
 
-  troubled : (x : List ℕ) (d : Head) → nodeOf x Types.disturbi ≡ only (leaf d Types.disturbo)
+  troubled : (x : List ℕ) (d : Particle) → nodeOf x Parts.disturbi ≡ only (leaf d FieldTexts.disturbo)
       → leb (decimal (textOf (childOf x (a ▹ "Eventi" ▹ "Valutazione" ▹ "Disturbi")))) 3 ≡ true
-  troubled x d e = scale-read disturbi x d _ (λ n. leb n 3) e upto-three refl
+  troubled x d e = scale-read disturbi x d _ (λ n. leb n 3) e (written-below 1 3) refl
 
   risk : leb (decimal (textOf (a ▹ "Eventi" ▹ "Valutazione" ▹ "RischioInfettivo"))) 2 ≡ true
   unfolding nodeOf same
-  risk = scale-read value (bytes "RischioInfettivo") _ _ (λ n. leb n 2) refl upto-two refl
+  risk = scale-read value (bytes "RischioInfettivo") _ _ (λ n. leb n 2) refl (written-below 1 2) refl
 
   risk-three : leb (decimal (textOf (a ▹ "Eventi" ▹ "Valutazione" ▹ "RischioInfettivo"))) 3 ≡ true
   risk-three =
@@ -162,9 +164,7 @@ module _ (a : Tree) (m : Clean Track1.assistenza a) where
       le-leb n 3 (omega arith)
 
   birth : decimal (textOf (a ▹ "Assistito" ▹ "DatiAnagrafici" ▹ "AnnoNascita")) < 10000
-  birth =
-      let s = spelled _ isDigit 4 (textOf (a ▹ "Assistito" ▹ "DatiAnagrafici" ▹ "AnnoNascita")) digit-in (text-fits anno) in
-      rw (s .long) at (digits-below (textOf (a ▹ "Assistito" ▹ "DatiAnagrafici" ▹ "AnnoNascita")) (s .bytes))
+  birth = four-digits (textOf (a ▹ "Assistito" ▹ "DatiAnagrafici" ▹ "AnnoNascita")) (text-fits anno)
 
   scales-read : all (λ n. leb n 3) (admissionOf a .case .scales) ≡ true
   unfolding nodeOf same
@@ -172,11 +172,11 @@ module _ (a : Tree) (m : Clean Track1.assistenza a) where
       six-below _ _ _ _ _ _ (three (bytes "Autonomia") _ refl) (three (bytes "GradoMobilita") _ refl) (troubled (bytes "Cognitivi") _ refl)
       (troubled (bytes "Comportamentali") _ refl) (three (bytes "SupportoSociale") _ refl) risk-three
 
-  prevalente : PrevalenteRead (textOf (a ▹ "Eventi" ▹ "Valutazione" ▹ "Patologia" ▹ "Prevalente"))
+  prevalente : WellPrevalente (textOf (a ▹ "Eventi" ▹ "Valutazione" ▹ "Patologia" ▹ "Prevalente"))
   unfolding nodeOf same
   prevalente = prevalente-read value refl
 
-  case-read : CaseRead (admissionOf a .case)
+  case-read : WellCase (admissionOf a .case)
   case-read =
       record {
         birth = birth;
@@ -189,5 +189,5 @@ module _ (a : Tree) (m : Clean Track1.assistenza a) where
       }
 
   -- A RECORD OF TRACK 1
-  pub admission-read : AdmissionRead (admissionOf a)
+  pub admission-read : WellAdmission (admissionOf a)
   admission-read = record { case = case-read; residence = residence-read }

@@ -10,9 +10,9 @@ use borrow.Author.Tests.{le-ltb}
 use Rattle.laws.specs.Lists.{any, same}
 use Rattle.laws.specs.Text.{bytes}
 use Rattle.markup.specs.Reading.Read.{read}
-use Rattle.markup.specs.Elements.{Tree, element}
+use Rattle.markup.specs.Elements.{Tree, element, mk, kids}
 use Rattle.markup.specs.Elements.Inside.{end}
-use Rattle.reading.specs.Within.{mk, kids, Every}
+use Rattle.reading.specs.Everywhere.{Every}
 use Rattle.schema.specs.Schema.{Node}
 use Rattle.schema.specs.Shape.{faultOf, recordsOf, Shape, fine, faulty, shapeOf}
 use Rattle.schema.specs.Counted.{countOf, firstOver, heldBy, heldOf}
@@ -20,10 +20,10 @@ use Rattle.nodes.proofs.Present.{nodeOf, owed}
 use Rattle.nodes.proofs.Counting.{unmarked, hollow-none, sumOver, eachNode, count-named, count-child}
 use Rattle.nodes.proofs.Placed.{Placed, all-placed}
 use Rattle.nodes.proofs.Records.{shaped}
-use Rattle.tracks.specs.Types
-use Rattle.tracks.specs.Track1
-use Rattle.tracks.specs.Track2
-use Rattle.tracks.specs.Record.{_▹_, saidOf, isEvent, saidIn, eventsOf, tooMany, schemaOf, crowdedIn}
+use Rattle.schemas.specs.Track1
+use Rattle.schemas.specs.Track2
+use Rattle.schemas.specs.Schemas.{schemaOf}
+use Rattle.tracks.specs.Record.{_▹_, saidOf, isEvent, saidIn, allSaid, tooMany, crowdedIn}
 use Rattle.tracks.proofs.Shaped.{Clean, far, clean, group-in, events-2}
 
 -- ---- one record
@@ -38,7 +38,7 @@ sum-events (t ∷ ts) = go (isEvent t) (sum-events ts)
     go true e = omega arith
     go false e = omega arith
 
-events-by : (a : Tree) → Clean Track2.assistenza a → countOf Track2.assistenza a ≡ length (eventsOf a)
+events-by : (a : Tree) → Clean Track2.assistenza a → countOf Track2.assistenza a ≡ length (allSaid a)
 unfolding nodeOf owed same any eachNode unmarked
 events-by a m =
     count-child Placed far m (bytes "Eventi") events-2 refl refl refl refl
@@ -46,7 +46,7 @@ events-by a m =
     ∙ sum-events (kids ((a ▹ "Eventi") .inside))
 
 -- THE COUNTED ELEMENTS OF A RECORD WITHOUT A FAULT are its events
-pub events-counted : (a : Tree) (d : ℕ) (l m : List ℕ) → element d l ≡ read a m → faultOf (Track2.track2 .each) a ≡ 0 → countOf (Track2.track2 .each) a ≡ length (eventsOf a)
+pub events-counted : (a : Tree) (d : ℕ) (l m : List ℕ) → element d l ≡ read a m → faultOf (Track2.track2 .each) a ≡ 0 → countOf (Track2.track2 .each) a ≡ length (allSaid a)
 unfolding Track2.track2
 events-counted a d l m e f = events-by a (clean Track2.assistenza d l a m e f)
 

@@ -6,20 +6,20 @@ use lib.ListN.{replicate}
 use Rattle.laws.specs.Decimal.{decimalAfter}
 use Rattle.laws.specs.Lists.{all, any, same}
 use Rattle.laws.specs.Text.{bytes}
-use Rattle.markup.specs.Tags.{Pair}
-use Rattle.markup.specs.Elements.{Inside, Tree}
-use Rattle.markup.specs.Elements.Inside.{end, says, note, elem}
-use Rattle.reading.specs.Within.{mk}
 use Rattle.days.specs.Calendar.{firstOf}
 use Rattle.days.specs.Dates.{isDate, dayOf}
+use Rattle.markup.specs.Tags.{Pair}
+use Rattle.markup.specs.Elements.{Inside, Tree, mk}
+use Rattle.markup.specs.Elements.Inside.{end, says, note, elem}
 use Rattle.schema.specs.Texts.{fitsText}
 use Rattle.schema.specs.Shape.{seek, enough, faultIn, namedIn, recordsOf, fine, firstBad, shapeOf}
 use Rattle.nodes.specs.Lookup.{firstNamed, valueIn}
-use Rattle.rows.specs.Pack.{packs}
-use Rattle.rows.specs.Row.{never, eventNumber}
-use Rattle.tracks.specs.Track1
-use Rattle.tracks.specs.Track2
-use Rattle.tracks.specs.Record.{admissionOf, saidIn, eventsOf}
+use Rattle.schemas.specs.Track1
+use Rattle.schemas.specs.Track2
+use Rattle.rows.specs.Packing.{packs}
+use Rattle.home_care.specs.Row.{never, eventNumber}
+use Rattle.tracks.specs.Wordings.{wordingIn}
+use Rattle.tracks.specs.Record.{admissionOf, saidIn, allSaid}
 
 abbrev _is_ : string.String → string.String → Pair
 k is v = record { key = bytes k; val = bytes v }
@@ -68,11 +68,11 @@ unfolding Track2.track2 shapeOf firstBad namedIn faultIn seek enough fitsText is
 second-fine = refl
 
 -- its four events: 2018-05-02 is day 43220, and so on
-second-events : map (λ a. map (λ e. e .event) (eventsOf a)) (recordsOf Track2.track2 second) ≡ map (λ e. eventNumber e) (
+second-events : map (λ a. map (λ e. e .event) (allSaid a)) (recordsOf Track2.track2 second) ≡ map (λ e. eventNumber e) (
     record { kind = 0; date = 43220; end = never; code = 1; accesses = 0; conferma = 1 } ∷ record { kind = 1; date = 43221; end = never; code = 99; accesses = 3; conferma = 0 } ∷
     record { kind = 2; date = 43222; end = never; code = 9; accesses = 0; conferma = 0 } ∷ record { kind = 3; date = 43279; end = never; code = 12; accesses = 0; conferma = 0 } ∷ []
     ) ∷ []
-unfolding Track2.track2 namedIn saidIn firstNamed valueIn dayOf firstOf decimalAfter any same packs
+unfolding Track2.track2 namedIn saidIn wordingIn firstNamed valueIn dayOf firstOf decimalAfter any same packs
 second-events = refl
 
 abbrev persona : Inside

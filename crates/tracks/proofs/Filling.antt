@@ -5,7 +5,7 @@ use mathlib.Core.List.{List, [], _∷_}
 use native.Mathlib.Omega.{arith}
 use lib.ListN.{length, getD, length-take, length-drop}
 use Rattle.markup.specs.View.{part, held}
-use Rattle.tracks.specs.Record.{padded}
+use Rattle.home_care.specs.Record.{padded}
 
 part-length : (s : List ℕ) (a e : ℕ) → held s a e → length (part s a e) ≡ e - a
 part-length s a e h = simp (length-take, length-drop) (omega arith)

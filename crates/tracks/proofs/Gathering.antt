@@ -7,11 +7,11 @@ use native.Mathlib.Numerals.{add-one}
 use native.Mathlib.Omega.{arith}
 use lib.ListN.{length, set, length-set}
 use Rattle.laws.specs.Lists.{any}
-use Rattle.markup.specs.Elements.{Inside, Tree}
+use Rattle.markup.specs.Elements.{Inside, Tree, kids}
 use Rattle.markup.specs.Elements.Inside.{end}
-use Rattle.reading.specs.Within.{kids}
-use Rattle.tracks.specs.Record.{Said, isEvent}
-use Rattle.tracks.specs.Flags.{zeroWritten, badConferma}
+use Rattle.home_care.specs.Record.{Said}
+use Rattle.home_care.specs.Anomalies.{zeroWritten, badConferma}
+use Rattle.tracks.specs.Record.{isEvent}
 use Rattle.tracks.specs.Defaults.{saidElse, saidElseIn, told, happenedAt, counted, kept}
 use Rattle.tracks.specs.View.{laid, IsEvents}
 use Rattle.tracks.specs.declared.events.EventsRead.{EventsRead}

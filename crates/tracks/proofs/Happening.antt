@@ -1,38 +1,34 @@
--- A child of Eventi by its name.
-use Prim.Native.Nat.{ℕ}
-use mathlib.Core.Path.{_≡_, ap, _∙_}
-use mathlib.Core.Bool.{true, false}
+-- A child of Eventi by its name: a kind's wording has it, or the next ones'.
+use mathlib.Core.Path.{_≡_}
+use mathlib.Core.Bool.{true, false, cond}
+use mathlib.Core.List.{List, [], _∷_}
 use Rattle.laws.specs.Lists.{any, same}
-use Rattle.laws.specs.Text.{bytes}
 use Rattle.markup.specs.Elements.{Tree}
-use Rattle.rows.specs.Row.{eventNumber}
-use Rattle.tracks.specs.Defaults.{rivalutazione, erogazione, sospensione, conclusione, saidWith, told, happenedAt}
+use Rattle.home_care.specs.Row.{eventNumber}
+use Rattle.tracks.specs.Wordings.{Wording, wordings, wordingIn}
+use Rattle.tracks.specs.Record.{saidWith}
+use Rattle.tracks.specs.Defaults.{eventElseBy, told, happenedAt}
 use Rattle.tracks.specs.declared.events.Happened.{Happened}
 use Rattle.tracks.specs.declared.events.Happened.the-variants as happened
 
+-- by some of the wordings
+abbrev pub happenedBy : List Wording → Tree → Happened
+happenedBy ws t =
+    cond (any (λ w. same (w .element) (t .named)) ws) (told (saidWith (eventNumber (eventElseBy (wordingIn ws (t .named)) t)) t)) happened.Other
+
 module _ (t : Tree) {r : Happened} where
-  number-is : {w v : ℕ} → r ≡ told (saidWith w t) → w ≡ v → r ≡ told (saidWith v t)
-  number-is e f = e ∙ ap (λ (w : ℕ). told (saidWith w t)) f
+  pub here : (w : Wording) (ws : List Wording) → true ≡ same (w .element) (t .named) → r ≡ told (saidWith (eventNumber (eventElseBy w t)) t) → r ≡ happenedBy (w ∷ ws) t
+  unfolding any wordingIn
+  here w ws a e = rw (← a) e
 
-  pub zeroth : {w : ℕ} → true ≡ same (bytes "Rivalutazione") (t .named) → r ≡ told (saidWith w t) → w ≡ eventNumber (rivalutazione t) → r ≡ happenedAt t
-  unfolding happenedAt any
-  zeroth a e f = rw (← a) (number-is e f)
+  pub later : (w : Wording) (ws : List Wording) → false ≡ same (w .element) (t .named) → r ≡ happenedBy ws t → r ≡ happenedBy (w ∷ ws) t
+  unfolding any wordingIn
+  later w ws a e = rw (← a) e
 
-  module _ (a : false ≡ same (bytes "Rivalutazione") (t .named)) where
-    pub first : {w : ℕ} → true ≡ same (bytes "Erogazione") (t .named) → r ≡ told (saidWith w t) → w ≡ eventNumber (erogazione t) → r ≡ happenedAt t
-    unfolding happenedAt any
-    first b e f = rw (← a, ← b) (number-is e f)
+  pub nowhere : r ≡ happened.Other → r ≡ happenedBy [] t
+  unfolding any
+  nowhere e = e
 
-    module _ (b : false ≡ same (bytes "Erogazione") (t .named)) where
-      pub second : {w : ℕ} → true ≡ same (bytes "Sospensione") (t .named) → r ≡ told (saidWith w t) → w ≡ eventNumber (sospensione t) → r ≡ happenedAt t
-      unfolding happenedAt any
-      second c e f = rw (← a, ← b, ← c) (number-is e f)
-
-      module _ (c : false ≡ same (bytes "Sospensione") (t .named)) where
-        pub third : {w : ℕ} → true ≡ same (bytes "Conclusione") (t .named) → r ≡ told (saidWith w t) → w ≡ eventNumber (conclusione t) → r ≡ happenedAt t
-        unfolding happenedAt any
-        third d e f = rw (← a, ← b, ← c, ← d) (number-is e f)
-
-        pub no-event : false ≡ same (bytes "Conclusione") (t .named) → r ≡ happened.Other → r ≡ happenedAt t
-        unfolding happenedAt any
-        no-event d e = rw (← a, ← b, ← c, ← d) e
+  pub whole : r ≡ happenedBy wordings t → r ≡ happenedAt t
+  unfolding happenedAt
+  whole e = e

@@ -1,11 +1,12 @@
 pub mod Sets
 pub mod Texts
 pub mod Paths
+pub mod Worded
+pub mod EachKind
 pub mod Admissions
 pub mod EventsRead
 pub mod WellRead
 pub mod Fits
-pub mod Bits
 pub mod Padded
 pub mod Examples
 pub mod Totals

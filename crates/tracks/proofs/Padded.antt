@@ -11,8 +11,8 @@ use Rattle.laws.specs.Lists.{all, any, same}
 use Rattle.laws.specs.Text.{bytes}
 use Rattle.laws.proofs.Truth.{and-left, and-right}
 use Rattle.markup.specs.Bytes.{inFile, isText}
-use Rattle.tracks.specs.Record.{padded}
-use Rattle.tracks.specs.WellRead.{PrevalenteRead}
+use Rattle.home_care.specs.Record.{padded}
+use Rattle.tracks.specs.WellRead.{WellPrevalente}
 
 abbrev inText : ℕ → Bool
 inText b = inFile b && isText b
@@ -53,7 +53,7 @@ three-filled (four a b c d) h =
 three-filled (five a b c d e) h =
     any-third (filled (a ∷ b ∷ c ∷ d ∷ e ∷ []) 3) (filled (a ∷ b ∷ c ∷ d ∷ e ∷ []) 4) (filled (a ∷ b ∷ c ∷ d ∷ e ∷ []) 5) (rw h)
 
-pub padded-filled : (t : List ℕ) → PrevalenteRead t → any (filled (padded t)) (3 ∷ 4 ∷ 5 ∷ []) ≡ true
+pub padded-filled : (t : List ℕ) → WellPrevalente t → any (filled (padded t)) (3 ∷ 4 ∷ 5 ∷ []) ≡ true
 padded-filled t r = three-filled (by-length t (r .least) (r .most)) (r .bytes)
 
 -- a byte of a text is not 0
@@ -68,7 +68,3 @@ three-same (four a b c d) h =
     rw (not-zero d (and-left (inText d) true (and-right (inText c) (inText d && true) (and-right (inText b) (inText c && (inText d && true)) (and-right (inText a) (inText b && (inText c && (inText d && true))) h)))))
 three-same (five a b c d e) h =
     rw (not-zero d (and-left (inText d) (inText e && true) (and-right (inText c) (inText d && (inText e && true)) (and-right (inText b) (inText c && (inText d && (inText e && true))) (and-right (inText a) (inText b && (inText c && (inText d && (inText e && true)))) h)))))
-
--- "`000` gives 13, `0000` doesn't": of the text as of the padded one
-pub padded-same : (t : List ℕ) → PrevalenteRead t → same (padded t) (bytes "000" ++ (0 ∷ 0 ∷ [])) ≡ same t (bytes "000")
-padded-same t r = three-same (by-length t (r .least) (r .most)) (r .bytes)

@@ -5,21 +5,21 @@ use mathlib.Core.Bool.{true}
 use mathlib.Core.List.{List, [], _∷_}
 use Rattle.laws.specs.Lists.{same}
 use Rattle.laws.specs.Text.{bytes}
-use Rattle.markup.specs.Elements.{Tree}
-use Rattle.codes.specs.Codes.{isOneOf}
+use Rattle.codes.specs.Chars.{alnums, idChars, anyChars}
 use Rattle.days.specs.Calendar.{dayCount}
 use Rattle.days.specs.Dates.{dayOf}
+use Rattle.markup.specs.Elements.{Tree}
 use Rattle.schema.specs.Texts.{Texts, date, fitsText}
-use Rattle.schema.specs.Schema.{Attr, Head, Node, leaf, group, Nodes, none, _▸_}
+use Rattle.schema.specs.Schema.{Attr, Particle, Node, leaf, group, Nodes, none, _▸_}
 use Rattle.nodes.specs.Lookup.{attrOf, textOf}
 use Rattle.nodes.proofs.Taken.{Meets}
 use Rattle.nodes.proofs.Present.{nodeOf, only, owed, child-one, group-attrs}
 use Rattle.nodes.proofs.Fields.{given, attrNamed, leaf-text, leaf-attrs, attr-one}
 use Rattle.nodes.proofs.Legible.{Legible}
-use Rattle.tracks.specs.Types
+use Rattle.schemas.specs.FieldTexts
+use Rattle.schemas.specs.Parts
 use Rattle.tracks.specs.Record.{_▹_, headOf}
-use Rattle.tracks.specs.WellRead.{HeadRead, PrevalenteRead}
-use Rattle.tracks.proofs.Sets.{id-in, alnum-in, region-in, tipo-in}
+use Rattle.tracks.specs.WellRead.{WellHead, WellPrevalente}
 use Rattle.tracks.proofs.Texts.{chars-fit, spelled, one-char, wide-fit, date-fit}
 
 -- an element of a file that is without a fault by its node
@@ -30,63 +30,63 @@ pub far : (c : Tree) → Legible c → 0 < c .from
 far c h = h .placed
 
 -- the text of a leaf, and an attribute's value
-pub text-fits : {h : Head} {x : Texts} {t : Tree} → Clean (leaf h x) t → fitsText x (textOf t) ≡ true
+pub text-fits : {h : Particle} {x : Texts} {t : Tree} → Clean (leaf h x) t → fitsText x (textOf t) ≡ true
 text-fits m = leaf-text Legible far m
 
-pub value-fits : {h : Head} {ns : Nodes} {t : Tree} (m : Clean (group h ns) t) (a : Attr) → attrNamed (a .named) (h .attrs) ≡ given a → a .required ≡ true
+pub value-fits : {h : Particle} {ns : Nodes} {t : Tree} (m : Clean (group h ns) t) (a : Attr) → attrNamed (a .named) (h .attrs) ≡ given a → a .required ≡ true
     → fitsText (a .texts) (attrOf (a .named) t) ≡ true
 value-fits {h} {ns} {t} m a e r = attr-one (h .attrs) t (group-attrs Legible far m) (a .named) a e r
 
-pub day-read : {h : Head} {ns : Nodes} {t : Tree} (m : Clean (group h ns) t) (n : List ℕ)
+pub day-read : {h : Particle} {ns : Nodes} {t : Tree} (m : Clean (group h ns) t) (n : List ℕ)
     → attrNamed n (h .attrs) ≡ given (record { named = n; required = true; texts = date }) → dayOf (attrOf n t) < dayCount
 day-read {h} {ns} {t} m n e = date-fit (attrOf n t) (value-fits m (record { named = n; required = true; texts = date }) e refl)
 
 -- the head
-module _ (a : Tree) (trasmissione : Clean Types.trasmissione (a ▹ "Trasmissione")) (erogatore : Clean Types.erogatore (a ▹ "Erogatore"))
-    {h : Head} (presa : Clean (group h (Types.one "Id_Rec" Types.idRec ▸ none)) (a ▹ "Eventi" ▹ "PresaInCarico"))
-    (dated : attrNamed (bytes "data") (h .attrs) ≡ given (Types.required "data" date)) where
-  region : Clean (Types.one "CodiceRegione" Types.regioneErogazione) (a ▹ "Erogatore" ▹ "CodiceRegione")
+module _ (a : Tree) (trasmissione : Clean Parts.trasmissione (a ▹ "Trasmissione")) (erogatore : Clean Parts.erogatore (a ▹ "Erogatore"))
+    {h : Particle} (presa : Clean (group h (Parts.one "Id_Rec" FieldTexts.idRec ▸ none)) (a ▹ "Eventi" ▹ "PresaInCarico"))
+    (dated : attrNamed (bytes "data") (h .attrs) ≡ given (Parts.required "data" date)) where
+  region : Clean (Parts.one "CodiceRegione" FieldTexts.regioneErogazione) (a ▹ "Erogatore" ▹ "CodiceRegione")
   unfolding nodeOf owed same
-  region = child-one Legible far erogatore (bytes "CodiceRegione") (Types.one "CodiceRegione" Types.regioneErogazione) refl refl
+  region = child-one Legible far erogatore (bytes "CodiceRegione") (Parts.one "CodiceRegione" FieldTexts.regioneErogazione) refl refl
 
-  asl : Clean (Types.one "CodiceASL" Types.codASL) (a ▹ "Erogatore" ▹ "CodiceASL")
+  asl : Clean (Parts.one "CodiceASL" FieldTexts.codASL) (a ▹ "Erogatore" ▹ "CodiceASL")
   unfolding nodeOf owed same
-  asl = child-one Legible far erogatore (bytes "CodiceASL") (Types.one "CodiceASL" Types.codASL) refl refl
+  asl = child-one Legible far erogatore (bytes "CodiceASL") (Parts.one "CodiceASL" FieldTexts.codASL) refl refl
 
-  rec : Clean (Types.one "Id_Rec" Types.idRec) (a ▹ "Eventi" ▹ "PresaInCarico" ▹ "Id_Rec")
+  rec : Clean (Parts.one "Id_Rec" FieldTexts.idRec) (a ▹ "Eventi" ▹ "PresaInCarico" ▹ "Id_Rec")
   unfolding nodeOf owed same
-  rec = child-one Legible far presa (bytes "Id_Rec") (Types.one "Id_Rec" Types.idRec) refl refl
+  rec = child-one Legible far presa (bytes "Id_Rec") (Parts.one "Id_Rec" FieldTexts.idRec) refl refl
 
-  tipo : fitsText Types.tipoTrasmissione (attrOf (bytes "tipo") (a ▹ "Trasmissione")) ≡ true
+  tipo : fitsText FieldTexts.tipoTrasmissione (attrOf (bytes "tipo") (a ▹ "Trasmissione")) ≡ true
   unfolding attrNamed same
   tipo =
-      attr-one (Types.required "tipo" Types.tipoTrasmissione ∷ []) (a ▹ "Trasmissione") (leaf-attrs Legible far trasmissione) (bytes "tipo")
-      (Types.required "tipo" Types.tipoTrasmissione) refl refl
+      attr-one (Parts.required "tipo" FieldTexts.tipoTrasmissione ∷ []) (a ▹ "Trasmissione") (leaf-attrs Legible far trasmissione) (bytes "tipo")
+      (Parts.required "tipo" FieldTexts.tipoTrasmissione) refl refl
 
-  pub head-read : HeadRead (headOf a)
+  pub head-read : WellHead (headOf a)
   head-read =
       record {
-        tipo = one-char _ (isOneOf _) (attrOf (bytes "tipo") (a ▹ "Trasmissione")) tipo-in tipo;
+        tipo = one-char _ (attrOf (bytes "tipo") (a ▹ "Trasmissione")) tipo;
         key =
             record {
-              region = region-in _ (wide-fit 3 _ (textOf (a ▹ "Erogatore" ▹ "CodiceRegione")) (text-fits region) .1);
-              asl = spelled Types.alnums _ 3 (textOf (a ▹ "Erogatore" ▹ "CodiceASL")) alnum-in (text-fits asl);
+              region = wide-fit 3 _ (textOf (a ▹ "Erogatore" ▹ "CodiceRegione")) (text-fits region) .1;
+              asl = spelled alnums 3 (textOf (a ▹ "Erogatore" ▹ "CodiceASL")) (text-fits asl);
               taken = day-read presa (bytes "data") dated;
-              id = spelled Types.idChars _ 88 (textOf (a ▹ "Eventi" ▹ "PresaInCarico" ▹ "Id_Rec")) id-in (text-fits rec);
+              id = spelled idChars 88 (textOf (a ▹ "Eventi" ▹ "PresaInCarico" ▹ "Id_Rec")) (text-fits rec);
             };
       }
 
 -- a Valutazione's prevalente: its first child is a Patologia
-module _ {h : Head} {ns : Nodes} {v : Tree} (value : Clean (group h (Types.patologie ▸ ns)) v) (named : nodeOf (bytes "Patologia") (Types.patologie ▸ ns) ≡ only Types.patologie) where
-  patologia : Clean Types.patologie (v ▹ "Patologia")
+module _ {h : Particle} {ns : Nodes} {v : Tree} (value : Clean (group h (Parts.patologie ▸ ns)) v) (named : nodeOf (bytes "Patologia") (Parts.patologie ▸ ns) ≡ only Parts.patologie) where
+  patologia : Clean Parts.patologie (v ▹ "Patologia")
   unfolding nodeOf owed same
-  patologia = child-one Legible far value (bytes "Patologia") Types.patologie named refl
+  patologia = child-one Legible far value (bytes "Patologia") Parts.patologie named refl
 
-  prevalente : Clean (Types.one "Prevalente" Types.patologiaPrevalente) (v ▹ "Patologia" ▹ "Prevalente")
+  prevalente : Clean (Parts.one "Prevalente" FieldTexts.patologiaPrevalente) (v ▹ "Patologia" ▹ "Prevalente")
   unfolding nodeOf owed same
-  prevalente = child-one Legible far patologia (bytes "Prevalente") (Types.one "Prevalente" Types.patologiaPrevalente) refl refl
+  prevalente = child-one Legible far patologia (bytes "Prevalente") (Parts.one "Prevalente" FieldTexts.patologiaPrevalente) refl refl
 
-  pub prevalente-read : PrevalenteRead (textOf (v ▹ "Patologia" ▹ "Prevalente"))
+  pub prevalente-read : WellPrevalente (textOf (v ▹ "Patologia" ▹ "Prevalente"))
   prevalente-read =
-      let c = chars-fit Types.anyChars 3 5 (textOf (v ▹ "Patologia" ▹ "Prevalente")) (text-fits prevalente) in
+      let c = chars-fit anyChars 3 5 (textOf (v ▹ "Patologia" ▹ "Prevalente")) (text-fits prevalente) in
       record { least = c .low; most = c .high; bytes = prevalente .known .0 .prose }

@@ -9,26 +9,29 @@ use lib.Dec.{leb, eqb}
 use lib.ListN.{length}
 use borrow.Author.Tests.{leb-true}
 use Rattle.laws.specs.Decimal.{decimalAfter, decimal}
-use Rattle.laws.specs.Lists.{all, same}
+use Rattle.laws.specs.Lists.{same}
 use Rattle.laws.specs.Text.{bytes}
+use Rattle.codes.specs.Ranges.{Range, inRanges}
+use Rattle.codes.specs.Chars.{alnums, idChars}
+use Rattle.codes.proofs.Decimals.{digits-below}
 use Rattle.days.specs.Dates.{isDate}
 use Rattle.markup.specs.Reading.Read.{read}
 use Rattle.markup.specs.Elements.{Tree, element}
-use Rattle.schema.specs.Texts.{Range, inRanges, Texts, chars, number, plain, date, fitsText}
-use Rattle.schema.specs.Schema.{Attr, Head, Node, leaf, group, Nodes, none, _▸_}
+use Rattle.schema.specs.Texts.{Texts, chars, date, fitsText}
+use Rattle.schema.specs.Schema.{Attr, Particle, Node, leaf, group, Nodes, none, _▸_}
 use Rattle.schema.specs.Shape.{faultOf}
 use Rattle.nodes.specs.Lookup.{childOf, attrOf, textOf}
 use Rattle.nodes.proofs.Taken.{Meets}
 use Rattle.nodes.proofs.Present.{nodeOf, only, owed, MayLack, lacks, has, child-one, child-maybe, group-attrs}
-use Rattle.nodes.proofs.Fields.{given, attrNamed, leaf-text, attr-one, AttrMayLack, attr-maybe}
+use Rattle.nodes.proofs.Fields.{given, attrNamed, leaf-text, attr-one}
 use Rattle.nodes.proofs.Placed.{Placed, all-placed}
-use Rattle.tracks.specs.Types
-use Rattle.tracks.specs.Track1
-use Rattle.tracks.specs.Track2
+use Rattle.schemas.specs.FieldTexts
+use Rattle.schemas.specs.Parts
+use Rattle.schemas.specs.Track1
+use Rattle.schemas.specs.Track2
 use Rattle.tracks.specs.Record.{_▹_}
 use Rattle.tracks.specs.View.{eachOf}
-use Rattle.tracks.proofs.Sets.{alnum-in, id-in, ranges-below}
-use Rattle.tracks.proofs.Texts.{spelled, one-digit, plain-fit, wide-fit, digits-below}
+use Rattle.tracks.proofs.Texts.{spelled, one-digit, wide-fit, date-is}
 
 -- an element that was read, without a fault by its node
 abbrev pub Clean : Node → Tree → Type 0
@@ -40,21 +43,18 @@ far c h = h
 pub clean : (n : Node) (d : ℕ) (l : List ℕ) (t : Tree) (m : List ℕ) → element d l ≡ read t m → faultOf n t ≡ 0 → Clean n t
 clean n d l t m e f = record { clean = f; known = all-placed d l t m e }
 
-module _ {h : Head} {ns : Nodes} {t : Tree} (m : Clean (group h ns) t) where
+module _ {h : Particle} {ns : Nodes} {t : Tree} (m : Clean (group h ns) t) where
   pub group-in : (x : List ℕ) (n : Node) → nodeOf x ns ≡ only n → owed x ns 0 ≡ true → Clean n (childOf x t)
   group-in x n e o = child-one Placed far m x n e o
 
-  pub leaf-in : (x : List ℕ) (d : Head) (y : Texts) → nodeOf x ns ≡ only (leaf d y) → owed x ns 0 ≡ true → fitsText y (textOf (childOf x t)) ≡ true
+  pub leaf-in : (x : List ℕ) (d : Particle) (y : Texts) → nodeOf x ns ≡ only (leaf d y) → owed x ns 0 ≡ true → fitsText y (textOf (childOf x t)) ≡ true
   leaf-in x d y e o = leaf-text Placed far (child-one Placed far m x (leaf d y) e o)
 
   pub value-in : (a : Attr) → attrNamed (a .named) (h .attrs) ≡ given a → a .required ≡ true → fitsText (a .texts) (attrOf (a .named) t) ≡ true
   value-in a e r = attr-one (h .attrs) t (group-attrs Placed far m) (a .named) a e r
 
-  pub maybe-in : (a : Attr) → attrNamed (a .named) (h .attrs) ≡ given a → AttrMayLack a t
-  maybe-in a e = attr-maybe (h .attrs) t (group-attrs Placed far m) (a .named) a e
-
   -- a scale that may be missing
-  pub scale-in : (x : List ℕ) (d : Head) (rs : List Range) → nodeOf x ns ≡ only (leaf d (chars rs 1 1)) → ((b : ℕ) → inRanges rs b ≡ true → leb (b - code "0") 3 ≡ true)
+  pub scale-in : (x : List ℕ) (d : Particle) (rs : List Range) → nodeOf x ns ≡ only (leaf d (chars rs 1 1)) → ((b : ℕ) → inRanges rs b ≡ true → leb (b - code "0") 3 ≡ true)
       → decimal (textOf (childOf x t)) ≤ 3
   unfolding decimalAfter
   scale-in x d rs e h = go (child-maybe Placed far m x (leaf d (chars rs 1 1)) e)
@@ -62,14 +62,6 @@ module _ {h : Head} {ns : Nodes} {t : Tree} (m : Clean (group h ns) t) where
       go : MayLack Placed (leaf d (chars rs 1 1)) x t → decimal (textOf (childOf x t)) ≤ 3
       go (lacks u v) = rw v (omega arith)
       go (has u v) = leb-true (decimal (textOf (childOf x t))) 3 (one-digit rs (λ n. leb n 3) (textOf (childOf x t)) h (leaf-text Placed far v))
-
-pub date-is : (t : List ℕ) → fitsText date t ≡ true → isDate t ≡ true
-unfolding fitsText
-date-is t e = e
-
--- a number without leading zeros, of at most two digits
-pub plain-below : (rs : List Range) (t : List ℕ) → all (λ r. leb (r .to) 99) rs ≡ true → fitsText (number plain rs) t ≡ true → decimal t ≤ 99
-plain-below rs t b e = ranges-below rs 99 (decimal t) b (plain-fit rs t e)
 
 -- ---- the head
 
@@ -79,41 +71,40 @@ pub record HeadShaped (a : Tree) : Type 0 where
   pub taken : isDate (attrOf (bytes "data") (a ▹ "Eventi" ▹ "PresaInCarico")) ≡ true
   pub id : length (textOf (a ▹ "Eventi" ▹ "PresaInCarico" ▹ "Id_Rec")) ≡ 88
 
-region-below : (t : List ℕ) → fitsText Types.regioneErogazione t ≡ true → decimal t < 10000
+region-below : (t : List ℕ) → fitsText FieldTexts.regioneErogazione t ≡ true → decimal t < 10000
 region-below t e = let w = wide-fit 3 _ t e .0 in let b = digits-below t (w .bytes) in let q = rw (w .long) at b in omega arith
 
-module _ (a : Tree) (erogatore : Clean Types.erogatore (a ▹ "Erogatore")) {h : Head}
-    (presa : Clean (group h (Types.one "Id_Rec" Types.idRec ▸ none)) (a ▹ "Eventi" ▹ "PresaInCarico"))
-    (dated : attrNamed (bytes "data") (h .attrs) ≡ given (Types.required "data" date)) where
+module _ (a : Tree) (erogatore : Clean Parts.erogatore (a ▹ "Erogatore")) {h : Particle}
+    (presa : Clean (group h (Parts.one "Id_Rec" FieldTexts.idRec ▸ none)) (a ▹ "Eventi" ▹ "PresaInCarico"))
+    (dated : attrNamed (bytes "data") (h .attrs) ≡ given (Parts.required "data" date)) where
   head-by : HeadShaped a
   unfolding nodeOf owed same
   head-by =
       record {
-        region = region-below (textOf (a ▹ "Erogatore" ▹ "CodiceRegione")) (leaf-in erogatore (bytes "CodiceRegione") _ Types.regioneErogazione refl refl);
-        asl = spelled Types.alnums _ 3 (textOf (a ▹ "Erogatore" ▹ "CodiceASL")) alnum-in (leaf-in erogatore (bytes "CodiceASL") _ Types.codASL refl refl) .long;
-        taken = date-is (attrOf (bytes "data") (a ▹ "Eventi" ▹ "PresaInCarico")) (value-in presa (Types.required "data" date) dated refl);
-        id = spelled Types.idChars _ 88 (textOf (a ▹ "Eventi" ▹ "PresaInCarico" ▹ "Id_Rec")) id-in (leaf-in presa (bytes "Id_Rec") _ Types.idRec refl refl) .long;
+        region = region-below (textOf (a ▹ "Erogatore" ▹ "CodiceRegione")) (leaf-in erogatore (bytes "CodiceRegione") _ FieldTexts.regioneErogazione refl refl);
+        asl = spelled alnums 3 (textOf (a ▹ "Erogatore" ▹ "CodiceASL")) (leaf-in erogatore (bytes "CodiceASL") _ FieldTexts.codASL refl refl) .long;
+        taken = date-is (attrOf (bytes "data") (a ▹ "Eventi" ▹ "PresaInCarico")) (value-in presa (Parts.required "data" date) dated refl);
+        id = spelled idChars 88 (textOf (a ▹ "Eventi" ▹ "PresaInCarico" ▹ "Id_Rec")) (leaf-in presa (bytes "Id_Rec") _ FieldTexts.idRec refl refl) .long;
       }
 
 -- Eventi of each track
 abbrev pub events-1 : Node
-events-1 = Types.all-of "Eventi" [] (Track1.presaInCarico ▸ Track1.valutazione ▸ none)
+events-1 = Parts.all-of "Eventi" [] (Track1.presaInCarico ▸ Track1.valutazione ▸ none)
 
 abbrev pub events-2 : Node
-events-2 =
-    Types.all-of "Eventi" [] (Track2.presaInCarico ▸ Track2.rivalutazione ▸ Track2.erogazione ▸ Track2.sospensione ▸ Track2.conclusione ▸ none)
+events-2 = Parts.all-of "Eventi" [] Track2.eventi
 
 head-1 : (a : Tree) → Clean Track1.assistenza a → HeadShaped a
 unfolding nodeOf owed attrNamed same
 head-1 a m =
     let es = group-in m (bytes "Eventi") events-1 refl refl in
-    head-by a (group-in m (bytes "Erogatore") Types.erogatore refl refl) (group-in es (bytes "PresaInCarico") Track1.presaInCarico refl refl) refl
+    head-by a (group-in m (bytes "Erogatore") Parts.erogatore refl refl) (group-in es (bytes "PresaInCarico") Track1.presaInCarico refl refl) refl
 
 head-2 : (a : Tree) → Clean Track2.assistenza a → HeadShaped a
 unfolding nodeOf owed attrNamed same
 head-2 a m =
     let es = group-in m (bytes "Eventi") events-2 refl refl in
-    head-by a (group-in m (bytes "Erogatore") Types.erogatore refl refl) (group-in es (bytes "PresaInCarico") Track2.presaInCarico refl refl) refl
+    head-by a (group-in m (bytes "Erogatore") Parts.erogatore refl refl) (group-in es (bytes "PresaInCarico") Track2.presaInCarico refl refl) refl
 
 pub head-shaped : (track : ℕ) (a : Tree) (d : ℕ) (l m : List ℕ) → element d l ≡ read a m → faultOf (eachOf track) a ≡ 0 → HeadShaped a
 unfolding Track1.track1 Track2.track2

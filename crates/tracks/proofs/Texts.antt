@@ -1,10 +1,9 @@
 -- What a text that fits tells, one law for each kind of text.
-use Prim.Native.Nat.{ℕ, _+_, _-_, _*_, _^_, _≤_, _<_}
+use Prim.Native.Nat.{ℕ, _+_, _-_, _*_, _≤_, _<_}
 use Prim.Native.Char.{code}
 use mathlib.Core.Path.{_≡_}
 use mathlib.Core.Bool.{Bool, true, _&&_}
 use mathlib.Core.List.{List, [], _∷_}
-use native.Mathlib.Nat.{pow-suc, mul-le-mul-right}
 use native.Mathlib.Omega.{arith}
 use lib.Dec.{eqb, leb}
 use lib.ListN.{length, getD}
@@ -17,8 +16,12 @@ use Rattle.days.specs.Dates.{yearText, monthText, dayText, hasDateForm, isDate,
 use Rattle.days.proofs.Months.{real}
 use Rattle.days.proofs.Firsts.{day-found}
 use Rattle.laws.proofs.Lists.{all-map}
-use Rattle.schema.specs.Texts.{Range, inRanges, chars, number, date, plain, wide, digitsIn, unpadded, fitsText}
+use Rattle.codes.specs.Ranges.{Range, inRanges}
+use Rattle.codes.specs.Chars.{digits}
+use Rattle.codes.proofs.Decimals.{digits-below}
+use Rattle.schema.specs.Texts.{chars, number, date, plain, wide, digitsIn, unpadded, fitsText}
 use Rattle.tracks.specs.WellRead.{Spelled}
+use Rattle.tracks.proofs.Sets.{digit-in}
 
 -- ---- characters of a set
 
@@ -37,17 +40,14 @@ chars-fit rs a z t e =
       bytes = and-right (leb a (length t) && leb (length t) z) (all (inRanges rs) t) e;
     }
 
-pub spelled : (rs : List Range) (set : ℕ → Bool) (n : ℕ) (t : List ℕ) → ((b : ℕ) → inRanges rs b ≡ true → set b ≡ true) → fitsText (chars rs n n) t ≡ true
-    → Spelled set n t
-spelled rs set n t h e =
-    let c = chars-fit rs n n t e in
-    record { long = omega arith; bytes = all-map (inRanges rs) set h t (c .bytes) }
+pub spelled : (rs : List Range) (n : ℕ) (t : List ℕ) → fitsText (chars rs n n) t ≡ true → Spelled (inRanges rs) n t
+spelled rs n t e = let c = chars-fit rs n n t e in record { long = omega arith; bytes = c .bytes }
 
 -- one character: what is known of it, and of the number that it writes
-pub one-char : (rs : List Range) (q : ℕ → Bool) (t : List ℕ) → ((b : ℕ) → inRanges rs b ≡ true → q b ≡ true) → fitsText (chars rs 1 1) t ≡ true → q (getD t 0 0) ≡ true
+pub one-char : (rs : List Range) (t : List ℕ) → fitsText (chars rs 1 1) t ≡ true → inRanges rs (getD t 0 0) ≡ true
 unfolding all
-one-char rs q [] h e = let c = chars-fit rs 1 1 [] e in absurd (omega (arith, c .low))
-one-char rs q (b ∷ t) h e = h b (and-left (inRanges rs b) (all (inRanges rs) t) (chars-fit rs 1 1 (b ∷ t) e .bytes))
+one-char rs [] e = let c = chars-fit rs 1 1 [] e in absurd (omega (arith, c .low))
+one-char rs (b ∷ t) e = and-left (inRanges rs b) (all (inRanges rs) t) (chars-fit rs 1 1 (b ∷ t) e .bytes)
 
 pub one-digit : (rs : List Range) (q : ℕ → Bool) (t : List ℕ) → ((b : ℕ) → inRanges rs b ≡ true → q (b - code "0") ≡ true) → fitsText (chars rs 1 1) t ≡ true
     → q (decimal t) ≡ true
@@ -75,23 +75,14 @@ wide-fit n rs t e =
     let d = digits-number rs t (and-right (eqb (length t) n) (digitsIn rs t) e) in
     (record { long = eqb-true (length t) n (and-left (eqb (length t) n) (digitsIn rs t) e); bytes = d .0 }, d .1)
 
--- so many digits write a number below that power of ten
-digits-after : (n : ℕ) (t : List ℕ) → all isDigit t ≡ true → decimalAfter n t < (n + 1) * 10 ^ length t
-unfolding all decimalAfter
-digits-after n [] e = omega arith
-digits-after n (b ∷ t) e =
-    let d = and-left (isDigit b) (all isDigit t) e in
-    let z = leb-true b (code "9") (and-right (leb (code "0") b) (leb b (code "9")) d) in
-    let s = b - code "0" in
-    let i = digits-after (n * 10 + (b - code "0")) t (and-right (isDigit b) (all isDigit t) e) in
-    let l : n * 10 + (b - code "0") + 1 ≤ n * 10 + 10 = omega arith in
-    let m = mul-le-mul-right (10 ^ length t) l in
-    rw (pow-suc 10 (length t)) (omega arith)
-
-pub digits-below : (t : List ℕ) → all isDigit t ≡ true → decimal t < 10 ^ length t
-digits-below t e = omega (arith, digits-after 0 t e)
+pub four-digits : (t : List ℕ) → fitsText (chars digits 4 4) t ≡ true → decimal t < 10000
+four-digits t e = let s = spelled digits 4 t e in rw (s .long) at (digits-below t (all-map (inRanges digits) isDigit digit-in t (s .bytes)))
 
 -- ---- dates
+
+pub date-is : (t : List ℕ) → fitsText date t ≡ true → isDate t ≡ true
+unfolding fitsText
+date-is t e = e
 
 pub date-fit : (t : List ℕ) → fitsText date t ≡ true → dayOf t < dayCount
 unfolding fitsText isDate dayOf

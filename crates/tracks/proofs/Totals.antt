@@ -1,51 +1,44 @@
--- Numbers and dates of any text: the last four digits, and a text of ten bytes that may be a date.
-use Prim.Native.Nat.{ℕ, _+_, _-_, _*_, _%_, _≤_, _<_}
-use Prim.Native.Char.{code}
-use mathlib.Core.Path.{_≡_, refl, sym, ap, _∙_}
+-- Numbers and dates of any text: none at all, and a text of ten bytes that may be a date.
+use Prim.Native.Nat.{ℕ, _<_}
+use mathlib.Core.Path.{_≡_, refl, _∙_}
 use mathlib.Core.Bool.{Bool, true, false, cond}
 use mathlib.Core.List.{List, [], _∷_}
 use native.Mathlib.Omega.{arith}
-use lib.ListN.{length, drop, getD, drop-of-length-le}
+use lib.ListN.{length, drop}
 use lib.Seq.{take-all}
 use borrow.Author.Tests.{ne-eqb}
-use native.Mathlib.Nat.{pow-le-pow-right}
-use Rattle.laws.specs.Decimal.{isDigit, decimalAfter, decimal}
-use Rattle.laws.specs.Lists.{all}
-use Rattle.laws.proofs.Places.{front}
+use Rattle.laws.specs.Decimal.{decimalAfter}
+use Rattle.codes.proofs.Decimals.{up-to-le}
 use Rattle.reading.proofs.Cut.{never}
 use Rattle.days.specs.Dates.{isDate, dayOf, undated, dated, dateAt}
-use Rattle.tracks.specs.Defaults.{dayElse}
-use Rattle.tracks.proofs.Texts.{digits-below}
+use Rattle.markup.specs.Elements.{Tree}
+use Rattle.nodes.specs.Lookup.{attrOf, hasAttr}
+use Rattle.tracks.specs.Wordings.{valueAt, standsAt}
+use Rattle.tracks.specs.Defaults.{dayElse, numberElse}
 
--- digits that are dropped don't come back
-last-four : (m : ℕ) (l : List ℕ) → decimalAfter (m % 10000) l % 10000 ≡ decimalAfter m l % 10000
-unfolding decimalAfter
-last-four m [] = omega arith
-last-four m (b ∷ l) =
-    let x = m % 10000 * 10 + (b - code "0") in
-    let y = m * 10 + (b - code "0") in
-    let e : x % 10000 ≡ y % 10000 = omega arith in
-    sym (last-four x l) ∙ ap (λ (k : ℕ). decimalAfter k l % 10000) e ∙ last-four y l
+pub number-below : (x : List ℕ) {n : ℕ} → n ≡ numberElse x → n < 10000
+number-below x e = let l = up-to-le 9999 (decimalAfter 0 x) in rw e (omega arith)
 
--- a loop over the digits x, after i of them
-module _ (x : List ℕ) (n i : ℕ) where
-  pub digits-on : (b : ℕ) → i < length x → b ≡ getD x i 0 - code "0" → decimalAfter ((n * 10 + b) % 10000) (drop (i + 1) x) % 10000 ≡ decimalAfter n (drop i x) % 10000
-  unfolding decimalAfter
-  digits-on b h e =
-      let q : decimalAfter n (drop i x) ≡ decimalAfter (n * 10 + (getD x i 0 - code "0")) (drop (i + 1) x) = rw (front x i h) in
-      last-four (n * 10 + b) (drop (i + 1) x) ∙ ap (λ (k : ℕ). decimalAfter (n * 10 + k) (drop (i + 1) x) % 10000) e ∙ ap (λ (k : ℕ). k % 10000) (sym q)
-
-  pub digits-over : length x ≤ i → n < 10000 → decimalAfter n (drop i x) % 10000 ≡ n
-  unfolding decimalAfter
-  digits-over h k = rw (drop-of-length-le x h) (omega arith)
-
-pub no-number : (x : List ℕ) → x ≡ [] → 0 ≡ decimal x % 10000
+pub no-number : (x : List ℕ) → x ≡ [] → 0 ≡ numberElse x
 unfolding decimalAfter
 no-number x e = rw e
 
--- at most four digits are the whole number
-pub four-digits : (t : List ℕ) → all isDigit t ≡ true → length t ≤ 4 → decimal t % 10000 ≡ decimal t
-four-digits t e h = omega (arith, digits-below t e, pow-le-pow-right {n = 10} (omega arith) h)
+-- ---- an attribute whose name may be empty
+
+module _ (x : List ℕ) (t : Tree) where
+  pub nameless : length x ≡ 0 → (valueAt x t ≡ []) × (standsAt x t ≡ false)
+  nameless e = go x e
+    where
+      go : (y : List ℕ) → length y ≡ 0 → (valueAt y t ≡ []) × (standsAt y t ≡ false)
+      go [] e = (refl, refl)
+      go (b ∷ y) e = absurd (omega arith)
+
+  pub named : (length x ≡ 0 → ⊥) → (valueAt x t ≡ attrOf x t) × (standsAt x t ≡ hasAttr x t)
+  named h = go x h
+    where
+      go : (y : List ℕ) → (length y ≡ 0 → ⊥) → (valueAt y t ≡ attrOf y t) × (standsAt y t ≡ hasAttr y t)
+      go [] h = absurd (h refl)
+      go (b ∷ y) h = (refl, refl)
 
 -- ---- dates
 

@@ -3,15 +3,15 @@ use Prim.Native.Nat.{ℕ}
 use mathlib.Core.Path.{_≡_}
 use mathlib.Core.List.{List}
 use Rattle.markup.specs.Reading.Read.{read}
-use Rattle.markup.specs.Elements.{Tree}
+use Rattle.markup.specs.Elements.{Tree, alone}
 use Rattle.markup.specs.Document.{document}
-use Rattle.reading.specs.Within.{alone, Every, Deeply}
+use Rattle.reading.specs.Everywhere.{Every, Deeply}
 use Rattle.reading.proofs.Places.{every-map}
 use Rattle.schema.specs.Shape.{recordsOf, fine, shapeOf}
 use Rattle.nodes.proofs.Legible.{Legible, document-legible}
 use Rattle.nodes.proofs.Records.{shaped}
-use Rattle.tracks.specs.Track1
-use Rattle.tracks.specs.Track2
+use Rattle.schemas.specs.Track1
+use Rattle.schemas.specs.Track2
 use Rattle.tracks.specs.Record.{recordOf}
 use Rattle.tracks.specs.WellRead.{WellRead}
 use Rattle.tracks.proofs.Paths.{Clean}

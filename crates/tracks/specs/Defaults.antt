@@ -1,19 +1,20 @@
 -- What the code reads where a text is not of its type, so that reading is total. A record without a fault has no such text, and its fields are those of
 -- `headOf`, `admissionOf` and `eventsOf`.
 use Prim.Native.Nat.{ℕ, _+_, _%_}
-use Prim.Native.String as string
 use mathlib.Core.Bool.{cond, _||_}
 use mathlib.Core.List.{List, [], _∷_}
 use lib.ListN.{set}
 use Rattle.laws.specs.Decimal.{decimal}
-use Rattle.laws.specs.Lists.{same}
 use Rattle.laws.specs.Text.{bytes}
+use Rattle.codes.specs.Digits.{upTo}
 use Rattle.days.specs.Dates.{isDate, dayOf}
 use Rattle.markup.specs.Elements.{Tree}
-use Rattle.nodes.specs.Lookup.{childOf, hasChild, attrOf, hasAttr, textOf}
-use Rattle.rows.specs.Row.{Event, never, eventNumber}
-use Rattle.tracks.specs.Record.{_▹_, Said, isEvent}
-use Rattle.tracks.specs.Flags.{zeroWritten, badConferma}
+use Rattle.nodes.specs.Lookup.{childOf, attrOf, textOf}
+use Rattle.home_care.specs.Row.{Event, never, eventNumber}
+use Rattle.home_care.specs.Record.{Said}
+use Rattle.home_care.specs.Anomalies.{zeroWritten, badConferma}
+use Rattle.tracks.specs.Wordings.{Wording, wordings, wordingIn, valueAt, standsAt, textAt}
+use Rattle.tracks.specs.Record.{_▹_, saidWith, isEvent}
 use Rattle.tracks.specs.declared.events.EventsRead.{EventsRead}
 use Rattle.tracks.specs.declared.events.Happened.{Happened}
 use Rattle.tracks.specs.declared.events.Happened.the-variants as happened
@@ -22,56 +23,24 @@ use Rattle.tracks.specs.declared.events.Happened.the-variants as happene
 abbrev pub dayElse : List ℕ → ℕ
 dayElse t = cond (isDate t) (dayOf t) 0
 
--- of a longer number the last four digits
+-- a number above 9,999 is that
 abbrev pub numberElse : List ℕ → ℕ
-numberElse t = decimal t % 10000
+numberElse t = upTo 9999 (decimal t)
 
-abbrev pub dayInElse : string.String → Tree → ℕ
-dayInElse x t = dayElse (attrOf (bytes x) t)
-
-abbrev pub numberInElse : string.String → Tree → ℕ
-numberInElse x t = numberElse (attrOf (bytes x) t)
-
-abbrev pub codeInElse : string.String → Tree → ℕ
-codeInElse x t = numberElse (textOf (t ▹ x)) % 128
-
--- the four kinds of event
-unfoldable pub rivalutazione : Tree → Event
-rivalutazione t =
-    record { kind = 0; date = dayInElse "data" t; end = never; code = numberInElse "motivo" t % 128; accesses = 0; conferma = numberInElse "confermaPrecedente" t % 4 }
-
-unfoldable pub erogazione : Tree → Event
-erogazione t =
-    record { kind = 1; date = dayInElse "data" t; end = never; code = codeInElse "TipoOperatore" t; accesses = numberInElse "numAccessi" t % 128; conferma = 0 }
-
-unfoldable pub sospensione : Tree → Event
-sospensione t =
+-- an event as its kind is worded: of a field's number what its bits hold
+unfoldable pub eventElseBy : Wording → Tree → Event
+eventElseBy w t =
     record {
-      kind = 2;
-      date = dayInElse "dataInizio" t;
-      end = cond (hasAttr (bytes "dataFine") t) (dayInElse "dataFine" t) never;
-      code = codeInElse "Motivazione" t;
-      accesses = 0;
-      conferma = 0;
+      kind = w .kind;
+      date = dayElse (attrOf (w .date) t);
+      end = cond (standsAt (w .end) t) (dayElse (valueAt (w .end) t)) never;
+      code = numberElse (textAt (w .child) (w .code) t) % 128;
+      accesses = numberElse (valueAt (w .accesses) t) % 128;
+      conferma = numberElse (valueAt (w .conferma) t) % 4;
     }
-
-unfoldable pub conclusione : Tree → Event
-conclusione t = record { kind = 3; date = dayInElse "dataAD" t; end = never; code = codeInElse "Motivazione" t; accesses = 0; conferma = 0 }
 
 abbrev pub eventElse : Tree → Event
-eventElse t =
-    cond (same (bytes "Rivalutazione") (t .named)) (rivalutazione t)
-    (cond (same (bytes "Erogazione") (t .named)) (erogazione t)
-    (cond (same (bytes "Sospensione") (t .named)) (sospensione t) (conclusione t)))
-
--- an event of the number w, with its Valutazione
-abbrev pub saidWith : ℕ → Tree → Said
-saidWith w t =
-    record {
-      event = w;
-      valued = hasChild (bytes "Valutazione") t;
-      prevalente = textOf (t ▹ "Valutazione" ▹ "Patologia" ▹ "Prevalente");
-    }
+eventElse t = eventElseBy (wordingIn wordings (t .named)) t
 
 abbrev pub saidElse : Tree → Said
 saidElse t = saidWith (eventNumber (eventElse t)) t

@@ -5,9 +5,8 @@ use mathlib.Core.List.{List}
 use lib.ListN.{drop}
 use Rattle.laws.specs.Text.{bytes}
 use Rattle.markup.specs.Reading.Read.{read}
-use Rattle.markup.specs.Elements.{Tree, element}
+use Rattle.markup.specs.Elements.{Tree, element, kids}
 use Rattle.reading.specs.Many.{belowRoot}
-use Rattle.reading.specs.Within.{kids}
 use Rattle.nodes.specs.Several.{Sixes}
 use Rattle.nodes.specs.declared.Six.{Six}
 

@@ -8,10 +8,10 @@ use lib.ListN.{length, take, drop}
 use Rattle.laws.specs.Lists.{any}
 use Rattle.markup.specs.View.{part}
 use Rattle.schema.specs.Schema.{Node}
-use Rattle.tracks.specs.Track1.{track1}
-use Rattle.tracks.specs.Track2.{track2}
-use Rattle.tracks.specs.Record.{Head, Admission, Said}
-use Rattle.tracks.specs.Flags.{zeroWritten, badConferma}
+use Rattle.home_care.specs.Record.{Head, Admission, Said}
+use Rattle.home_care.specs.Anomalies.{zeroWritten, badConferma}
+use Rattle.schemas.specs.Track1.{track1}
+use Rattle.schemas.specs.Track2.{track2}
 use Rattle.tracks.specs.declared.events.EventsRead.{EventsRead}
 use Rattle.tracks.specs.declared.record.HeadRead.{HeadRead}
 use Rattle.tracks.specs.declared.record.AdmissionRead.{AdmissionRead}

@@ -5,22 +5,29 @@ ghost use Prim.Native.Nat.{ℕ, _+_, _≤_, _<_};
 ghost use lib.ListN.{drop};
 ghost use Rattle.days.specs.Table.{Firsts};
 ghost use Rattle.markup.specs.Reading.Read.{read};
-ghost use Rattle.markup.specs.Elements.{Inside, Tree, element};
+ghost use Rattle.markup.specs.Elements.{Inside, Tree, element, kids};
 ghost use Rattle.markup.specs.View.{part};
-ghost use Rattle.nodes.specs.Stands.{Stands, Holds};
-ghost use Rattle.reading.specs.Within.{kids};
-ghost use Rattle.rows.specs.Row.{eventNumber};
 ghost use Rattle.schema.specs.Shape.{faultOf};
-ghost use Rattle.tracks.specs.Record.{eventsOf};
-ghost use Rattle.tracks.specs.Track2.{track2};
-ghost use Rattle.tracks.specs.Defaults.{rivalutazione, erogazione, sospensione, conclusione, saidWith, saidElseIn, told, happenedAt, counted, kept};
+ghost use Rattle.nodes.specs.Stands.{Stands, Holds};
+ghost use Rattle.schemas.specs.Track2.{track2};
+ghost use Rattle.home_care.specs.Row.{eventNumber};
+ghost use Rattle.tracks.specs.Wordings.{wording};
+ghost use Rattle.tracks.specs.Record.{saidWith, allSaid};
+ghost use Rattle.tracks.specs.Defaults.{eventElseBy, saidElseIn, told, happenedAt, counted, kept};
 ghost use Rattle.tracks.specs.Top.{TopOf};
 ghost use Rattle.tracks.specs.View.{IsEvents};
 use crate::fields::attr_day;
 use crate::fields::attr_end;
 use crate::fields::attr_number;
-use crate::fields::child_number;
 use crate::fields::child_text;
+use crate::fields::text_number_at;
+use codes::lists::CONCLUSION;
+use codes::lists::REVALUATION;
+use codes::lists::SERVICE;
+use codes::lists::SUSPENSION;
+use home_care::event::conferma_of;
+use home_care::event::kind_of;
+use home_care::pack::event_number;
 use markup::Move;
 use markup::bytes::part;
 use markup::bytes::same;
@@ -33,7 +40,6 @@ use nodes::children::enter;
 use nodes::children::is_named;
 use nodes::children::next_kid;
 use reading::skips::skip;
-use rows::pack::event_number;
 
 pub struct EventsRead {
     pub count: usize,
@@ -51,53 +57,14 @@ pub enum Happened {
     Other,
 }
 
-fn revaluation(t: &[u32; 2400], s: &[u8], n: Node) -> u64
-    requires { ⌜ Firsts (now t) ⌝ }
-    ensures { λ r. ⌜ ((tree : Tree) → Stands (n .levels) (drop (n .at) (now (s .entry))) tree → r ≡ eventNumber (rivalutazione tree)) ⌝ }
-{
-    let date = attr_day(t, s, n, b"data");
-    let code = attr_number(s, n, b"motivo") % 128;
-    let conferma = attr_number(s, n, b"confermaPrecedente") % 4;
-    event_number(0, date, 131071, code, 0, conferma)
-}
-
-fn service(t: &[u32; 2400], s: &[u8], n: Node) -> u64
-    requires { ⌜ Firsts (now t) ⌝ }
-    ensures { λ r. ⌜ ((tree : Tree) → Stands (n .levels) (drop (n .at) (now (s .entry))) tree → r ≡ eventNumber (erogazione tree)) ⌝ }
-{
-    let date = attr_day(t, s, n, b"data");
-    let code = child_number(s, n, b"TipoOperatore") % 128;
-    let accesses = attr_number(s, n, b"numAccessi") % 128;
-    event_number(1, date, 131071, code, accesses, 0)
-}
-
-fn suspension(t: &[u32; 2400], s: &[u8], n: Node) -> u64
-    requires { ⌜ Firsts (now t) ⌝ }
-    ensures { λ r. ⌜ ((tree : Tree) → Stands (n .levels) (drop (n .at) (now (s .entry))) tree → r ≡ eventNumber (sospensione tree)) ⌝ }
-{
-    let date = attr_day(t, s, n, b"dataInizio");
-    let end = attr_end(t, s, n, b"dataFine");
-    let code = child_number(s, n, b"Motivazione") % 128;
-    event_number(2, date, end, code, 0, 0)
-}
-
-fn conclusion(t: &[u32; 2400], s: &[u8], n: Node) -> u64
-    requires { ⌜ Firsts (now t) ⌝ }
-    ensures { λ r. ⌜ ((tree : Tree) → Stands (n .levels) (drop (n .at) (now (s .entry))) tree → r ≡ eventNumber (conclusione tree)) ⌝ }
-{
-    let date = attr_day(t, s, n, b"dataAD");
-    let code = child_number(s, n, b"Motivazione") % 128;
-    event_number(3, date, 131071, code, 0, 0)
-}
-
 // An event of the number w: its Valutazione's prevalente, and its confermaPrecedente against it.
 fn said(s: &[u8], n: Node, w: u64) -> Happened
     ensures { λ r. ⌜ ((tree : Tree) → Stands (n .levels) (drop (n .at) (now (s .entry))) tree → r ≡ told (saidWith w tree)) ⌝ }
 {
     let value = child(s, n, b"Valutazione");
     let valued = value.levels != 0;
-    let conferma = w % 4;
-    let bad = (w / 1125899906842624 == 0)
+    let conferma = conferma_of(w);
+    let bad = (kind_of(w) == REVALUATION)
         & (((conferma == 1) & valued) | ((conferma == 2) & !valued));
     let illness = child(s, value, b"Patologia");
     let main = child_text(s, illness, b"Prevalente");
@@ -109,6 +76,30 @@ fn said(s: &[u8], n: Node, w: u64) -> Happened
     }
 }
 
+// An event of a kind, by the names of its date, end, code (a child's or an attribute's), accesses and conferma: an empty one where the kind has no such field.
+fn event(
+    t: &[u32; 2400],
+    s: &[u8],
+    n: Node,
+    kind: u64,
+    date: &[u8],
+    end: &[u8],
+    in_child: bool,
+    code: &[u8],
+    accesses: &[u8],
+    conferma: &[u8],
+) -> Happened
+    requires { ⌜ Firsts (now t) × (kind < 4) ⌝ }
+    ensures { λ r. ⌜ ((tree : Tree) (x : List ℕ) → Stands (n .levels) (drop (n .at) (now (s .entry))) tree → r ≡ told (saidWith (eventNumber (eventElseBy (wording kind x (now (date .entry)) (now (end .entry)) «in_child» (now (code .entry)) (now (accesses .entry)) (now (conferma .entry))) tree)) tree)) ⌝ }
+{
+    let day = attr_day(t, s, n, date);
+    let last = attr_end(t, s, n, end);
+    let what = text_number_at(s, n, in_child, code) % 128;
+    let times = attr_number(s, n, accesses) % 128;
+    let confirmed = attr_number(s, n, conferma) % 4;
+    said(s, n, event_number(kind, day, last, what, times, confirmed))
+}
+
 // The event that a child of Eventi is.
 fn event_at(t: &[u32; 2400], s: &[u8], at: usize, levels: usize) -> Happened
     requires { ⌜ Firsts (now t) ⌝ }
@@ -116,16 +107,60 @@ fn event_at(t: &[u32; 2400], s: &[u8], at: usize, levels: usize) -> Happened
 {
     let n = Node { at, levels };
     if is_named(s, at, b"Rivalutazione") {
-        return said(s, n, revaluation(t, s, n));
+        return event(
+            t,
+            s,
+            n,
+            REVALUATION,
+            b"data",
+            b"",
+            false,
+            b"motivo",
+            b"",
+            b"confermaPrecedente",
+        );
     }
     if is_named(s, at, b"Erogazione") {
-        return said(s, n, service(t, s, n));
+        return event(
+            t,
+            s,
+            n,
+            SERVICE,
+            b"data",
+            b"",
+            true,
+            b"TipoOperatore",
+            b"numAccessi",
+            b"",
+        );
     }
     if is_named(s, at, b"Sospensione") {
-        return said(s, n, suspension(t, s, n));
+        return event(
+            t,
+            s,
+            n,
+            SUSPENSION,
+            b"dataInizio",
+            b"dataFine",
+            true,
+            b"Motivazione",
+            b"",
+            b"",
+        );
     }
     if is_named(s, at, b"Conclusione") {
-        return said(s, n, conclusion(t, s, n));
+        return event(
+            t,
+            s,
+            n,
+            CONCLUSION,
+            b"dataAD",
+            b"",
+            true,
+            b"Motivazione",
+            b"",
+            b"",
+        );
     }
     Happened::Other
 }
@@ -190,7 +225,7 @@ fn events_from(
 // The events of a record: their 52 bits in order, as many as the buffer has room for, their number, and the two tests.
 pub fn events(t: &[u32; 2400], s: &[u8], top: Six, out: &mut [u64]) -> EventsRead
     requires { ⌜ Firsts (now t) ⌝ }
-    ensures { λ r. ⌜ ((at : ℕ) (a : Tree) → TopOf (now (s .entry)) at a top → faultOf (track2 .each) a ≡ 0 → IsEvents r (now (out .entry)) (now (out .exit)) (eventsOf a)) ⌝ }
+    ensures { λ r. ⌜ ((at : ℕ) (a : Tree) → TopOf (now (s .entry)) at a top → faultOf (track2 .each) a ≡ 0 → IsEvents r (now (out .entry)) (now (out .exit)) (allSaid a)) ⌝ }
 {
     let all = top.d;
     let Entry::Open {

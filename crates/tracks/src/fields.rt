@@ -1,17 +1,18 @@
-// Numbers, dates and texts of an element's attributes and children. Each is total: where a text is not of its type, a number's last digits or day 0 are read.
+// Numbers, dates and texts of an element's attributes and children. Each is total: where a text is not of its type, some number up to 9,999 or day 0 is read.
 ghost use mathlib.Core.Path.{_≡_};
 ghost use mathlib.Core.Bool.{cond};
-ghost use Prim.Native.Nat.{_-_, _%_, _<_};
+ghost use Prim.Native.Nat.{_<_};
 ghost use lib.ListN.{drop, getD};
-ghost use Rattle.laws.specs.Decimal.{decimal};
 ghost use Rattle.days.specs.Calendar.{dayCount};
 ghost use Rattle.days.specs.Table.{Firsts};
 ghost use Rattle.markup.specs.Elements.{Tree};
 ghost use Rattle.markup.specs.View.{part, held};
-ghost use Rattle.nodes.specs.Lookup.{childOf, attrOf, hasAttr, textOf};
+ghost use Rattle.nodes.specs.Lookup.{childOf, attrOf, textOf};
 ghost use Rattle.nodes.specs.Stands.{Stands};
-ghost use Rattle.rows.specs.Row.{never};
+ghost use Rattle.home_care.specs.Row.{never};
+ghost use Rattle.tracks.specs.Wordings.{valueAt, standsAt, textAt};
 ghost use Rattle.tracks.specs.Defaults.{dayElse, numberElse};
+use codes::digits::read_digits;
 use days::dates::Date;
 use days::dates::read_date;
 use markup::bytes::part;
@@ -23,32 +24,12 @@ use nodes::children::child;
 use nodes::values::attribute;
 use nodes::values::text;
 
-fn digit(b: u8) -> u64
-    ensures { λ r. ⌜ (r ≡ b - 48) × (r < 256) ⌝ }
+// The number that the digits from one place up to another write; one above 9,999 is that.
+fn number(s: &[u8], a: usize, e: usize) -> u64
+    ensures { λ r. ⌜ (r ≡ numberElse (part (now (s .entry)) a e)) × (r < 10000) ⌝ }
 {
-    if b < b'0' {
-        return 0;
-    }
-    (b - b'0') as u64
-}
-
-fn number_of(x: &[u8]) -> u64
-    ensures { λ r. ⌜ (r ≡ decimal (now (x .entry)) % 10000) × (r < 10000) ⌝ }
-{
-    let mut n: u64 = 0;
-    let mut i = 0;
-    while i < x.len() {
-        n = (n * 10 + digit(x[i])) % 10000;
-        i += 1;
-    }
-    n
-}
-
-// The number that the digits from one place up to another write: its last four digits.
-pub fn number(s: &[u8], a: usize, e: usize) -> u64
-    ensures { λ r. ⌜ (r ≡ decimal (part (now (s .entry)) a e) % 10000) × (r < 10000) ⌝ }
-{
-    number_of(part(s, a, e))
+    let read = read_digits(part(s, a, e), 9999);
+    read.number
 }
 
 fn day_of(t: &[u32; 2400], x: &[u8]) -> u64
@@ -64,10 +45,13 @@ fn day_of(t: &[u32; 2400], x: &[u8]) -> u64
     }
 }
 
-// The number of an attribute.
+// The number of an attribute; 0 where the name is empty.
 pub fn attr_number(s: &[u8], n: Node, x: &[u8]) -> u64
-    ensures { λ r. ⌜ ((tree : Tree) → Stands (n .levels) (drop (n .at) (now (s .entry))) tree → r ≡ numberElse (attrOf (now (x .entry)) tree)) × (r < 10000) ⌝ }
+    ensures { λ r. ⌜ ((tree : Tree) → Stands (n .levels) (drop (n .at) (now (s .entry))) tree → r ≡ numberElse (valueAt (now (x .entry)) tree)) × (r < 10000) ⌝ }
 {
+    if x.len() == 0 {
+        return 0;
+    }
     match attribute(s, n, x) {
         Value::Missing => 0,
         Value::Text { start, end } => number(s, start, end),
@@ -85,11 +69,14 @@ pub fn attr_day(t: &[u32; 2400], s: &[u8], n: Node, x: &[u8]) -> u64
     }
 }
 
-// The day of an attribute that may be missing.
+// The day of an attribute that may be missing, as it is where the name is empty.
 pub fn attr_end(t: &[u32; 2400], s: &[u8], n: Node, x: &[u8]) -> u64
     requires { ⌜ Firsts (now t) ⌝ }
-    ensures { λ r. ⌜ ((tree : Tree) → Stands (n .levels) (drop (n .at) (now (s .entry))) tree → r ≡ cond (hasAttr (now (x .entry)) tree) (dayElse (attrOf (now (x .entry)) tree)) never) × (r < 131072) ⌝ }
+    ensures { λ r. ⌜ ((tree : Tree) → Stands (n .levels) (drop (n .at) (now (s .entry))) tree → r ≡ cond (standsAt (now (x .entry)) tree) (dayElse (valueAt (now (x .entry)) tree)) never) × (r < 131072) ⌝ }
 {
+    if x.len() == 0 {
+        return 131071;
+    }
     match attribute(s, n, x) {
         Value::Missing => 131071,
         Value::Text { start, end } => day_of(t, part(s, start, end)),
@@ -126,4 +113,14 @@ pub fn child_number(s: &[u8], n: Node, x: &[u8]) -> u64
     ensures { λ r. ⌜ ((tree : Tree) → Stands (n .levels) (drop (n .at) (now (s .entry))) tree → r ≡ numberElse (textOf (childOf (now (x .entry)) tree))) × (r < 10000) ⌝ }
 {
     text_number(s, child(s, n, x))
+}
+
+// The number of a child, or of an attribute.
+pub fn text_number_at(s: &[u8], n: Node, in_child: bool, x: &[u8]) -> u64
+    ensures { λ r. ⌜ ((tree : Tree) → Stands (n .levels) (drop (n .at) (now (s .entry))) tree → r ≡ numberElse (textAt «in_child» (now (x .entry)) tree)) × (r < 10000) ⌝ }
+{
+    if in_child {
+        return child_number(s, n, x);
+    }
+    attr_number(s, n, x)
 }

@@ -3,4 +3,3 @@ pub mod events;
 pub mod fields;
 pub mod record;
 pub mod shapes;
-pub mod tables;

@@ -1,37 +1,21 @@
-// The shape of a file and the number of its events (answers 6 and 7) in one pass, by its track's tables. They are made once, here, for the track at hand.
-// Each branch makes all three: with pool and ranges made once above the branches the compiler put this function into its caller, and 3 KB of tables then lay
-// under every pass of the call (bench/stack shows it).
+// The shape of a file and the number of its events (answers 6 and 7): what its track's schema counts are the record's events.
 ghost use mathlib.Core.Path.{_≡_};
 ghost use mathlib.Core.List.{List};
 ghost use Prim.Native.Nat.{ℕ};
 ghost use lib.ListN.{drop};
 ghost use Rattle.markup.specs.Reading.Read.{read};
-ghost use Rattle.markup.specs.Elements.{Tree, element};
-ghost use Rattle.markup.specs.Document.{depth};
+ghost use Rattle.markup.specs.Elements.{Tree, element, depth};
 ghost use Rattle.schema.specs.Shape.{shapeOf};
 ghost use Rattle.schema.specs.Counted.{heldBy};
 ghost use Rattle.schema.specs.View.{viewShape, okShape};
-ghost use Rattle.tracks.specs.Record.{schemaOf, crowdedIn};
-use crate::tables::POOL;
-use crate::tables::RANGES;
-use crate::tables::TABLE1;
-use crate::tables::TABLE2;
+ghost use Rattle.schemas.specs.Schemas.{schemaOf};
+ghost use Rattle.tracks.specs.Record.{crowdedIn};
 use schema::file::ShapeAnswer;
-use schema::file::shape;
+use schemas::shapes::held;
 
 // The file whose root stands at a place, as a file of a track.
 pub fn shape_of(track: u64, s: &[u8], root: usize) -> ShapeAnswer
     ensures { λ r. ⌜ ((tree : Tree) (m : List ℕ) → element depth (drop root (now (s .entry))) ≡ read tree m → viewShape r ≡ heldBy (shapeOf (schemaOf track) tree) (crowdedIn track tree)) × okShape (now (s .entry)) r ⌝ }
 {
-    if track == 1 {
-        let table = TABLE1;
-        let pool = POOL;
-        let ranges = RANGES;
-        shape(&table, &pool, &ranges, s, root)
-    } else {
-        let table = TABLE2;
-        let pool = POOL;
-        let ranges = RANGES;
-        shape(&table, &pool, &ranges, s, root)
-    }
+    held(track, s, root)
 }

@@ -1,9 +1,10 @@
 use mathlib.Core.Path.{sym, _∙_}
-use Rattle.rows.specs.Row.{rowBytes, keyBits, caseOf}
-use Rattle.register.specs.Search.{keyOf}
-use Rattle.checks.specs.Flow.{kindOf}
-use Rattle.apply.proofs.Records.{case-gone, case-out, case-in, case-applied}
 use borrow.Author.Needs.{needs}
+use Rattle.register.specs.Search.{probeKey}
+use Rattle.home_care.specs.Row.{rowBytes, keyBits}
+use Rattle.home_care.specs.Fits.{caseWith}
+use Rattle.checks.specs.Flow.{typeOf}
+use Rattle.apply.proofs.Records.{case-gone, case-out, case-in, case-applied}
 use Rattle.apply.proofs.apply_case.Statement.{statement}
 use Rattle.apply.proofs.apply_case.Tie as tie
 
@@ -22,10 +23,10 @@ same-length c = search needs
 returns : tie.Need-returns
 returns c =
     let a = c .before .before .before .before .before .before .before .before .before .before .args in
-    let k = keyOf rowBytes keyBits (a .probe .now) in
-    let d = caseOf (a .birth) (a .prevalente .now) (a .scales .now) in
+    let k = probeKey rowBytes keyBits (a .probe .now) in
+    let d = caseWith (a .birth) (a .prevalente .now) (a .scales .now) in
     let b = c .before .before .remove .last .0 in (
-      case-applied k d (a .reg .now) b (a .tipo) (case-out k d (a .reg .now) b (kindOf (a .tipo)) (sym (c .before .before .before .before .before .cancels .ensures) ∙ c .before .before .before .before .if1 .taken) (case-gone (a .probe .now) (a .reg .now) b (c .before .before .remove .result) (c .before .before .remove .ensures))),
+      case-applied k d (a .reg .now) b (a .tipo) (case-out k d (a .reg .now) b (typeOf (a .tipo)) (sym (c .before .before .before .before .before .cancels .ensures) ∙ c .before .before .before .before .if1 .taken) (case-gone (a .probe .now) (a .reg .now) b (c .before .before .remove .result) (c .before .before .remove .ensures))),
       c .before .before .remove .kept .0,
     )
 
@@ -35,10 +36,10 @@ same-length-2 c = search needs
 returns-2 : tie.Need-returns-2
 returns-2 c =
     let a = c .before .before .before .before .before .before .before .before .before .before .args in
-    let k = keyOf rowBytes keyBits (a .probe .now) in
-    let d = caseOf (a .birth) (a .prevalente .now) (a .scales .now) in
+    let k = probeKey rowBytes keyBits (a .probe .now) in
+    let d = caseWith (a .birth) (a .prevalente .now) (a .scales .now) in
     let b = c .before .before .put-case .last .0 in (
-      case-applied k d (a .reg .now) b (a .tipo) (case-in k d (a .reg .now) b (kindOf (a .tipo)) (sym (c .before .before .before .before .before .cancels .ensures) ∙ c .before .before .before .before .if1 .left) (c .before .before .put-case .ensures)),
+      case-applied k d (a .reg .now) b (a .tipo) (case-in k d (a .reg .now) b (typeOf (a .tipo)) (sym (c .before .before .before .before .before .cancels .ensures) ∙ c .before .before .before .before .if1 .left) (c .before .before .put-case .ensures)),
       c .before .before .put-case .kept .0,
     )
 

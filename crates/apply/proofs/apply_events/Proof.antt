@@ -1,9 +1,9 @@
 use mathlib.Core.Path.{sym, _∙_}
-use Rattle.rows.specs.Row.{rowBytes, keyBits}
-use Rattle.register.specs.Search.{keyOf}
-use Rattle.checks.specs.Flow.{kindOf}
-use Rattle.apply.proofs.Records.{done-in, done-out, done-over, events-applied}
 use borrow.Author.Needs.{needs}
+use Rattle.register.specs.Search.{probeKey}
+use Rattle.home_care.specs.Row.{rowBytes, keyBits}
+use Rattle.checks.specs.Flow.{typeOf}
+use Rattle.apply.proofs.Records.{done-in, done-out, done-over, events-applied}
 use Rattle.apply.proofs.apply_events.Statement.{statement}
 use Rattle.apply.proofs.apply_events.Tie as tie
 
@@ -20,8 +20,8 @@ returns : tie.Need-returns
 returns c =
     let a = c .before .before .before .before .before .before .before .before .before .args in
     let b = c .before .before .insert-events .last .0 in
-    let k = keyOf rowBytes keyBits (a .probe .now) in
-    (events-applied (a .reg .now) b (a .tipo) k (a .evs .now) (done-in k (a .evs .now) (a .reg .now) b (kindOf (a .tipo)) (sym (c .before .before .before .before .before .inserts .ensures) ∙ c .before .before .before .before .if1 .taken) (c .before .before .insert-events .ensures)), c .before .before .insert-events .kept .0)
+    let k = probeKey rowBytes keyBits (a .probe .now) in
+    (events-applied (a .reg .now) b (a .tipo) k (a .evs .now) (done-in k (a .evs .now) (a .reg .now) b (typeOf (a .tipo)) (sym (c .before .before .before .before .before .inserts .ensures) ∙ c .before .before .before .before .if1 .taken) (c .before .before .insert-events .ensures)), c .before .before .insert-events .kept .0)
 
 cancels-requires : tie.Need-cancels-requires
 cancels-requires c κs = search needs
@@ -36,8 +36,8 @@ returns-2 : tie.Need-returns-2
 returns-2 c =
     let a = c .before .before .before .before .before .before .before .before .before .before .before .args in
     let b = c .before .before .cancel-events .last .0 in
-    let k = keyOf rowBytes keyBits (a .probe .now) in
-    (events-applied (a .reg .now) b (a .tipo) k (a .evs .now) (done-out k (a .evs .now) (a .reg .now) b (kindOf (a .tipo)) (sym (c .before .before .before .before .before .cancels .ensures) ∙ c .before .before .before .before .if2 .taken) (c .before .before .cancel-events .ensures)), c .before .before .cancel-events .kept .0)
+    let k = probeKey rowBytes keyBits (a .probe .now) in
+    (events-applied (a .reg .now) b (a .tipo) k (a .evs .now) (done-out k (a .evs .now) (a .reg .now) b (typeOf (a .tipo)) (sym (c .before .before .before .before .before .cancels .ensures) ∙ c .before .before .before .before .if2 .taken) (c .before .before .cancel-events .ensures)), c .before .before .cancel-events .kept .0)
 
 vary-events-requires : tie.Need-vary-events-requires
 vary-events-requires c κs = search needs
@@ -49,8 +49,8 @@ returns-3 : tie.Need-returns-3
 returns-3 c =
     let a = c .before .before .before .before .before .before .before .before .before .before .before .args in
     let b = c .before .before .vary-events .last .0 in
-    let k = keyOf rowBytes keyBits (a .probe .now) in
-    (events-applied (a .reg .now) b (a .tipo) k (a .evs .now) (done-over k (a .evs .now) (a .reg .now) b (kindOf (a .tipo)) (sym (c .before .before .before .before .before .before .before .inserts .ensures) ∙ c .before .before .before .before .before .before .if1 .left) (sym (c .before .before .before .before .before .cancels .ensures) ∙ c .before .before .before .before .if2 .left) (c .before .before .vary-events .ensures)), c .before .before .vary-events .kept .0)
+    let k = probeKey rowBytes keyBits (a .probe .now) in
+    (events-applied (a .reg .now) b (a .tipo) k (a .evs .now) (done-over k (a .evs .now) (a .reg .now) b (typeOf (a .tipo)) (sym (c .before .before .before .before .before .before .before .inserts .ensures) ∙ c .before .before .before .before .before .before .if1 .left) (sym (c .before .before .before .before .before .cancels .ensures) ∙ c .before .before .before .before .if2 .left) (c .before .before .vary-events .ensures)), c .before .before .vary-events .kept .0)
 
 pub apply-events-spec : {M : Type 1} → statement M
 apply-events-spec =

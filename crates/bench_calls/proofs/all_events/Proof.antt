@@ -3,11 +3,11 @@ use mathlib.Core.Path.{_≡_, refl}
 use mathlib.Core.Bool.{_&&_}
 use lib.Dec.{ltb}
 use lib.ListN.{length, drop}
-use Rattle.laws.specs.Lists.{all}
-use Rattle.rows.specs.Row.{eventBits}
-use Rattle.laws.proofs.Folding.{fold-step, fold-end}
 use borrow.Author.Needs.{needs}
 use native.Mathlib.Omega.{arith}
+use Rattle.laws.specs.Lists.{all}
+use Rattle.laws.proofs.Folding.{fold-step, fold-end}
+use Rattle.home_care.specs.Row.{eventBits}
 use Rattle.bench_calls.proofs.all_events.Statement.{statement}
 use Rattle.bench_calls.proofs.all_events.Tie as tie
 

@@ -4,9 +4,9 @@ use mathlib.Core.Bool.{Bool, _&&_, true≢false}
 use lib.Dec.{ltb}
 use lib.ListN.{length}
 use borrow.Author.Tests.{not-true, not-false, eq-eqb, ne-eqb}
-use Rattle.laws.specs.Lists.{all}
-use Rattle.rows.specs.Row.{rowBytes, eventBits}
 use borrow.Author.Needs.{needs}
+use Rattle.laws.specs.Lists.{all}
+use Rattle.home_care.specs.Row.{rowBytes, eventBits}
 use Rattle.bench_calls.proofs.bench_store_events.Statement.{statement}
 use Rattle.bench_calls.proofs.bench_store_events.Tie as tie
 

@@ -1,13 +1,13 @@
 use mathlib.Core.Path.{ap, _∙_}
-use Rattle.register.specs.Calls.{Found}
 use borrow.Author.Needs.{needs}
+use Rattle.days.proofs.table.make.Reads as make-reads
+use Rattle.soundness.specs.Sound.{Found}
+use Rattle.soundness.proofs.find.find.Reads as find-reads
 use Rattle.exports.proofs.siad_find.Statement.{statement}
 use Rattle.exports.proofs.siad_find.Tie as tie
 use Rattle.exports.proofs.siad_find.Reads as reads
 use Rattle.exports.proofs.siad_find.Lts as lts
-use Rattle.days.proofs.table.make.Reads as make-reads
 use Rattle.exports.proofs.told.Reads as told-reads
-use Rattle.soundness.proofs.find.find.Reads as find-reads
 
 make-requires : tie.Need-make-requires
 make-requires c κs = search needs

@@ -1,5 +1,5 @@
-use Rattle.register.specs.Calls.{soundness}
 use borrow.Author.Needs.{needs}
+use Rattle.soundness.specs.Sound.{soundness}
 use Rattle.exports.proofs.siad_sound.Statement.{statement}
 use Rattle.exports.proofs.siad_sound.Tie as tie
 use Rattle.exports.proofs.siad_sound.Reads as reads

@@ -2,24 +2,24 @@
 use Prim.Native.Nat.{_+_, _-_, _*_, _≤_}
 use borrow.Author.Tests.{not-true, not-false}
 use lib.ListN.{length}
-use Rattle.rows.specs.Row.{rowBytes, keyBits}
-use Rattle.register.specs.Search.{keyOf}
-use Rattle.register.proofs.Stores.{room-few, room-end}
-use Rattle.apply.proofs.Filling.{standing}
-use Rattle.apply.proofs.Emptying.{Emptying, no-header, misfit, emptying-start, none-left, not-there, one-fewer, all-emptied}
 use borrow.Author.Needs.{needs}
 use native.Mathlib.Omega.{arith}
+use Rattle.register.specs.Search.{probeKey}
+use Rattle.register.proofs.Stores.{room-few, room-end}
+use Rattle.home_care.specs.Row.{rowBytes, keyBits}
+use Rattle.apply.proofs.Filling.{standing}
+use Rattle.apply.proofs.Emptying.{Emptying, no-header, misfit, emptying-start, none-left, not-there, one-fewer, all-emptied}
 use Rattle.apply.proofs.cancel.cancel_events.Statement.{statement}
 use Rattle.apply.proofs.cancel.cancel_events.Tie as tie
 
 abbrev Inv-loop : tie.InvT-loop
-Inv-loop reg₀ probe evs c n lo k i₀ j₀ bound₀ reg i j bound = Emptying reg₀ (keyOf rowBytes keyBits probe) evs c n lo reg i j bound
+Inv-loop reg₀ probe evs c n lo k i₀ j₀ bound₀ reg i j bound = Emptying reg₀ (probeKey rowBytes keyBits probe) evs c n lo reg i j bound
 
 abbrev μ-loop : tie.MeasureT-loop
 μ-loop reg₀ probe evs c n lo k i₀ j₀ bound₀ reg i j bound = length evs - j
 
 returns : tie.Need-returns Inv-loop μ-loop
-returns c = no-header (keyOf rowBytes keyBits (c .before .before .before .before .args .probe .now)) (c .before .before .before .before .args .evs .now) (c .before .before .before .before .args .reg .now) (c .if1 .taken)
+returns c = no-header (probeKey rowBytes keyBits (c .before .before .before .before .args .probe .now)) (c .before .before .before .before .args .evs .now) (c .before .before .before .before .args .reg .now) (c .if1 .taken)
 
 count-requires : tie.Need-count-requires Inv-loop μ-loop
 count-requires c κs = search needs
@@ -37,13 +37,13 @@ same-length : tie.Need-same-length Inv-loop μ-loop
 same-length c = search needs
 
 returns-2 : tie.Need-returns-2 Inv-loop μ-loop
-returns-2 c = misfit (keyOf rowBytes keyBits (c .before .before .before .before .before .before .before .before .before .before .before .args .probe .now)) (c .before .before .before .before .before .before .before .before .before .before .before .args .evs .now) (c .before .before .before .before .before .before .before .before .before .before .before .args .reg .now) (c .before .before .before .before .before .count .result) (c .before .before .before .count2 .result) (c .before .before .before .before .before .count .ensures .0) (c .before .before .before .count2 .ensures .0) (c .before .room-for .result) (c .before .room-for .ensures) (not-true _ (c .if2 .taken))
+returns-2 c = misfit (probeKey rowBytes keyBits (c .before .before .before .before .before .before .before .before .before .before .before .args .probe .now)) (c .before .before .before .before .before .before .before .before .before .before .before .args .evs .now) (c .before .before .before .before .before .before .before .before .before .before .before .args .reg .now) (c .before .before .before .before .before .count .result) (c .before .before .before .count2 .result) (c .before .before .before .before .before .count .ensures .0) (c .before .before .before .count2 .ensures .0) (c .before .room-for .result) (c .before .room-for .ensures) (not-true _ (c .if2 .taken))
 
 case-range-requires : tie.Need-case-range-requires Inv-loop μ-loop
-case-range-requires c κs = (search needs, room-end 91 (c .before .before .before .before .before .before .count .result + c .before .before .before .before .count2 .result) (length (c .before .before .before .before .before .before .before .before .before .before .before .before .args .reg .now)) (c .before .before .room-for .result) (c .before .before .room-for .ensures) (not-false _ (c .before .if2 .left)) (c .before .before .before .before .before .before .count .result + c .before .before .before .before .count2 .result) (omega arith), search needs, search needs)
+case-range-requires c κs = (search needs, room-end rowBytes (c .before .before .before .before .before .before .count .result + c .before .before .before .before .count2 .result) (length (c .before .before .before .before .before .before .before .before .before .before .before .before .args .reg .now)) (c .before .before .room-for .result) (c .before .before .room-for .ensures) (not-false _ (c .before .if2 .left)) (c .before .before .before .before .before .before .count .result + c .before .before .before .before .count2 .result) (omega arith), search needs, search needs)
 
 loop-holds : tie.Need-loop-holds Inv-loop μ-loop
-loop-holds c = emptying-start (keyOf rowBytes keyBits (c .before .before .before .before .before .before .before .before .before .before .before .before .before .args .probe .now)) (c .before .before .before .before .before .before .before .before .before .before .before .before .before .args .evs .now) (c .before .before .before .before .before .before .before .before .before .before .before .before .before .args .reg .now) (c .before .before .before .before .before .before .before .count .result) (c .before .before .before .before .before .count2 .result) (c .before .before .before .before .before .before .before .count .ensures .0) (c .before .before .before .before .before .count2 .ensures .0) (c .case-range .result .lo) (c .case-range .result .hi) (c .before .before .before .before .before .before .before .before .before .before .before .before .before .pre .1) (c .case-range .ensures) (room-end 91 (c .before .before .before .before .before .before .before .count .result + c .before .before .before .before .before .count2 .result) (length (c .before .before .before .before .before .before .before .before .before .before .before .before .before .args .reg .now)) (c .before .before .before .room-for .result) (c .before .before .before .room-for .ensures) (not-false _ (c .before .before .if2 .left)) (c .before .before .before .before .before .before .before .count .result + c .before .before .before .before .before .count2 .result) (omega arith))
+loop-holds c = emptying-start (probeKey rowBytes keyBits (c .before .before .before .before .before .before .before .before .before .before .before .before .before .args .probe .now)) (c .before .before .before .before .before .before .before .before .before .before .before .before .before .args .evs .now) (c .before .before .before .before .before .before .before .before .before .before .before .before .before .args .reg .now) (c .before .before .before .before .before .before .before .count .result) (c .before .before .before .before .before .count2 .result) (c .before .before .before .before .before .before .before .count .ensures .0) (c .before .before .before .before .before .count2 .ensures .0) (c .case-range .result .lo) (c .case-range .result .hi) (c .before .before .before .before .before .before .before .before .before .before .before .before .before .pre .1) (c .case-range .ensures) (room-end rowBytes (c .before .before .before .before .before .before .before .count .result + c .before .before .before .before .before .count2 .result) (length (c .before .before .before .before .before .before .before .before .before .before .before .before .before .args .reg .now)) (c .before .before .before .room-for .result) (c .before .before .before .room-for .ensures) (not-false _ (c .before .before .if2 .left)) (c .before .before .before .before .before .before .before .count .result + c .before .before .before .before .before .count2 .result) (omega arith))
 
 next-below-requires : tie.Need-next-below-requires Inv-loop μ-loop
 next-below-requires c κs = search needs
@@ -52,7 +52,7 @@ same-length-2 : tie.Need-same-length-2 Inv-loop μ-loop
 same-length-2 c = search needs
 
 returns-3 : tie.Need-returns-3 Inv-loop μ-loop
-returns-3 c = none-left (c .before .before .before .before .before .before .before .before .before .before .before .before .before .before .before .before .before .args .reg .now) (keyOf rowBytes keyBits (c .before .before .before .before .before .before .before .before .before .before .before .before .before .before .before .before .before .args .probe .now)) (c .before .before .before .before .before .before .before .before .before .before .before .before .before .before .before .before .before .args .evs .now) (c .before .before .before .before .before .before .before .before .before .before .before .count .result) (c .before .before .before .before .before .before .before .before .before .before .before .count .result + c .before .before .before .before .before .before .before .before .before .count2 .result) (c .before .before .before .before .case-range .result .lo) (c .before .before .before .loop .reg) (c .before .before .before .loop .i) (c .before .before .before .loop .j) (c .before .before .before .loop .bound) (c .before .before .before .loop .inv) (λ s st. standing (keyOf rowBytes keyBits (c .before .before .before .before .before .before .before .before .before .before .before .before .before .before .before .before .before .args .probe .now)) (c .before .before .before .before .before .before .before .before .before .before .before .before .before .before .before .before .before .args .evs .now) (c .before .before .before .before .before .before .before .before .before .before .before .before .before .before .before .before .before .args .reg .now) (c .before .before .before .before .before .before .before .before .before .before .before .count .result) (c .before .before .before .before .before .before .before .before .before .count2 .result) (c .before .before .before .before .before .before .before .before .before .before .before .count .ensures .0) (c .before .before .before .before .before .before .before .before .before .count2 .ensures .0) s st .1) (omega arith) (c .before .next-below .result) (c .before .next-below .ensures) (c .if3 .taken)
+returns-3 c = none-left (c .before .before .before .before .before .before .before .before .before .before .before .before .before .before .before .before .before .args .reg .now) (probeKey rowBytes keyBits (c .before .before .before .before .before .before .before .before .before .before .before .before .before .before .before .before .before .args .probe .now)) (c .before .before .before .before .before .before .before .before .before .before .before .before .before .before .before .before .before .args .evs .now) (c .before .before .before .before .before .before .before .before .before .before .before .count .result) (c .before .before .before .before .before .before .before .before .before .before .before .count .result + c .before .before .before .before .before .before .before .before .before .count2 .result) (c .before .before .before .before .case-range .result .lo) (c .before .before .before .loop .reg) (c .before .before .before .loop .i) (c .before .before .before .loop .j) (c .before .before .before .loop .bound) (c .before .before .before .loop .inv) (λ s st. standing (probeKey rowBytes keyBits (c .before .before .before .before .before .before .before .before .before .before .before .before .before .before .before .before .before .args .probe .now)) (c .before .before .before .before .before .before .before .before .before .before .before .before .before .before .before .before .before .args .evs .now) (c .before .before .before .before .before .before .before .before .before .before .before .before .before .before .before .before .before .args .reg .now) (c .before .before .before .before .before .before .before .before .before .before .before .count .result) (c .before .before .before .before .before .before .before .before .before .count2 .result) (c .before .before .before .before .before .before .before .before .before .before .before .count .ensures .0) (c .before .before .before .before .before .before .before .before .before .count2 .ensures .0) s st .1) (omega arith) (c .before .next-below .result) (c .before .next-below .ensures) (c .if3 .taken)
 
 mul-bound : tie.Need-mul-bound Inv-loop μ-loop
 mul-bound c = search needs
@@ -66,20 +66,20 @@ shr-bound c = search needs
 place-by-requires : tie.Need-place-by-requires Inv-loop μ-loop
 place-by-requires c κs =
     let v = c .before .before .before .before .before .loop .inv in
-    let e : 4 + 91 * (c .before .before .before .before .before .before .before .before .before .before .before .before .before .count .result + c .before .before .before .before .before .before .before .before .before .before .before .count2 .result) ≤ length (c .before .before .before .before .before .before .before .before .before .before .before .before .before .before .before .before .before .before .before .args .reg .now) = room-end 91 (c .before .before .before .before .before .before .before .before .before .before .before .before .before .count .result + c .before .before .before .before .before .before .before .before .before .before .before .count2 .result) (length (c .before .before .before .before .before .before .before .before .before .before .before .before .before .before .before .before .before .before .before .args .reg .now)) (c .before .before .before .before .before .before .before .before .before .room-for .result) (c .before .before .before .before .before .before .before .before .before .room-for .ensures) (not-false _ (c .before .before .before .before .before .before .before .before .if2 .left)) (c .before .before .before .before .before .before .before .before .before .before .before .before .before .count .result + c .before .before .before .before .before .before .before .before .before .before .before .count2 .result) (omega arith) in
+    let e : 4 + rowBytes * (c .before .before .before .before .before .before .before .before .before .before .before .before .before .count .result + c .before .before .before .before .before .before .before .before .before .before .before .count2 .result) ≤ length (c .before .before .before .before .before .before .before .before .before .before .before .before .before .before .before .before .before .before .before .args .reg .now) = room-end rowBytes (c .before .before .before .before .before .before .before .before .before .before .before .before .before .count .result + c .before .before .before .before .before .before .before .before .before .before .before .count2 .result) (length (c .before .before .before .before .before .before .before .before .before .before .before .before .before .before .before .before .before .before .before .args .reg .now)) (c .before .before .before .before .before .before .before .before .before .room-for .result) (c .before .before .before .before .before .before .before .before .before .room-for .ensures) (not-false _ (c .before .before .before .before .before .before .before .before .if2 .left)) (c .before .before .before .before .before .before .before .before .before .before .before .before .before .count .result + c .before .before .before .before .before .before .before .before .before .before .before .count2 .result) (omega arith) in
     (v .low, omega (arith, v .high, v .len), search needs, search needs)
 
 same-length-3 : tie.Need-same-length-3 Inv-loop μ-loop
 same-length-3 c = search needs
 
 returns-4 : tie.Need-returns-4 Inv-loop μ-loop
-returns-4 c = not-there (c .before .before .before .before .before .before .before .before .before .before .before .before .before .before .before .before .before .before .before .before .before .args .reg .now) (keyOf rowBytes keyBits (c .before .before .before .before .before .before .before .before .before .before .before .before .before .before .before .before .before .before .before .before .before .args .probe .now)) (c .before .before .before .before .before .before .before .before .before .before .before .before .before .before .before .before .before .before .before .before .before .args .evs .now) (c .before .before .before .before .before .before .before .before .before .before .before .before .before .before .before .count .result) (c .before .before .before .before .before .before .before .before .before .before .before .before .before .before .before .count .result + c .before .before .before .before .before .before .before .before .before .before .before .before .before .count2 .result) (c .before .before .before .before .before .before .before .before .case-range .result .lo) (c .before .before .before .before .before .before .before .loop .reg) (c .before .before .before .before .before .before .before .loop .i) (c .before .before .before .before .before .before .before .loop .j) (c .before .before .before .before .before .before .before .loop .bound) (c .before .before .before .before .before .before .before .loop .inv) (λ s st. standing (keyOf rowBytes keyBits (c .before .before .before .before .before .before .before .before .before .before .before .before .before .before .before .before .before .before .before .before .before .args .probe .now)) (c .before .before .before .before .before .before .before .before .before .before .before .before .before .before .before .before .before .before .before .before .before .args .evs .now) (c .before .before .before .before .before .before .before .before .before .before .before .before .before .before .before .before .before .before .before .before .before .args .reg .now) (c .before .before .before .before .before .before .before .before .before .before .before .before .before .before .before .count .result) (c .before .before .before .before .before .before .before .before .before .before .before .before .before .count2 .result) (c .before .before .before .before .before .before .before .before .before .before .before .before .before .before .before .count .ensures .0) (c .before .before .before .before .before .before .before .before .before .before .before .before .before .count2 .ensures .0) s st .1) (c .before .before .before .before .before .before .before .before .case-range .ensures .low) (c .before .before .before .before .before .next-below .result) (c .before .before .before .before .before .next-below .ensures) (c .before .before .before .before .if3 .left) (c .before .place-by .result) (c .before .place-by .ensures) (c .if4 .taken)
+returns-4 c = not-there (c .before .before .before .before .before .before .before .before .before .before .before .before .before .before .before .before .before .before .before .before .before .args .reg .now) (probeKey rowBytes keyBits (c .before .before .before .before .before .before .before .before .before .before .before .before .before .before .before .before .before .before .before .before .before .args .probe .now)) (c .before .before .before .before .before .before .before .before .before .before .before .before .before .before .before .before .before .before .before .before .before .args .evs .now) (c .before .before .before .before .before .before .before .before .before .before .before .before .before .before .before .count .result) (c .before .before .before .before .before .before .before .before .before .before .before .before .before .before .before .count .result + c .before .before .before .before .before .before .before .before .before .before .before .before .before .count2 .result) (c .before .before .before .before .before .before .before .before .case-range .result .lo) (c .before .before .before .before .before .before .before .loop .reg) (c .before .before .before .before .before .before .before .loop .i) (c .before .before .before .before .before .before .before .loop .j) (c .before .before .before .before .before .before .before .loop .bound) (c .before .before .before .before .before .before .before .loop .inv) (λ s st. standing (probeKey rowBytes keyBits (c .before .before .before .before .before .before .before .before .before .before .before .before .before .before .before .before .before .before .before .before .before .args .probe .now)) (c .before .before .before .before .before .before .before .before .before .before .before .before .before .before .before .before .before .before .before .before .before .args .evs .now) (c .before .before .before .before .before .before .before .before .before .before .before .before .before .before .before .before .before .before .before .before .before .args .reg .now) (c .before .before .before .before .before .before .before .before .before .before .before .before .before .before .before .count .result) (c .before .before .before .before .before .before .before .before .before .before .before .before .before .count2 .result) (c .before .before .before .before .before .before .before .before .before .before .before .before .before .before .before .count .ensures .0) (c .before .before .before .before .before .before .before .before .before .before .before .before .before .count2 .ensures .0) s st .1) (c .before .before .before .before .before .before .before .before .case-range .ensures .low) (c .before .before .before .before .before .next-below .result) (c .before .before .before .before .before .next-below .ensures) (c .before .before .before .before .if3 .left) (c .before .place-by .result) (c .before .place-by .ensures) (c .if4 .taken)
 
 widen-requires : tie.Need-widen-requires Inv-loop μ-loop
 widen-requires c κs =
     let v = c .before .before .before .before .before .before .before .before .loop .inv in
-    let f : c .before .before .before .before .before .before .before .before .before .before .before .before .before .before .before .before .count .result + c .before .before .before .before .before .before .before .before .before .before .before .before .before .before .count2 .result ≤ 4096 = room-few 91 (c .before .before .before .before .before .before .before .before .before .before .before .before .before .before .before .before .count .result + c .before .before .before .before .before .before .before .before .before .before .before .before .before .before .count2 .result) (length (c .before .before .before .before .before .before .before .before .before .before .before .before .before .before .before .before .before .before .before .before .before .before .args .reg .now)) (c .before .before .before .before .before .before .before .before .before .before .before .before .room-for .result) (c .before .before .before .before .before .before .before .before .before .before .before .before .room-for .ensures) (not-false _ (c .before .before .before .before .before .before .before .before .before .before .before .if2 .left)) in
-    let e : 4 + 91 * (c .before .before .before .before .before .before .before .before .before .before .before .before .before .before .before .before .count .result + c .before .before .before .before .before .before .before .before .before .before .before .before .before .before .count2 .result) ≤ length (c .before .before .before .before .before .before .before .before .before .before .before .before .before .before .before .before .before .before .before .before .before .before .args .reg .now) = room-end 91 (c .before .before .before .before .before .before .before .before .before .before .before .before .before .before .before .before .count .result + c .before .before .before .before .before .before .before .before .before .before .before .before .before .before .count2 .result) (length (c .before .before .before .before .before .before .before .before .before .before .before .before .before .before .before .before .before .before .before .before .before .before .args .reg .now)) (c .before .before .before .before .before .before .before .before .before .before .before .before .room-for .result) (c .before .before .before .before .before .before .before .before .before .before .before .before .room-for .ensures) (not-false _ (c .before .before .before .before .before .before .before .before .before .before .before .if2 .left)) (c .before .before .before .before .before .before .before .before .before .before .before .before .before .before .before .before .count .result + c .before .before .before .before .before .before .before .before .before .before .before .before .before .before .count2 .result) (omega arith) in
+    let f : c .before .before .before .before .before .before .before .before .before .before .before .before .before .before .before .before .count .result + c .before .before .before .before .before .before .before .before .before .before .before .before .before .before .count2 .result ≤ 4096 = room-few rowBytes (c .before .before .before .before .before .before .before .before .before .before .before .before .before .before .before .before .count .result + c .before .before .before .before .before .before .before .before .before .before .before .before .before .before .count2 .result) (length (c .before .before .before .before .before .before .before .before .before .before .before .before .before .before .before .before .before .before .before .before .before .before .args .reg .now)) (c .before .before .before .before .before .before .before .before .before .before .before .before .room-for .result) (c .before .before .before .before .before .before .before .before .before .before .before .before .room-for .ensures) (not-false _ (c .before .before .before .before .before .before .before .before .before .before .before .if2 .left)) in
+    let e : 4 + rowBytes * (c .before .before .before .before .before .before .before .before .before .before .before .before .before .before .before .before .count .result + c .before .before .before .before .before .before .before .before .before .before .before .before .before .before .count2 .result) ≤ length (c .before .before .before .before .before .before .before .before .before .before .before .before .before .before .before .before .before .before .before .before .before .before .args .reg .now) = room-end rowBytes (c .before .before .before .before .before .before .before .before .before .before .before .before .before .before .before .before .count .result + c .before .before .before .before .before .before .before .before .before .before .before .before .before .before .count2 .result) (length (c .before .before .before .before .before .before .before .before .before .before .before .before .before .before .before .before .before .before .before .before .before .before .args .reg .now)) (c .before .before .before .before .before .before .before .before .before .before .before .before .room-for .result) (c .before .before .before .before .before .before .before .before .before .before .before .before .room-for .ensures) (not-false _ (c .before .before .before .before .before .before .before .before .before .before .before .if2 .left)) (c .before .before .before .before .before .before .before .before .before .before .before .before .before .before .before .before .count .result + c .before .before .before .before .before .before .before .before .before .before .before .before .before .before .count2 .result) (omega arith) in
     (c .before .if4 .left, omega (arith, v .high), omega (arith, v .high, v .len))
 
 add-j : tie.Need-add-j Inv-loop μ-loop
@@ -98,20 +98,20 @@ loop-less : tie.Need-loop-less Inv-loop μ-loop
 loop-less c = search needs
 
 loop-again : tie.Need-loop-again Inv-loop μ-loop
-loop-again c = one-fewer (c .before .before .before .before .before .before .before .before .before .before .before .before .before .before .before .before .before .before .before .before .before .before .before .before .before .before .before .before .before .args .reg .now) (keyOf rowBytes keyBits (c .before .before .before .before .before .before .before .before .before .before .before .before .before .before .before .before .before .before .before .before .before .before .before .before .before .before .before .before .before .args .probe .now)) (c .before .before .before .before .before .before .before .before .before .before .before .before .before .before .before .before .before .before .before .before .before .before .before .before .before .before .before .before .before .args .evs .now) (c .before .before .before .before .before .before .before .before .before .before .before .before .before .before .before .before .before .before .before .before .before .before .before .count .result) (c .before .before .before .before .before .before .before .before .before .before .before .before .before .before .before .before .before .before .before .before .before .before .before .count .result + c .before .before .before .before .before .before .before .before .before .before .before .before .before .before .before .before .before .before .before .before .before .count2 .result) (c .before .before .before .before .before .before .before .before .before .before .before .before .before .before .before .before .case-range .result .lo) (c .before .before .before .before .before .before .before .before .before .before .before .before .before .before .before .loop .reg) (c .before .before .before .before .before .before .before .before .before .before .before .before .before .before .before .loop .i) (c .before .before .before .before .before .before .before .before .before .before .before .before .before .before .before .loop .j) (c .before .before .before .before .before .before .before .before .before .before .before .before .before .before .before .loop .bound) (c .before .before .before .before .before .before .before .before .before .before .before .before .before .before .before .loop .inv) (λ s st. standing (keyOf rowBytes keyBits (c .before .before .before .before .before .before .before .before .before .before .before .before .before .before .before .before .before .before .before .before .before .before .before .before .before .before .before .before .before .args .probe .now)) (c .before .before .before .before .before .before .before .before .before .before .before .before .before .before .before .before .before .before .before .before .before .before .before .before .before .before .before .before .before .args .evs .now) (c .before .before .before .before .before .before .before .before .before .before .before .before .before .before .before .before .before .before .before .before .before .before .before .before .before .before .before .before .before .args .reg .now) (c .before .before .before .before .before .before .before .before .before .before .before .before .before .before .before .before .before .before .before .before .before .before .before .count .result) (c .before .before .before .before .before .before .before .before .before .before .before .before .before .before .before .before .before .before .before .before .before .count2 .result) (c .before .before .before .before .before .before .before .before .before .before .before .before .before .before .before .before .before .before .before .before .before .before .before .count .ensures .0) (c .before .before .before .before .before .before .before .before .before .before .before .before .before .before .before .before .before .before .before .before .before .count2 .ensures .0) s st .1) (c .before .before .before .before .before .before .before .before .before .before .before .before .before .before .before .before .case-range .ensures .low) (c .before .before .before .before .before .before .before .before .before .before .before .before .before .next-below .result) (c .before .before .before .before .before .before .before .before .before .before .before .before .before .next-below .ensures) (c .before .before .before .before .before .before .before .before .before .before .before .before .if3 .left) (c .before .before .before .before .before .before .before .before .before .place-by .result) (c .before .before .before .before .before .before .before .before .before .place-by .ensures) (omega arith) (c .before .before .before .before .before .before .before .before .if4 .left) (c .before .before .before .before .before .before .widen .last .0) (c .before .before .set-count .last .0) (c .before .before .before .before .before .before .widen .kept .0) (c .before .before .set-count .kept .0) (c .before .before .before .before .before .before .widen .ensures) (c .before .before .set-count .ensures)
+loop-again c = one-fewer (c .before .before .before .before .before .before .before .before .before .before .before .before .before .before .before .before .before .before .before .before .before .before .before .before .before .before .before .before .before .args .reg .now) (probeKey rowBytes keyBits (c .before .before .before .before .before .before .before .before .before .before .before .before .before .before .before .before .before .before .before .before .before .before .before .before .before .before .before .before .before .args .probe .now)) (c .before .before .before .before .before .before .before .before .before .before .before .before .before .before .before .before .before .before .before .before .before .before .before .before .before .before .before .before .before .args .evs .now) (c .before .before .before .before .before .before .before .before .before .before .before .before .before .before .before .before .before .before .before .before .before .before .before .count .result) (c .before .before .before .before .before .before .before .before .before .before .before .before .before .before .before .before .before .before .before .before .before .before .before .count .result + c .before .before .before .before .before .before .before .before .before .before .before .before .before .before .before .before .before .before .before .before .before .count2 .result) (c .before .before .before .before .before .before .before .before .before .before .before .before .before .before .before .before .case-range .result .lo) (c .before .before .before .before .before .before .before .before .before .before .before .before .before .before .before .loop .reg) (c .before .before .before .before .before .before .before .before .before .before .before .before .before .before .before .loop .i) (c .before .before .before .before .before .before .before .before .before .before .before .before .before .before .before .loop .j) (c .before .before .before .before .before .before .before .before .before .before .before .before .before .before .before .loop .bound) (c .before .before .before .before .before .before .before .before .before .before .before .before .before .before .before .loop .inv) (λ s st. standing (probeKey rowBytes keyBits (c .before .before .before .before .before .before .before .before .before .before .before .before .before .before .before .before .before .before .before .before .before .before .before .before .before .before .before .before .before .args .probe .now)) (c .before .before .before .before .before .before .before .before .before .before .before .before .before .before .before .before .before .before .before .before .before .before .before .before .before .before .before .before .before .args .evs .now) (c .before .before .before .before .before .before .before .before .before .before .before .before .before .before .before .before .before .before .before .before .before .before .before .before .before .before .before .before .before .args .reg .now) (c .before .before .before .before .before .before .before .before .before .before .before .before .before .before .before .before .before .before .before .before .before .before .before .count .result) (c .before .before .before .before .before .before .before .before .before .before .before .before .before .before .before .before .before .before .before .before .before .count2 .result) (c .before .before .before .before .before .before .before .before .before .before .before .before .before .before .before .before .before .before .before .before .before .before .before .count .ensures .0) (c .before .before .before .before .before .before .before .before .before .before .before .before .before .before .before .before .before .before .before .before .before .count2 .ensures .0) s st .1) (c .before .before .before .before .before .before .before .before .before .before .before .before .before .before .before .before .case-range .ensures .low) (c .before .before .before .before .before .before .before .before .before .before .before .before .before .next-below .result) (c .before .before .before .before .before .before .before .before .before .before .before .before .before .next-below .ensures) (c .before .before .before .before .before .before .before .before .before .before .before .before .if3 .left) (c .before .before .before .before .before .before .before .before .before .place-by .result) (c .before .before .before .before .before .before .before .before .before .place-by .ensures) (omega arith) (c .before .before .before .before .before .before .before .before .if4 .left) (c .before .before .before .before .before .before .widen .last .0) (c .before .before .set-count .last .0) (c .before .before .before .before .before .before .widen .kept .0) (c .before .before .set-count .kept .0) (c .before .before .before .before .before .before .widen .ensures) (c .before .before .set-count .ensures)
 
 close-requires : tie.Need-close-requires Inv-loop μ-loop
 close-requires c κs =
     let v = c .before .before .loop .inv in
-    let f : c .before .before .before .before .before .before .before .before .before .before .count .result + c .before .before .before .before .before .before .before .before .count2 .result ≤ 4096 = room-few 91 (c .before .before .before .before .before .before .before .before .before .before .count .result + c .before .before .before .before .before .before .before .before .count2 .result) (length (c .before .before .before .before .before .before .before .before .before .before .before .before .before .before .before .before .args .reg .now)) (c .before .before .before .before .before .before .room-for .result) (c .before .before .before .before .before .before .room-for .ensures) (not-false _ (c .before .before .before .before .before .if2 .left)) in
-    let e : 4 + 91 * (c .before .before .before .before .before .before .before .before .before .before .count .result + c .before .before .before .before .before .before .before .before .count2 .result) ≤ length (c .before .before .before .before .before .before .before .before .before .before .before .before .before .before .before .before .args .reg .now) = room-end 91 (c .before .before .before .before .before .before .before .before .before .before .count .result + c .before .before .before .before .before .before .before .before .count2 .result) (length (c .before .before .before .before .before .before .before .before .before .before .before .before .before .before .before .before .args .reg .now)) (c .before .before .before .before .before .before .room-for .result) (c .before .before .before .before .before .before .room-for .ensures) (not-false _ (c .before .before .before .before .before .if2 .left)) (c .before .before .before .before .before .before .before .before .before .before .count .result + c .before .before .before .before .before .before .before .before .count2 .result) (omega arith) in
+    let f : c .before .before .before .before .before .before .before .before .before .before .count .result + c .before .before .before .before .before .before .before .before .count2 .result ≤ 4096 = room-few rowBytes (c .before .before .before .before .before .before .before .before .before .before .count .result + c .before .before .before .before .before .before .before .before .count2 .result) (length (c .before .before .before .before .before .before .before .before .before .before .before .before .before .before .before .before .args .reg .now)) (c .before .before .before .before .before .before .room-for .result) (c .before .before .before .before .before .before .room-for .ensures) (not-false _ (c .before .before .before .before .before .if2 .left)) in
+    let e : 4 + rowBytes * (c .before .before .before .before .before .before .before .before .before .before .count .result + c .before .before .before .before .before .before .before .before .count2 .result) ≤ length (c .before .before .before .before .before .before .before .before .before .before .before .before .before .before .before .before .args .reg .now) = room-end rowBytes (c .before .before .before .before .before .before .before .before .before .before .count .result + c .before .before .before .before .before .before .before .before .count2 .result) (length (c .before .before .before .before .before .before .before .before .before .before .before .before .before .before .before .before .args .reg .now)) (c .before .before .before .before .before .before .room-for .result) (c .before .before .before .before .before .before .room-for .ensures) (not-false _ (c .before .before .before .before .before .if2 .left)) (c .before .before .before .before .before .before .before .before .before .before .count .result + c .before .before .before .before .before .before .before .before .count2 .result) (omega arith) in
     (v .high, omega arith, omega (arith, v .len))
 
 same-length-4 : tie.Need-same-length-4 Inv-loop μ-loop
 same-length-4 c = search needs
 
 returns-5 : tie.Need-returns-5 Inv-loop μ-loop
-returns-5 c = all-emptied (c .before .before .before .before .before .before .before .before .before .before .before .before .before .before .before .before .before .before .before .args .reg .now) (keyOf rowBytes keyBits (c .before .before .before .before .before .before .before .before .before .before .before .before .before .before .before .before .before .before .before .args .probe .now)) (c .before .before .before .before .before .before .before .before .before .before .before .before .before .before .before .before .before .before .before .args .evs .now) (c .before .before .before .before .before .before .before .before .before .before .before .before .before .count .result) (c .before .before .before .before .before .before .before .before .before .before .before .before .before .count .result + c .before .before .before .before .before .before .before .before .before .before .before .count2 .result) (c .before .before .before .before .before .before .case-range .result .lo) (c .before .before .before .before .before .loop .reg) (c .before .before .before .before .before .loop .i) (c .before .before .before .before .before .loop .j) (c .before .before .before .before .before .loop .bound) (c .before .before .before .before .before .loop .inv) (λ s st. standing (keyOf rowBytes keyBits (c .before .before .before .before .before .before .before .before .before .before .before .before .before .before .before .before .before .before .before .args .probe .now)) (c .before .before .before .before .before .before .before .before .before .before .before .before .before .before .before .before .before .before .before .args .evs .now) (c .before .before .before .before .before .before .before .before .before .before .before .before .before .before .before .before .before .before .before .args .reg .now) (c .before .before .before .before .before .before .before .before .before .before .before .before .before .count .result) (c .before .before .before .before .before .before .before .before .before .before .before .count2 .result) (c .before .before .before .before .before .before .before .before .before .before .before .before .before .count .ensures .0) (c .before .before .before .before .before .before .before .before .before .before .before .count2 .ensures .0) s st .1) (omega arith) (c .before .before .close .last .0) (c .before .before .close .ensures)
+returns-5 c = all-emptied (c .before .before .before .before .before .before .before .before .before .before .before .before .before .before .before .before .before .before .before .args .reg .now) (probeKey rowBytes keyBits (c .before .before .before .before .before .before .before .before .before .before .before .before .before .before .before .before .before .before .before .args .probe .now)) (c .before .before .before .before .before .before .before .before .before .before .before .before .before .before .before .before .before .before .before .args .evs .now) (c .before .before .before .before .before .before .before .before .before .before .before .before .before .count .result) (c .before .before .before .before .before .before .before .before .before .before .before .before .before .count .result + c .before .before .before .before .before .before .before .before .before .before .before .count2 .result) (c .before .before .before .before .before .before .case-range .result .lo) (c .before .before .before .before .before .loop .reg) (c .before .before .before .before .before .loop .i) (c .before .before .before .before .before .loop .j) (c .before .before .before .before .before .loop .bound) (c .before .before .before .before .before .loop .inv) (λ s st. standing (probeKey rowBytes keyBits (c .before .before .before .before .before .before .before .before .before .before .before .before .before .before .before .before .before .before .before .args .probe .now)) (c .before .before .before .before .before .before .before .before .before .before .before .before .before .before .before .before .before .before .before .args .evs .now) (c .before .before .before .before .before .before .before .before .before .before .before .before .before .before .before .before .before .before .before .args .reg .now) (c .before .before .before .before .before .before .before .before .before .before .before .before .before .count .result) (c .before .before .before .before .before .before .before .before .before .before .before .count2 .result) (c .before .before .before .before .before .before .before .before .before .before .before .before .before .count .ensures .0) (c .before .before .before .before .before .before .before .before .before .before .before .count2 .ensures .0) s st .1) (omega arith) (c .before .before .close .last .0) (c .before .before .close .ensures)
 
 pub cancel-events-spec : {M : Type 1} → statement M
 cancel-events-spec =

@@ -3,6 +3,7 @@ use Rattle.register.proofs.Gaps.{gap-moved}
 use Rattle.register.proofs.GapRows.{gap-took}
 use native.Mathlib.Omega.{arith}
 use borrow.Author.Needs.{needs}
+use Rattle.home_care.specs.Row.{rowBytes}
 use Rattle.apply.proofs.cancel.widen.Statement.{statement}
 use Rattle.apply.proofs.cancel.widen.Tie as tie
 
@@ -43,7 +44,7 @@ same-length : tie.Need-same-length
 same-length c = search needs
 
 returns : tie.Need-returns
-returns c = λ n a h g. gap-took 91 (c .before .before .before .before .before .args .r) (c .before .before .before .before .before .args .j) n a _ (omega arith) (gap-moved 91 (c .before .before .before .before .before .args .r + 1) (c .before .before .before .before .before .args .i) (c .before .before .before .before .before .args .j) n a (c .before .before .before .before .before .args .reg .now) (c .before .before .shift-right .last .0) (omega arith) g (c .before .before .shift-right .ensures))
+returns c = λ n a h g. gap-took rowBytes (c .before .before .before .before .before .args .r) (c .before .before .before .before .before .args .j) n a _ (omega arith) (gap-moved rowBytes (c .before .before .before .before .before .args .r + 1) (c .before .before .before .before .before .args .i) (c .before .before .before .before .before .args .j) n a (c .before .before .before .before .before .args .reg .now) (c .before .before .shift-right .last .0) (omega arith) g (c .before .before .shift-right .ensures))
 
 pub widen-spec : {M : Type 1} → statement M
 widen-spec =

@@ -1,8 +1,9 @@
 use mathlib.Core.Path.{refl, _∙_}
-use Rattle.rows.specs.Row.{caseBits, caseNumber, caseOf}
-use Rattle.rows.proofs.Bytes.{fit-of}
-use Rattle.apply.proofs.Packing.{row-packed}
 use borrow.Author.Needs.{needs}
+use Rattle.rows.proofs.Bytes.{fit-of}
+use Rattle.home_care.specs.Row.{caseBits, caseNumber}
+use Rattle.home_care.specs.Fits.{caseWith}
+use Rattle.apply.proofs.Packing.{row-packed}
 use Rattle.apply.proofs.case.pack_case.Statement.{statement}
 use Rattle.apply.proofs.case.pack_case.Tie as tie
 
@@ -17,7 +18,7 @@ same-length c = search needs
 
 returns : tie.Need-returns
 returns c =
-    row-packed caseBits 7 (caseNumber (caseOf (c .before .before .before .before .before .before .before .before .before .before .before .before .args .birth) (c .before .before .before .before .before .before .before .before .before .before .before .before .args .prevalente .now) (c .before .before .before .before .before .before .before .before .before .before .before .before .args .scales .now))) (c .before .before .before .before .before .before .before .before .before .before .before .before .args .probe .now) (c .before .before .before .before .before .before .before .before .before .before .before .before .args .out .now) (c .before .before .before .before .before .before .put-row .last .0) (c .before .before .set-case .last .0) (c .before .before .before .before .before .before .before .before .before .before .before .before .args .key) _ refl (c .before .before .before .before .before .before .before .before .before .before .before .before .pre .1) (c .before .before .before .before .before .before .before .before .before .before .before .before .pre .0)
+    row-packed caseBits 7 (caseNumber (caseWith (c .before .before .before .before .before .before .before .before .before .before .before .before .args .birth) (c .before .before .before .before .before .before .before .before .before .before .before .before .args .prevalente .now) (c .before .before .before .before .before .before .before .before .before .before .before .before .args .scales .now))) (c .before .before .before .before .before .before .before .before .before .before .before .before .args .probe .now) (c .before .before .before .before .before .before .before .before .before .before .before .before .args .out .now) (c .before .before .before .before .before .before .put-row .last .0) (c .before .before .set-case .last .0) (c .before .before .before .before .before .before .before .before .before .before .before .before .args .key) _ refl (c .before .before .before .before .before .before .before .before .before .before .before .before .pre .1) (c .before .before .before .before .before .before .before .before .before .before .before .before .pre .0)
     (c .before .before .before .before .before .before .put-row .ensures) (c .before .before .set-case .ensures) (c .before .before .set-case .kept .0 ∙ c .before .before .before .before .before .before .put-row .kept .0 ∙ c .before .before .before .before .before .before .before .before .before .before .before .before .pre .0) (fit-of 8 (c .before .before .set-case .last .0) (λ i. c .slice-known3 .given i .fits))
 
 pub pack-case-spec : {M : Type 1} → statement M

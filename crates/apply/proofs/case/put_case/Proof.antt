@@ -2,21 +2,22 @@ use Prim.Native.Nat.{_+_}
 use mathlib.Core.Path.{refl, sym, ap, _∙_}
 use borrow.Author.Tests.{not-true, not-false}
 use lib.ListN.{length}
-use Rattle.rows.specs.Row.{rowBytes, keyBits, caseOf}
-use Rattle.register.specs.Search.{keyOf}
+use native.Mathlib.Omega.{arith}
+use borrow.Author.Needs.{needs}
+use Rattle.register.specs.Search.{probeKey}
 use Rattle.register.specs.Moves.{withCount}
 use Rattle.register.proofs.Keys.{stands-in}
 use Rattle.register.proofs.Stores.{room-few, room-end}
+use Rattle.home_care.specs.Row.{rowBytes, keyBits}
+use Rattle.home_care.specs.Fits.{caseWith}
 use Rattle.apply.proofs.CaseBytes.{case-short, case-misfits, case-over, case-full, case-new}
-use native.Mathlib.Omega.{arith}
-use borrow.Author.Needs.{needs}
 use Rattle.apply.proofs.case.put_case.Statement.{statement}
 use Rattle.apply.proofs.case.put_case.Tie as tie
 
 returns : tie.Need-returns
 returns c =
     let a = c .before .before .before .before .before .args in
-    case-short (keyOf rowBytes keyBits (a .probe .now)) (caseOf (a .birth) (a .prevalente .now) (a .scales .now)) (a .reg .now) (c .if1 .taken)
+    case-short (probeKey rowBytes keyBits (a .probe .now)) (caseWith (a .birth) (a .prevalente .now) (a .scales .now)) (a .reg .now) (c .if1 .taken)
 
 key-in-requires : tie.Need-key-in-requires
 key-in-requires c κs = search needs
@@ -39,19 +40,19 @@ same-length c = search needs
 returns-2 : tie.Need-returns-2
 returns-2 c =
     let a = c .before .before .before .before .before .before .before .before .before .before .before .before .before .args in
-    case-misfits (keyOf rowBytes keyBits (a .probe .now)) (caseOf (a .birth) (a .prevalente .now) (a .scales .now)) (c .before .before .before .before .before .before .before .key-in .ensures .small) (c .before .before .before .before .before .before .before .before .before .before .before .before .before .pre .1) (a .probe .now) refl (a .reg .now) (c .before .before .before .before .before .count .result) (c .before .before .before .count2 .result) (c .before .before .before .before .before .count .ensures .0) (c .before .before .before .count2 .ensures .0) (c .before .room-for .result) (c .before .room-for .ensures) (not-true _ (c .if2 .taken))
+    case-misfits (probeKey rowBytes keyBits (a .probe .now)) (caseWith (a .birth) (a .prevalente .now) (a .scales .now)) (c .before .before .before .before .before .before .before .key-in .ensures .small) (c .before .before .before .before .before .before .before .before .before .before .before .before .before .pre .1) (a .probe .now) refl (a .reg .now) (c .before .before .before .before .before .count .result) (c .before .before .before .count2 .result) (c .before .before .before .before .before .count .ensures .0) (c .before .before .before .count2 .ensures .0) (c .before .room-for .result) (c .before .room-for .ensures) (not-true _ (c .if2 .taken))
 
 place-requires : tie.Need-place-requires
-place-requires c κs = (search needs, room-end 91 (c .before .before .before .before .before .before .count .result + c .before .before .before .before .count2 .result) (length (c .before .before .before .before .before .before .before .before .before .before .before .before .before .before .args .reg .now)) (c .before .before .room-for .result) (c .before .before .room-for .ensures) (not-false _ (c .before .if2 .left)) (c .before .before .before .before .before .before .count .result) (omega arith), c .before .before .before .before .before .before .before .before .before .before .before .before .before .before .pre .0, search needs, search needs)
+place-requires c κs = (search needs, room-end rowBytes (c .before .before .before .before .before .before .count .result + c .before .before .before .before .count2 .result) (length (c .before .before .before .before .before .before .before .before .before .before .before .before .before .before .args .reg .now)) (c .before .before .room-for .result) (c .before .before .room-for .ensures) (not-false _ (c .before .if2 .left)) (c .before .before .before .before .before .before .count .result) (omega arith), c .before .before .before .before .before .before .before .before .before .before .before .before .before .before .pre .0, search needs, search needs)
 
 stands-requires : tie.Need-stands-requires
-stands-requires c κs = (room-end 91 (c .before .before .before .before .before .before .before .before .count .result + c .before .before .before .before .before .before .count2 .result) (length (c .before .before .before .before .before .before .before .before .before .before .before .before .before .before .before .before .args .reg .now)) (c .before .before .before .before .room-for .result) (c .before .before .before .before .room-for .ensures) (not-false _ (c .before .before .before .if2 .left)) (c .before .before .before .before .before .before .before .before .count .result) (omega arith), c .before .before .before .before .before .before .before .before .before .before .before .before .before .before .before .before .pre .0, search needs)
+stands-requires c κs = (room-end rowBytes (c .before .before .before .before .before .before .before .before .count .result + c .before .before .before .before .before .before .count2 .result) (length (c .before .before .before .before .before .before .before .before .before .before .before .before .before .before .before .before .args .reg .now)) (c .before .before .before .before .room-for .result) (c .before .before .before .before .room-for .ensures) (not-false _ (c .before .before .before .if2 .left)) (c .before .before .before .before .before .before .before .before .count .result) (omega arith), c .before .before .before .before .before .before .before .before .before .before .before .before .before .before .before .before .pre .0, search needs)
 
 set-case-requires : tie.Need-set-case-requires
 set-case-requires c κs =
     let a = c .before .before .before .before .before .before .before .before .before .before .before .before .before .before .before .before .before .before .before .args in
-    let h = stands-in 91 662 (c .before .before .before .before .before .before .before .before .before .before .before .count .result) (a .probe .now) (a .reg .now) (c .before .before .before .before .place .result) (sym (c .before .before .stands .ensures) ∙ c .before .if3 .taken) in
-    (room-end 91 (c .before .before .before .before .before .before .before .before .before .before .before .count .result + c .before .before .before .before .before .before .before .before .before .count2 .result) (length (a .reg .now)) (c .before .before .before .before .before .before .before .room-for .result) (c .before .before .before .before .before .before .before .room-for .ensures) (not-false _ (c .before .before .before .before .before .before .if2 .left)) (c .before .before .before .before .place .result + 1) (omega arith), c .before .before .before .before .before .before .before .before .before .before .before .before .before .key-in .ensures, c .before .before .before .before .before .before .before .before .before .before .before .before .before .before .before .before .before .before .before .pre .1)
+    let h = stands-in rowBytes keyBits (c .before .before .before .before .before .before .before .before .before .before .before .count .result) (a .probe .now) (a .reg .now) (c .before .before .before .before .place .result) (sym (c .before .before .stands .ensures) ∙ c .before .if3 .taken) in
+    (room-end rowBytes (c .before .before .before .before .before .before .before .before .before .before .before .count .result + c .before .before .before .before .before .before .before .before .before .count2 .result) (length (a .reg .now)) (c .before .before .before .before .before .before .before .room-for .result) (c .before .before .before .before .before .before .before .room-for .ensures) (not-false _ (c .before .before .before .before .before .before .if2 .left)) (c .before .before .before .before .place .result + 1) (omega arith), c .before .before .before .before .before .before .before .before .before .before .before .before .before .key-in .ensures, c .before .before .before .before .before .before .before .before .before .before .before .before .before .before .before .before .before .before .before .pre .1)
 
 same-length-2 : tie.Need-same-length-2
 same-length-2 c = search needs
@@ -59,7 +60,7 @@ same-length-2 c = search needs
 returns-3 : tie.Need-returns-3
 returns-3 c =
     let a = c .before .before .before .before .before .before .before .before .before .before .before .before .before .before .before .before .before .before .before .before .before .before .args in
-    case-over (keyOf rowBytes keyBits (a .probe .now)) (caseOf (a .birth) (a .prevalente .now) (a .scales .now)) (c .before .before .before .before .before .before .before .before .before .before .before .before .before .before .before .before .key-in .ensures .small) (c .before .before .before .before .before .before .before .before .before .before .before .before .before .before .before .before .before .before .before .before .before .before .pre .1) (a .probe .now) refl (a .reg .now) (c .before .before .before .before .before .before .before .before .before .before .before .before .before .before .count .result) (c .before .before .before .before .before .before .before .before .before .before .before .before .count2 .result) (c .before .before .before .before .before .before .before .before .before .before .before .before .before .before .count .ensures .0) (c .before .before .before .before .before .before .before .before .before .before .before .before .count2 .ensures .0) (c .before .before .before .before .before .before .before .place .result) (c .before .before .before .before .before .before .before .place .ensures) (c .before .before .before .before .before .stands .result) (c .before .before .before .before .before .stands .ensures) (c .before .before .before .before .if3 .taken) (c .before .before .set-case .last .0) (c .before .before .set-case .kept .0) (c .before .before .set-case .ensures)
+    case-over (probeKey rowBytes keyBits (a .probe .now)) (caseWith (a .birth) (a .prevalente .now) (a .scales .now)) (c .before .before .before .before .before .before .before .before .before .before .before .before .before .before .before .before .key-in .ensures .small) (c .before .before .before .before .before .before .before .before .before .before .before .before .before .before .before .before .before .before .before .before .before .before .pre .1) (a .probe .now) refl (a .reg .now) (c .before .before .before .before .before .before .before .before .before .before .before .before .before .before .count .result) (c .before .before .before .before .before .before .before .before .before .before .before .before .count2 .result) (c .before .before .before .before .before .before .before .before .before .before .before .before .before .before .count .ensures .0) (c .before .before .before .before .before .before .before .before .before .before .before .before .count2 .ensures .0) (c .before .before .before .before .before .before .before .place .result) (c .before .before .before .before .before .before .before .place .ensures) (c .before .before .before .before .before .stands .result) (c .before .before .before .before .before .stands .ensures) (c .before .before .before .before .if3 .taken) (c .before .before .set-case .last .0) (c .before .before .set-case .kept .0) (c .before .before .set-case .ensures)
 
 add-room-for : tie.Need-add-room-for
 add-room-for c = search needs
@@ -73,14 +74,14 @@ same-length-3 c = search needs
 returns-4 : tie.Need-returns-4
 returns-4 c =
     let a = c .before .before .before .before .before .before .before .before .before .before .before .before .before .before .before .before .before .before .before .before .before .args in
-    case-full (keyOf rowBytes keyBits (a .probe .now)) (caseOf (a .birth) (a .prevalente .now) (a .scales .now)) (c .before .before .before .before .before .before .before .before .before .before .before .before .before .before .before .key-in .ensures .small) (c .before .before .before .before .before .before .before .before .before .before .before .before .before .before .before .before .before .before .before .before .before .pre .1) (a .probe .now) refl (a .reg .now) (c .before .before .before .before .before .before .before .before .before .before .before .before .before .count .result) (c .before .before .before .before .before .before .before .before .before .before .before .count2 .result) (c .before .before .before .before .before .before .before .before .before .before .before .before .before .count .ensures .0) (c .before .before .before .before .before .before .before .before .before .before .before .count2 .ensures .0) (c .before .before .before .before .before .before .place .result) (c .before .before .before .before .before .before .place .ensures) (c .before .before .before .before .stands .result) (c .before .before .before .before .stands .ensures) (c .before .before .before .if3 .left) (c .before .room-for2 .result) (c .before .room-for2 .ensures) (not-true _ (c .if4 .taken))
+    case-full (probeKey rowBytes keyBits (a .probe .now)) (caseWith (a .birth) (a .prevalente .now) (a .scales .now)) (c .before .before .before .before .before .before .before .before .before .before .before .before .before .before .before .key-in .ensures .small) (c .before .before .before .before .before .before .before .before .before .before .before .before .before .before .before .before .before .before .before .before .before .pre .1) (a .probe .now) refl (a .reg .now) (c .before .before .before .before .before .before .before .before .before .before .before .before .before .count .result) (c .before .before .before .before .before .before .before .before .before .before .before .count2 .result) (c .before .before .before .before .before .before .before .before .before .before .before .before .before .count .ensures .0) (c .before .before .before .before .before .before .before .before .before .before .before .count2 .ensures .0) (c .before .before .before .before .before .before .place .result) (c .before .before .before .before .before .before .place .ensures) (c .before .before .before .before .stands .result) (c .before .before .before .before .stands .ensures) (c .before .before .before .if3 .left) (c .before .room-for2 .result) (c .before .room-for2 .ensures) (not-true _ (c .if4 .taken))
 
 insert-case-requires : tie.Need-insert-case-requires
 insert-case-requires c κs =
     let a = c .before .before .before .before .before .before .before .before .before .before .before .before .before .before .before .before .before .before .before .before .before .before .args in
     let n = c .before .before .before .before .before .before .before .before .before .before .before .before .before .before .count .result + c .before .before .before .before .before .before .before .before .before .before .before .before .count2 .result in
-    let few = room-few 91 (n + 1) (length (a .reg .now)) (c .before .before .room-for2 .result) (c .before .before .room-for2 .ensures) (not-false _ (c .before .if4 .left)) in
-    (omega (arith, c .before .before .before .before .before .before .before .place .ensures .high), omega arith, room-end 91 (n + 1) (length (a .reg .now)) (c .before .before .room-for2 .result) (c .before .before .room-for2 .ensures) (not-false _ (c .before .if4 .left)) (n + 1) (omega arith), c .before .before .before .before .before .before .before .before .before .before .before .before .before .before .before .before .key-in .ensures, c .before .before .before .before .before .before .before .before .before .before .before .before .before .before .before .before .before .before .before .before .before .before .pre .1)
+    let few = room-few rowBytes (n + 1) (length (a .reg .now)) (c .before .before .room-for2 .result) (c .before .before .room-for2 .ensures) (not-false _ (c .before .if4 .left)) in
+    (omega (arith, c .before .before .before .before .before .before .before .place .ensures .high), omega arith, room-end rowBytes (n + 1) (length (a .reg .now)) (c .before .before .room-for2 .result) (c .before .before .room-for2 .ensures) (not-false _ (c .before .if4 .left)) (n + 1) (omega arith), c .before .before .before .before .before .before .before .before .before .before .before .before .before .before .before .before .key-in .ensures, c .before .before .before .before .before .before .before .before .before .before .before .before .before .before .before .before .before .before .before .before .before .before .pre .1)
 
 add-set-count : tie.Need-add-set-count
 add-set-count c = omega (arith, c .before .before .before .before .before .before .before .before .before .before .before .before .before .before .before .before .before .before .count .ensures .1)
@@ -95,9 +96,9 @@ returns-5 : tie.Need-returns-5
 returns-5 c =
     let n = c .before .before .before .before .before .before .before .before .before .before .before .before .before .before .before .before .before .before .before .before .before .count .result + c .before .before .before .before .before .before .before .before .before .before .before .before .before .before .before .before .before .before .before .count2 .result in
     let a = c .before .before .before .before .before .before .before .before .before .before .before .before .before .before .before .before .before .before .before .before .before .before .before .before .before .before .before .before .before .args in
-    case-new (keyOf rowBytes keyBits (a .probe .now)) (caseOf (a .birth) (a .prevalente .now) (a .scales .now)) (c .before .before .before .before .before .before .before .before .before .before .before .before .before .before .before .before .before .before .before .before .before .before .before .key-in .ensures .small) (c .before .before .before .before .before .before .before .before .before .before .before .before .before .before .before .before .before .before .before .before .before .before .before .before .before .before .before .before .before .pre .1) (a .probe .now) refl (a .reg .now) (c .before .before .before .before .before .before .before .before .before .before .before .before .before .before .before .before .before .before .before .before .before .count .result) (c .before .before .before .before .before .before .before .before .before .before .before .before .before .before .before .before .before .before .before .count2 .result) (c .before .before .before .before .before .before .before .before .before .before .before .before .before .before .before .before .before .before .before .before .before .count .ensures .0) (c .before .before .before .before .before .before .before .before .before .before .before .before .before .before .before .before .before .before .before .count2 .ensures .0) (c .before .before .before .before .before .before .before .before .before .before .before .before .before .before .place .result) (c .before .before .before .before .before .before .before .before .before .before .before .before .before .before .place .ensures) (c .before .before .before .before .before .before .before .before .before .before .before .before .stands .result) (c .before .before .before .before .before .before .before .before .before .before .before .before .stands .ensures) (c .before .before .before .before .before .before .before .before .before .before .before .if3 .left) (c .before .before .set-count .last .0) (c .before .before .set-count .kept .0 ∙ c .before .before .before .before .before .before .insert-case .kept .0)
-    (room-few 91 (n + 1) (length (a .reg .now)) (c .before .before .before .before .before .before .before .before .before .room-for2 .result) (c .before .before .before .before .before .before .before .before .before .room-for2 .ensures) (not-false _ (c .before .before .before .before .before .before .before .before .if4 .left)))
-    (room-end 91 (n + 1) (length (a .reg .now)) (c .before .before .before .before .before .before .before .before .before .room-for2 .result) (c .before .before .before .before .before .before .before .before .before .room-for2 .ensures) (not-false _ (c .before .before .before .before .before .before .before .before .if4 .left)) (n + 1) (omega arith))
+    case-new (probeKey rowBytes keyBits (a .probe .now)) (caseWith (a .birth) (a .prevalente .now) (a .scales .now)) (c .before .before .before .before .before .before .before .before .before .before .before .before .before .before .before .before .before .before .before .before .before .before .before .key-in .ensures .small) (c .before .before .before .before .before .before .before .before .before .before .before .before .before .before .before .before .before .before .before .before .before .before .before .before .before .before .before .before .before .pre .1) (a .probe .now) refl (a .reg .now) (c .before .before .before .before .before .before .before .before .before .before .before .before .before .before .before .before .before .before .before .before .before .count .result) (c .before .before .before .before .before .before .before .before .before .before .before .before .before .before .before .before .before .before .before .count2 .result) (c .before .before .before .before .before .before .before .before .before .before .before .before .before .before .before .before .before .before .before .before .before .count .ensures .0) (c .before .before .before .before .before .before .before .before .before .before .before .before .before .before .before .before .before .before .before .count2 .ensures .0) (c .before .before .before .before .before .before .before .before .before .before .before .before .before .before .place .result) (c .before .before .before .before .before .before .before .before .before .before .before .before .before .before .place .ensures) (c .before .before .before .before .before .before .before .before .before .before .before .before .stands .result) (c .before .before .before .before .before .before .before .before .before .before .before .before .stands .ensures) (c .before .before .before .before .before .before .before .before .before .before .before .if3 .left) (c .before .before .set-count .last .0) (c .before .before .set-count .kept .0 ∙ c .before .before .before .before .before .before .insert-case .kept .0)
+    (room-few rowBytes (n + 1) (length (a .reg .now)) (c .before .before .before .before .before .before .before .before .before .room-for2 .result) (c .before .before .before .before .before .before .before .before .before .room-for2 .ensures) (not-false _ (c .before .before .before .before .before .before .before .before .if4 .left)))
+    (room-end rowBytes (n + 1) (length (a .reg .now)) (c .before .before .before .before .before .before .before .before .before .room-for2 .result) (c .before .before .before .before .before .before .before .before .before .room-for2 .ensures) (not-false _ (c .before .before .before .before .before .before .before .before .if4 .left)) (n + 1) (omega arith))
     (c .before .before .set-count .ensures ∙ ap (withCount 0 (c .before .before .before .before .before .before .before .before .before .before .before .before .before .before .before .before .before .before .before .before .before .count .result + 1)) (c .before .before .before .before .before .before .insert-case .ensures))
 
 pub put-case-spec : {M : Type 1} → statement M

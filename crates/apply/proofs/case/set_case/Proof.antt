@@ -1,4 +1,5 @@
 use Prim.Native.Nat.{_+_, _*_}
+use Rattle.home_care.specs.Row.{rowBytes}
 use Rattle.apply.proofs.Packing.{row-set, cut-length}
 use borrow.Author.Needs.{needs}
 use Rattle.apply.proofs.case.set_case.Statement.{statement}
@@ -29,7 +30,7 @@ same-length : tie.Need-same-length
 same-length c = search needs
 
 returns : tie.Need-returns
-returns c = row-set (4 + 91 * c .before .before .before .before .before .before .before .before .args .i) (c .before .before .before .before .before .before .before .before .args .reg .now) _ (c .before .before .pack-case .last .0) (c .before .before .pack-case .ensures)
+returns c = row-set (4 + rowBytes * c .before .before .before .before .before .before .before .before .args .i) (c .before .before .before .before .before .before .before .before .args .reg .now) _ (c .before .before .pack-case .last .0) (c .before .before .pack-case .ensures)
 
 pub set-case-spec : {M : Type 1} → statement M
 set-case-spec =

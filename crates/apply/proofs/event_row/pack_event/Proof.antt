@@ -1,8 +1,8 @@
 use mathlib.Core.Path.{refl, _∙_}
-use Rattle.rows.specs.Row.{eventBits}
-use Rattle.rows.proofs.Bytes.{fit-of}
-use Rattle.apply.proofs.Packing.{row-packed}
 use borrow.Author.Needs.{needs}
+use Rattle.rows.proofs.Bytes.{fit-of}
+use Rattle.home_care.specs.Row.{eventBits}
+use Rattle.apply.proofs.Packing.{row-packed}
 use Rattle.apply.proofs.event_row.pack_event.Statement.{statement}
 use Rattle.apply.proofs.event_row.pack_event.Tie as tie
 

@@ -1,4 +1,5 @@
 use Prim.Native.Nat.{_+_, _*_}
+use Rattle.home_care.specs.Row.{rowBytes}
 use Rattle.apply.proofs.Packing.{row-set}
 use borrow.Author.Needs.{needs}
 use Rattle.apply.proofs.event_row.set_row.Statement.{statement}
@@ -29,7 +30,7 @@ same-length : tie.Need-same-length
 same-length c = search needs
 
 returns : tie.Need-returns
-returns c = row-set (4 + 91 * c .before .before .before .before .before .before .args .i) (c .before .before .before .before .before .before .args .reg .now) _ (c .before .before .pack-event .last .0) (c .before .before .pack-event .ensures)
+returns c = row-set (4 + rowBytes * c .before .before .before .before .before .before .args .i) (c .before .before .before .before .before .before .args .reg .now) _ (c .before .before .pack-event .last .0) (c .before .before .pack-event .ensures)
 
 pub set-row-spec : {M : Type 1} → statement M
 set-row-spec =

@@ -7,9 +7,6 @@ use Rattle.apply.proofs.key.key_in.Tie as tie
 mul-get : tie.Need-mul-get
 mul-get c = search needs
 
-cast-get : tie.Need-cast-get
-cast-get c = search needs
-
 get-requires : tie.Need-get-requires
 get-requires c κs = search needs
 
@@ -17,4 +14,4 @@ returns : tie.Need-returns
 returns c = key-held (c .before .before .args .probe .now) (c .get .result) (fit-of 8 (c .before .before .args .probe .now) (λ i. c .before .shared-slice-known .given i .fits)) (c .before .before .pre) (c .get .ensures)
 
 pub key-in-spec : {M : Type 1} → statement M
-key-in-spec = tie.close (tie.spec mul-get cast-get get-requires returns)
+key-in-spec = tie.close (tie.spec mul-get get-requires returns)

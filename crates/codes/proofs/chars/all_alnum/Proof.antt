@@ -3,7 +3,8 @@ use mathlib.Core.Path.{_≡_}
 use mathlib.Core.Bool.{_&&_}
 use lib.ListN.{length, drop}
 use Rattle.laws.specs.Lists.{all}
-use Rattle.codes.specs.Chars.{isAlnum}
+use Rattle.codes.specs.Ranges.{inRanges}
+use Rattle.codes.specs.Chars.{alnums}
 use Rattle.laws.proofs.Folding.{fold-step, fold-end}
 use borrow.Author.Needs.{needs}
 use native.Mathlib.Omega.{arith}
@@ -11,7 +12,7 @@ use Rattle.codes.proofs.chars.all_alnum.Statement.{statement}
 use Rattle.codes.proofs.chars.all_alnum.Tie as tie
 
 abbrev Inv-loop : tie.InvT-loop
-Inv-loop s good₀ i₀ good i = (i ≤ length s) × (all isAlnum s ≡ (good && all isAlnum (drop i s)))
+Inv-loop s good₀ i₀ good i = (i ≤ length s) × (all (inRanges alnums) s ≡ (good && all (inRanges alnums) (drop i s)))
 
 abbrev μ-loop : tie.MeasureT-loop
 μ-loop s good₀ i₀ good i = length s - i
@@ -32,10 +33,10 @@ loop-less : tie.Need-loop-less Inv-loop μ-loop
 loop-less c = search needs
 
 loop-again : tie.Need-loop-again Inv-loop μ-loop
-loop-again c = (omega arith, fold-step isAlnum (c .before .before .before .before .before .args .s .now) (c .before .before .before .loop .i) _ (c .before .before .before .loop .good) _ (omega arith) (c .is-alnum .ensures) (c .before .before .before .loop .inv .1))
+loop-again c = (omega arith, fold-step (inRanges alnums) (c .before .before .before .before .before .args .s .now) (c .before .before .before .loop .i) _ (c .before .before .before .loop .good) _ (omega arith) (c .is-alnum .ensures) (c .before .before .before .loop .inv .1))
 
 returns : tie.Need-returns Inv-loop μ-loop
-returns c = fold-end isAlnum (c .before .before .before .args .s .now) (c .before .loop .i) _ (c .before .loop .good) (omega arith) (c .before .loop .inv .1)
+returns c = fold-end (inRanges alnums) (c .before .before .before .args .s .now) (c .before .loop .i) _ (c .before .loop .good) (omega arith) (c .before .loop .inv .1)
 
 pub all-alnum-spec : {M : Type 1} → statement M
 all-alnum-spec =

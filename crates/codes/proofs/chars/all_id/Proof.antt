@@ -3,7 +3,8 @@ use mathlib.Core.Path.{_≡_}
 use mathlib.Core.Bool.{_&&_}
 use lib.ListN.{length, drop}
 use Rattle.laws.specs.Lists.{all}
-use Rattle.codes.specs.Chars.{idChar}
+use Rattle.codes.specs.Ranges.{inRanges}
+use Rattle.codes.specs.Chars.{idChars}
 use Rattle.laws.proofs.Folding.{fold-step, fold-end}
 use borrow.Author.Needs.{needs}
 use native.Mathlib.Omega.{arith}
@@ -11,7 +12,7 @@ use Rattle.codes.proofs.chars.all_id.Statement.{statement}
 use Rattle.codes.proofs.chars.all_id.Tie as tie
 
 abbrev Inv-loop : tie.InvT-loop
-Inv-loop s good₀ i₀ good i = (i ≤ length s) × (all idChar s ≡ (good && all idChar (drop i s)))
+Inv-loop s good₀ i₀ good i = (i ≤ length s) × (all (inRanges idChars) s ≡ (good && all (inRanges idChars) (drop i s)))
 
 abbrev μ-loop : tie.MeasureT-loop
 μ-loop s good₀ i₀ good i = length s - i
@@ -32,10 +33,10 @@ loop-less : tie.Need-loop-less Inv-loop μ-loop
 loop-less c = search needs
 
 loop-again : tie.Need-loop-again Inv-loop μ-loop
-loop-again c = (omega arith, fold-step idChar (c .before .before .before .before .before .args .s .now) (c .before .before .before .loop .i) _ (c .before .before .before .loop .good) _ (omega arith) (c .id-char .ensures) (c .before .before .before .loop .inv .1))
+loop-again c = (omega arith, fold-step (inRanges idChars) (c .before .before .before .before .before .args .s .now) (c .before .before .before .loop .i) _ (c .before .before .before .loop .good) _ (omega arith) (c .id-char .ensures) (c .before .before .before .loop .inv .1))
 
 returns : tie.Need-returns Inv-loop μ-loop
-returns c = fold-end idChar (c .before .before .before .args .s .now) (c .before .loop .i) _ (c .before .loop .good) (omega arith) (c .before .loop .inv .1)
+returns c = fold-end (inRanges idChars) (c .before .before .before .args .s .now) (c .before .loop .i) _ (c .before .loop .good) (omega arith) (c .before .loop .inv .1)
 
 pub all-id-spec : {M : Type 1} → statement M
 all-id-spec =

@@ -4,20 +4,23 @@ use mathlib.Core.Bool.{_||_}
 use lib.Dec.{eqb}
 use lib.ListN.{length, drop}
 use Rattle.laws.proofs.Folding.{some-step, some-end}
-use Rattle.codes.specs.Codes.{isOneOf}
+use mathlib.Core.List.{map}
+use Rattle.laws.specs.Lists.{any}
+use Rattle.codes.specs.Ranges.{only, inRanges}
+use Rattle.codes.proofs.Ranges.{singles-are}
 use borrow.Author.Needs.{needs}
 use native.Mathlib.Omega.{arith}
 use Rattle.codes.proofs.lists.one_of.Statement.{statement}
 use Rattle.codes.proofs.lists.one_of.Tie as tie
 
 abbrev Inv-loop : tie.InvT-loop
-Inv-loop list n found₀ i₀ found i = (i ≤ length list) × (isOneOf list n ≡ (found || isOneOf (drop i list) n))
+Inv-loop list n found₀ i₀ found i = (i ≤ length list) × (inRanges (map only list) n ≡ (found || any (λ m. eqb m n) (drop i list)))
 
 abbrev μ-loop : tie.MeasureT-loop
 μ-loop list n found₀ i₀ found i = length list - i
 
 loop-holds : tie.Need-loop-holds Inv-loop μ-loop
-loop-holds c = search needs
+loop-holds c = (omega arith, singles-are _ _)
 
 mul-found : tie.Need-mul-found Inv-loop μ-loop
 mul-found c = search needs

@@ -1,6 +1,5 @@
-use Rattle.days.proofs.Months.{past-december}
-use Rattle.days.proofs.Months.{not-february}
 use borrow.Author.Needs.{needs}
+use Rattle.days.proofs.Months.{past-december, not-february}
 use Rattle.days.proofs.calendar.month_length.Statement.{statement}
 use Rattle.days.proofs.calendar.month_length.Tie as tie
 use Rattle.days.proofs.calendar.month_length.Reads as reads

@@ -12,7 +12,6 @@ use Rattle.days.proofs.dates.digits.Statement.{statement}
 use Rattle.days.proofs.dates.digits.Tie as tie
 use Rattle.days.proofs.dates.digits.Reads as reads
 use Rattle.days.proofs.dates.digits.Lts as lts
-use Rattle.days.proofs.dates.is_digit.Reads as is-digit-reads
 
 abbrev Inv-loop : tie.InvT-loop
 Inv-loop s at n number₀ i₀ number i = (i ≤ n) × (number < 10 ^ i) × Left (take n (drop at s)) number i

@@ -1,4 +1,5 @@
 use borrow.Author.Tests.{eq-eqb, ne-eqb}
+use Rattle.judge.specs.View.{contextIn}
 use Rattle.intake.proofs.RecordRead.{same-here, same-took}
 use borrow.Author.Needs.{needs}
 use Rattle.intake.proofs.record.take_record.Statement.{statement}
@@ -23,7 +24,7 @@ same-length c = search needs
 returns : tie.Need-returns
 returns c =
     let e = eq-eqb _ 1 (c .before .before .before .before .before .if1 .taken) in
-    λ a x. same-took _ 1 e a (c .before .before .take-admission .ensures a (same-here _ 1 e a x))
+    λ a x. same-took _ 1 e a (contextIn (c .before .before .before .before .before .before .before .before .before .args .l)) (c .before .before .take-admission .ensures a (same-here _ 1 e a x))
 
 same-length-2 : tie.Need-same-length-2
 same-length-2 c = search needs
@@ -31,7 +32,7 @@ same-length-2 c = search needs
 returns-2 : tie.Need-returns-2
 returns-2 c =
     let e = ne-eqb _ 1 (c .before .before .before .before .before .if1 .left) in
-    λ a x. same-took _ 2 e a (c .before .before .take-events .ensures a (same-here _ 2 e a x))
+    λ a x. same-took _ 2 e a (contextIn (c .before .before .before .before .before .before .before .before .before .args .l)) (c .before .before .take-events .ensures a (same-here _ 2 e a x))
 
 pub take-record-spec : {M : Type 1} → statement M
 take-record-spec =

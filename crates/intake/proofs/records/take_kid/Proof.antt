@@ -1,14 +1,53 @@
+-- Where the child is named as a record, it is one that stands there with its children at hand, and the list has a byte for its answer.
+use Prim.Native.Nat.{ℕ, _≤_, _<_}
 use mathlib.Core.Bool.{true}
 use mathlib.Core.Path.{_≡_}
-use Rattle.intake.proofs.Along.{kid-passed, kid-accepted, kid-discarded, next-here, next-fits}
-use Rattle.judge.specs.View.{contextIn}
-use Rattle.reading.specs.Many.{belowRoot}
-use borrow.Author.Tests.{not-true, not-false}
+use lib.ListN.{length}
 use denote.Ref.{now}
 use native.Mathlib.Omega.{arith}
 use borrow.Author.Needs.{needs}
+use borrow.Author.Tests.{not-true, not-false}
+use Rattle.laws.specs.Lists.{same}
+use Rattle.markup.specs.Elements.{Tree}
+use Rattle.reading.specs.Many.{belowRoot}
+use Rattle.model.specs.Flow.{State}
+use Rattle.home_care.specs.Record.{Record}
+use Rattle.judge.specs.View.{contextIn}
+use Rattle.intake.specs.Driving.{Driver}
+use Rattle.intake.specs.Taking.{Here, assistenza, siadDriver}
+use Rattle.intake.specs.Kids.{Next}
+use Rattle.intake.proofs.Along.{kid-passed, kid-accepted, kid-discarded}
+use Rattle.intake.proofs.SiadDriver.{next-here, next-fits}
 use Rattle.intake.proofs.records.take_kid.Statement.{statement}
 use Rattle.intake.proofs.records.take_kid.Tie as tie
+
+abbrev driver : tie.Start → Driver (State ℕ ℕ) Record
+driver s = siadDriver (s .args .track) (contextIn (s .args .l))
+
+abbrev start : tie.After-is-named → tie.Start
+start p = p .before .before .before .before .before
+
+-- the child a is the one that stands there
+abbrev Stands : tie.Start → Tree → Type 0
+Stands s a = Next (s .args .track) (now (s .args .s)) (s .args .at) (s .args .top) (s .args .before) (length (now (s .args .answers))) a
+
+is : (p : tie.After-is-named) (a : Tree) → Stands (start p) a → p .is-named .result ≡ same assistenza (a .named)
+is p a k = p .is-named .ensures belowRoot a (k .tops .after) (k .tops .reads)
+
+module _ (p : tie.Else1) where
+  abbrev s : tie.Start
+  s = start (p .before)
+
+  named : p .before .is-named .result ≡ true
+  named = not-false _ (p .if1 .left)
+
+  here : (a : Tree) → Stands s a → Here (s .args .track) (now (s .args .s)) (s .args .top) a
+  here a k = next-here (s .args .track) (s .args .before) a (is (p .before) a k) k named
+
+  counts : (s .args .before .records < length (now (s .args .answers))) × (s .args .before .accepted ≤ s .args .before .records)
+  counts =
+      let k = s .pre .0 .1 in
+      (next-fits (s .args .track) (s .args .before) (s .pre .0 .0) (is (p .before) (s .pre .0 .0) k) k named, k .counts)
 
 slice-aggregate-is-named : tie.Need-slice-aggregate-is-named
 slice-aggregate-is-named c = search needs
@@ -18,31 +57,26 @@ is-named-requires c κs = search needs
 
 returns : tie.Need-returns
 returns c =
-    λ a k. kid-passed _ (contextIn (c .before .before .before .before .before .before .args .l)) _ _ _ a (c .before .is-named .ensures belowRoot a (k .tops .after) (k .tops .reads)) (not-true _ (c .if1 .taken))
+    let o = start (c .before) in
+    λ a k. kid-passed (driver o) (o .args .before) (now (o .args .reg)) (now (o .args .answers)) a (is (c .before) a k) (not-true _ (c .if1 .taken))
 
 take-record-requires : tie.Need-take-record-requires
 take-record-requires c κs =
-    let p = c .before .before .before .before .before .before .before .pre .0 in
-    let y : c .before .before .is-named .result ≡ true = not-false _ (c .before .if1 .left) in
-    ((p .0, next-here (c .before .before .before .before .before .before .before .args .track) (contextIn (c .before .before .before .before .before .before .before .args .l)) (c .before .before .before .before .before .before .before .args .before) (now (c .before .before .before .before .before .before .before .args .reg)) (now (c .before .before .before .before .before .before .before .args .answers)) (p .0) (c .before .before .is-named .ensures belowRoot (p .0) ((p .1) .tops .after) ((p .1) .tops .reads)) (p .1) y), c .before .before .before .before .before .before .before .pre .1, c .before .before .before .before .before .before .before .pre .2)
+    let p = c .before in
+    let o = s p in
+    ((o .pre .0 .0, here p (o .pre .0 .0) (o .pre .0 .1)), o .pre .1, o .pre .2)
 
 slice-write-answers : tie.Need-slice-write-answers
 slice-write-answers c =
-    let p = c .before .before .before .before .before .before .before .before .before .before .pre .0 in
-    let y : c .before .before .before .before .before .is-named .result ≡ true = not-false _ (c .before .before .before .before .if1 .left) in
-    omega (arith, next-fits (c .before .before .before .before .before .before .before .before .before .before .args .track) (contextIn (c .before .before .before .before .before .before .before .before .before .before .args .l)) (c .before .before .before .before .before .before .before .before .before .before .args .before) (now (c .before .before .before .before .before .before .before .before .before .before .args .reg)) (now (c .before .before .before .before .before .before .before .before .before .before .args .answers)) (p .0) (c .before .before .before .before .before .is-named .ensures belowRoot (p .0) ((p .1) .tops .after) ((p .1) .tops .reads)) (p .1) y, p .1 .counts)
+    omega (arith, counts (c .before .before .before .before))
 
 add-t19 : tie.Need-add-t19
 add-t19 c =
-    let p = c .before .before .before .before .before .before .before .before .before .before .before .pre .0 in
-    let y : c .before .before .before .before .before .before .is-named .result ≡ true = not-false _ (c .before .before .before .before .before .if1 .left) in
-    omega (arith, next-fits (c .before .before .before .before .before .before .before .before .before .before .before .args .track) (contextIn (c .before .before .before .before .before .before .before .before .before .before .before .args .l)) (c .before .before .before .before .before .before .before .before .before .before .before .args .before) (now (c .before .before .before .before .before .before .before .before .before .before .before .args .reg)) (now (c .before .before .before .before .before .before .before .before .before .before .before .args .answers)) (p .0) (c .before .before .before .before .before .before .is-named .ensures belowRoot (p .0) ((p .1) .tops .after) ((p .1) .tops .reads)) (p .1) y, p .1 .counts)
+    omega (arith, counts (c .before .before .before .before .before))
 
 add-t20 : tie.Need-add-t20
 add-t20 c =
-    let p = c .before .before .before .before .before .before .before .before .before .before .before .before .pre .0 in
-    let y : c .before .before .before .before .before .before .before .is-named .result ≡ true = not-false _ (c .before .before .before .before .before .before .if1 .left) in
-    omega (arith, next-fits (c .before .before .before .before .before .before .before .before .before .before .before .before .args .track) (contextIn (c .before .before .before .before .before .before .before .before .before .before .before .before .args .l)) (c .before .before .before .before .before .before .before .before .before .before .before .before .args .before) (now (c .before .before .before .before .before .before .before .before .before .before .before .before .args .reg)) (now (c .before .before .before .before .before .before .before .before .before .before .before .before .args .answers)) (p .0) (c .before .before .before .before .before .before .before .is-named .ensures belowRoot (p .0) ((p .1) .tops .after) ((p .1) .tops .reads)) (p .1) y, p .1 .counts)
+    omega (arith, counts (c .before .before .before .before .before .before))
 
 same-length : tie.Need-same-length
 same-length c = search needs
@@ -52,14 +86,14 @@ same-length-2 c = search needs
 
 returns-2 : tie.Need-returns-2
 returns-2 c =
-    let y : c .before .before .before .before .before .before .before .is-named .result ≡ true = not-false _ (c .before .before .before .before .before .before .if1 .left) in
-    λ a k. kid-accepted (c .before .before .before .before .before .before .before .before .before .before .before .before .args .track) (contextIn (c .before .before .before .before .before .before .before .before .before .before .before .before .args .l)) (c .before .before .before .before .before .before .before .before .before .before .before .before .args .before) (now (c .before .before .before .before .before .before .before .before .before .before .before .before .args .reg)) (now (c .before .before .before .before .before .before .before .before .before .before .before .before .args .answers)) a (c .before .before .before .before .before .before .before .is-named .ensures belowRoot a (k .tops .after) (k .tops .reads)) y (c .before .before .before .before .take-record .result) (c .before .before .before .before .take-record .ensures a (next-here (c .before .before .before .before .before .before .before .before .before .before .before .before .args .track) (contextIn (c .before .before .before .before .before .before .before .before .before .before .before .before .args .l)) (c .before .before .before .before .before .before .before .before .before .before .before .before .args .before) (now (c .before .before .before .before .before .before .before .before .before .before .before .before .args .reg)) (now (c .before .before .before .before .before .before .before .before .before .before .before .before .args .answers)) a (c .before .before .before .before .before .before .before .is-named .ensures belowRoot a (k .tops .after) (k .tops .reads)) k y)) (c .before .if2 .taken)
+    let p = c .before .before .before .before .before .before in
+    let o = s p in
+    let r = c .before .before .before .before .take-record in
+    λ a k. kid-accepted (driver o) (o .args .before) (now (o .args .reg)) (now (o .args .answers)) a (is (p .before) a k) (named p) (r .result) (r .ensures a (here p a k)) (c .before .if2 .taken)
 
 add-t21 : tie.Need-add-t21
 add-t21 c =
-    let p = c .before .before .before .before .before .before .before .before .before .before .before .pre .0 in
-    let y : c .before .before .before .before .before .before .is-named .result ≡ true = not-false _ (c .before .before .before .before .before .if1 .left) in
-    omega (arith, next-fits (c .before .before .before .before .before .before .before .before .before .before .before .args .track) (contextIn (c .before .before .before .before .before .before .before .before .before .before .before .args .l)) (c .before .before .before .before .before .before .before .before .before .before .before .args .before) (now (c .before .before .before .before .before .before .before .before .before .before .before .args .reg)) (now (c .before .before .before .before .before .before .before .before .before .before .before .args .answers)) (p .0) (c .before .before .before .before .before .before .is-named .ensures belowRoot (p .0) ((p .1) .tops .after) ((p .1) .tops .reads)) (p .1) y, p .1 .counts)
+    omega (arith, counts (c .before .before .before .before .before))
 
 same-length-3 : tie.Need-same-length-3
 same-length-3 c = search needs
@@ -69,8 +103,10 @@ same-length-4 c = search needs
 
 returns-3 : tie.Need-returns-3
 returns-3 c =
-    let y : c .before .before .before .before .before .before .is-named .result ≡ true = not-false _ (c .before .before .before .before .before .if1 .left) in
-    λ a k. kid-discarded (c .before .before .before .before .before .before .before .before .before .before .before .args .track) (contextIn (c .before .before .before .before .before .before .before .before .before .before .before .args .l)) (c .before .before .before .before .before .before .before .before .before .before .before .args .before) (now (c .before .before .before .before .before .before .before .before .before .before .before .args .reg)) (now (c .before .before .before .before .before .before .before .before .before .before .before .args .answers)) a (c .before .before .before .before .before .before .is-named .ensures belowRoot a (k .tops .after) (k .tops .reads)) y (c .before .before .before .take-record .result) (c .before .before .before .take-record .ensures a (next-here (c .before .before .before .before .before .before .before .before .before .before .before .args .track) (contextIn (c .before .before .before .before .before .before .before .before .before .before .before .args .l)) (c .before .before .before .before .before .before .before .before .before .before .before .args .before) (now (c .before .before .before .before .before .before .before .before .before .before .before .args .reg)) (now (c .before .before .before .before .before .before .before .before .before .before .before .args .answers)) a (c .before .before .before .before .before .before .is-named .ensures belowRoot a (k .tops .after) (k .tops .reads)) k y)) (c .if2 .left)
+    let p = c .before .before .before .before .before in
+    let o = s p in
+    let r = c .before .before .before .take-record in
+    λ a k. kid-discarded (driver o) (o .args .before) (now (o .args .reg)) (now (o .args .answers)) a (is (p .before) a k) (named p) (r .result) (r .ensures a (here p a k)) (c .if2 .left)
 
 pub take-kid-spec : {M : Type 1} → statement M
 take-kid-spec =

@@ -1,8 +1,27 @@
-use Rattle.intake.proofs.Submitting.{rooted, says-5, says-6, says-7, says-8, whole-file, says-0}
+-- The file's root, once `document` has found it, is what `shape_of` and `taken` are told.
+use Rattle.intake.specs.Submitted.{Call}
+use Rattle.intake.specs.Kids.{callWith}
+use Rattle.intake.proofs.Submitting.{Rooted, rooted, says-5, says-6, says-7, says-8, whole-file, says-0}
 use denote.Ref.{now}
 use borrow.Author.Needs.{needs}
 use Rattle.intake.proofs.submit.by_markup.Statement.{statement}
 use Rattle.intake.proofs.submit.by_markup.Tie as tie
+
+-- the call x, with the file, the track and the answer list that are at hand
+abbrev called : tie.Start → Call → Call
+called s x = callWith x (now (s .args .sub)) (s .args .track) (now (s .args .answers))
+
+abbrev start : tie.After-document → tie.Start
+start p = p .before .before .before .before
+
+-- where the root was found
+abbrev begun : tie.After-c → tie.Start
+begun q = start (q .before .before)
+
+root : (q : tie.After-c) → Rooted (now (begun q .args .sub)) (q .c .given .0 .0 .at)
+root q =
+    let d = rw (q .c .given .1) at (q .before .before .document .ensures) in
+    rooted (now (begun q .args .sub)) (q .c .given .0 .0 .at) (d .0) (d .1 .1)
 
 document-requires : tie.Need-document-requires
 document-requires c κs = search needs
@@ -18,8 +37,9 @@ refused-requires c κs = search needs
 
 returns : tie.Need-returns
 returns c =
+    let s = start (c .before .before .before) in
     let d = rw (c .before .enum-told .given .1) at (c .before .before .before .document .ensures) in
-    λ year quarter _. says-5 (now (c .before .before .before .before .before .before .before .args .sub)) (c .before .before .before .before .before .before .before .args .track) year quarter (now (c .before .before .before .before .before .before .before .args .reg)) (now (c .before .before .before .before .before .before .before .args .answers)) (d .0) (c .refused .ensures)
+    λ x _. says-5 (called s x) (now (s .args .reg)) (d .0) (c .refused .ensures)
 
 shape-of-requires : tie.Need-shape-of-requires
 shape-of-requires c κs = search needs
@@ -44,35 +64,38 @@ refused-requires-4 c κs = search needs
 
 taken-requires : tie.Need-taken-requires
 taken-requires c κs =
-    let d = rw (c .before .before .before .before .before .before .before .before .c .given .1) at (c .before .before .before .before .before .before .before .before .before .before .document .ensures) in
-    let o = rooted (now (c .before .before .before .before .before .before .before .before .before .before .before .before .before .before .args .sub)) (c .before .before .before .before .before .before .before .before .c .given .0 .0 .at) (d .0) (d .1 .1) in
-    let k = rw (c .before .before .before .before .records .given .1) at (c .before .before .before .before .before .before .shape-of .ensures) in
-    let h = k .0 (o .tree) (o .after) (o .reads) in
-    ((o .tree, whole-file (now (c .before .before .before .before .before .before .before .before .before .before .before .before .before .before .args .sub)) (c .before .before .before .before .before .before .before .before .before .before .before .before .before .before .args .track) 0 0 (now (c .before .before .before .before .before .before .before .before .before .before .before .before .before .before .args .reg)) (now (c .before .before .before .before .before .before .before .before .before .before .before .before .before .before .args .answers)) o (c .before .before .before .before .before .before .before .before .before .before .before .before .before .before .pre .0) h (c .before .before .if1 .left)), c .before .before .before .before .before .before .before .before .before .before .before .before .before .before .pre .1, c .before .before .before .before .before .before .before .before .before .before .before .before .before .before .pre .2)
+    let e = c .before .before in
+    let p = e .before .before .before .before in
+    let q = p .before .before in
+    let s = begun q in
+    let o = root q in
+    let k = rw (e .before .before .records .given .1) at (p .shape-of .ensures) in
+    ((o .tree, whole-file (s .args .track) o (s .pre .0) (k .0 (o .tree) (o .after) (o .reads)) (e .if1 .left)), s .pre .1, s .pre .2)
 
 returns-2 : tie.Need-returns-2
 returns-2 c =
-    let d = rw (c .before .before .before .before .before .before .c .given .1) at (c .before .before .before .before .before .before .before .before .document .ensures) in
-    let o = rooted (now (c .before .before .before .before .before .before .before .before .before .before .before .before .args .sub)) (c .before .before .before .before .before .before .c .given .0 .0 .at) (d .0) (d .1 .1) in
-    let k = rw (c .before .before .number .given .1) at (c .before .before .before .before .shape-of .ensures) in
-    let h = k .0 (o .tree) (o .after) (o .reads) in
-    λ year quarter _. says-6 (now (c .before .before .before .before .before .before .before .before .before .before .before .before .args .sub)) (c .before .before .before .before .before .before .before .before .before .before .before .before .args .track) year quarter (now (c .before .before .before .before .before .before .before .before .before .before .before .before .args .reg)) (now (c .before .before .before .before .before .before .before .before .before .before .before .before .args .answers)) o h (c .refused2 .ensures)
+    let p = c .before .before .before .before in
+    let q = p .before .before in
+    let o = root q in
+    let k = rw (c .before .before .number .given .1) at (p .shape-of .ensures) in
+    λ x _. says-6 (called (begun q) x) (now (begun q .args .reg)) o (k .0 (o .tree) (o .after) (o .reads)) (c .refused2 .ensures)
 
 returns-3 : tie.Need-returns-3
 returns-3 c =
-    let d = rw (c .before .before .before .before .before .before .c .given .1) at (c .before .before .before .before .before .before .before .before .document .ensures) in
-    let o = rooted (now (c .before .before .before .before .before .before .before .before .before .before .before .before .args .sub)) (c .before .before .before .before .before .before .c .given .0 .0 .at) (d .0) (d .1 .1) in
-    let k = rw (c .before .before .number2 .given .1) at (c .before .before .before .before .shape-of .ensures) in
-    let h = k .0 (o .tree) (o .after) (o .reads) in
-    λ year quarter _. says-7 (now (c .before .before .before .before .before .before .before .before .before .before .before .before .args .sub)) (c .before .before .before .before .before .before .before .before .before .before .before .before .args .track) year quarter (now (c .before .before .before .before .before .before .before .before .before .before .before .before .args .reg)) (now (c .before .before .before .before .before .before .before .before .before .before .before .before .args .answers)) o h (c .refused3 .ensures)
+    let p = c .before .before .before .before in
+    let q = p .before .before in
+    let o = root q in
+    let k = rw (c .before .before .number2 .given .1) at (p .shape-of .ensures) in
+    λ x _. says-7 (called (begun q) x) (now (begun q .args .reg)) o (k .0 (o .tree) (o .after) (o .reads)) (c .refused3 .ensures)
 
 returns-4 : tie.Need-returns-4
 returns-4 c =
-    let d = rw (c .before .before .before .before .before .before .before .c .given .1) at (c .before .before .before .before .before .before .before .before .before .document .ensures) in
-    let o = rooted (now (c .before .before .before .before .before .before .before .before .before .before .before .before .before .args .sub)) (c .before .before .before .before .before .before .before .c .given .0 .0 .at) (d .0) (d .1 .1) in
-    let k = rw (c .before .before .before .records .given .1) at (c .before .before .before .before .before .shape-of .ensures) in
-    let h = k .0 (o .tree) (o .after) (o .reads) in
-    λ year quarter _. says-8 (now (c .before .before .before .before .before .before .before .before .before .before .before .before .before .args .sub)) (c .before .before .before .before .before .before .before .before .before .before .before .before .before .args .track) year quarter (now (c .before .before .before .before .before .before .before .before .before .before .before .before .before .args .reg)) (now (c .before .before .before .before .before .before .before .before .before .before .before .before .before .args .answers)) o (c .before .before .before .before .before .before .before .before .before .before .before .before .before .pre .0) h (c .before .if1 .taken) (c .refused4 .ensures)
+    let p = c .before .before .before .before .before in
+    let q = p .before .before in
+    let s = begun q in
+    let o = root q in
+    let k = rw (c .before .before .before .records .given .1) at (p .shape-of .ensures) in
+    λ x _. says-8 (called s x) (now (s .args .reg)) o (s .pre .0) (k .0 (o .tree) (o .after) (o .reads)) (c .before .if1 .taken) (c .refused4 .ensures)
 
 same-length : tie.Need-same-length
 same-length c = search needs
@@ -82,11 +105,14 @@ same-length-2 c = search needs
 
 returns-5 : tie.Need-returns-5
 returns-5 c =
-    let d = rw (c .before .before .before .before .before .before .before .before .before .before .before .before .before .c .given .1) at (c .before .before .before .before .before .before .before .before .before .before .before .before .before .before .before .document .ensures) in
-    let o = rooted (now (c .before .before .before .before .before .before .before .before .before .before .before .before .before .before .before .before .before .before .before .args .sub)) (c .before .before .before .before .before .before .before .before .before .before .before .before .before .c .given .0 .0 .at) (d .0) (d .1 .1) in
-    let k = rw (c .before .before .before .before .before .before .before .before .before .records .given .1) at (c .before .before .before .before .before .before .before .before .before .before .before .shape-of .ensures) in
+    let e = c .before .before .before .before .before .before .before in
+    let p = e .before .before .before .before in
+    let q = p .before .before in
+    let s = begun q in
+    let o = root q in
+    let k = rw (e .before .before .records .given .1) at (p .shape-of .ensures) in
     let h = k .0 (o .tree) (o .after) (o .reads) in
-    λ year quarter e. says-0 (now (c .before .before .before .before .before .before .before .before .before .before .before .before .before .before .before .before .before .before .before .args .sub)) (c .before .before .before .before .before .before .before .before .before .before .before .before .before .before .before .before .before .before .before .args .track) year quarter (now (c .before .before .before .before .before .before .before .before .before .before .before .before .before .before .before .before .before .before .before .args .reg)) (now (c .before .before .before .before .before .before .before .before .before .before .before .before .before .before .before .before .before .before .before .args .answers)) o (c .before .before .before .before .before .before .before .before .before .before .before .before .before .before .before .before .before .before .before .pre .0) h (c .before .before .before .before .before .before .before .if1 .left) (c .before .before .before .before .taken .ensures (o .tree) year quarter (whole-file (now (c .before .before .before .before .before .before .before .before .before .before .before .before .before .before .before .before .before .before .before .args .sub)) (c .before .before .before .before .before .before .before .before .before .before .before .before .before .before .before .before .before .before .before .args .track) year quarter (now (c .before .before .before .before .before .before .before .before .before .before .before .before .before .before .before .before .before .before .before .args .reg)) (now (c .before .before .before .before .before .before .before .before .before .before .before .before .before .before .before .before .before .before .before .args .answers)) o (c .before .before .before .before .before .before .before .before .before .before .before .before .before .before .before .before .before .before .before .pre .0) h (c .before .before .before .before .before .before .before .if1 .left)) e)
+    λ x w. says-0 (called s x) (now (s .args .reg)) o (s .pre .0) h (e .if1 .left) (c .before .before .before .before .taken .ensures (o .tree) x (whole-file (s .args .track) o (s .pre .0) h (e .if1 .left)) w)
 
 pub by-markup-spec : {M : Type 1} → statement M
 by-markup-spec =

@@ -1,7 +1,8 @@
-use Rattle.rows.proofs.Bytes.{fit-of}
-use Rattle.register.specs.Search.{keyOf}
-use Rattle.judge.proofs.CaseRows.{case-rows}
 use borrow.Author.Needs.{needs}
+use Rattle.rows.proofs.Bytes.{fit-of}
+use Rattle.register.specs.Search.{probeKey}
+use Rattle.home_care.specs.Row.{rowBytes, keyBits}
+use Rattle.judge.proofs.CaseRows.{case-rows}
 use Rattle.judge.proofs.case.case_events.Statement.{statement}
 use Rattle.judge.proofs.case.case_events.Tie as tie
 
@@ -16,7 +17,7 @@ case-range-requires c κs = search needs
 
 returns : tie.Need-returns
 returns c =
-    case-rows (c .before .before .before .before .before .args .reg .now) (keyOf 91 662 (c .before .before .before .before .before .args .probe .now)) _ _ _ _ (fit-of 8 (c .before .before .before .before .before .args .reg .now) (λ i. c .before .before .before .before .shared-slice-known .given i .fits)) (c .before .before .count .ensures .0) (c .before .rows-held .ensures .0) (c .before .before .before .before .before .pre .1) (c .case-range .ensures)
+    case-rows (c .before .before .before .before .before .args .reg .now) (probeKey rowBytes keyBits (c .before .before .before .before .before .args .probe .now)) _ _ _ _ (fit-of 8 (c .before .before .before .before .before .args .reg .now) (λ i. c .before .before .before .before .shared-slice-known .given i .fits)) (c .before .before .count .ensures .0) (c .before .rows-held .ensures .0) (c .before .before .before .before .before .pre .1) (c .case-range .ensures)
 
 pub case-events-spec : {M : Type 1} → statement M
 case-events-spec =

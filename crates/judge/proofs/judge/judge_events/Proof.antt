@@ -1,13 +1,13 @@
 use mathlib.Core.List.{map}
-use Rattle.register.specs.Fields.{eventIn}
 use mathlib.Core.Path.{sym, ap, _∙_}
 use borrow.Author.Tests.{not-true, not-false}
+use borrow.Author.Needs.{needs}
 use Rattle.rows.proofs.Bytes.{fit-of}
+use Rattle.home_care.specs.Row.{eventNumberIn}
 use Rattle.judge.specs.Against.{clash}
 use Rattle.judge.specs.View.{contextIn}
 use Rattle.judge.proofs.Told.{events-told}
 use Rattle.judge.proofs.EventsWays.{only-own, at-20, at-10, at-21, at-13, at-22, at-23, at-24, at-case}
-use borrow.Author.Needs.{needs}
 use Rattle.judge.proofs.judge.judge_events.Statement.{statement}
 use Rattle.judge.proofs.judge.judge_events.Tie as tie
 
@@ -79,7 +79,7 @@ returns-8 c =
     let a = c .before .before .before .before .before .before .before .before .before .before .before .before .before .before .before .before .before .args in
     events-told (a .reg .now) (contextIn (a .l)) (a .tipo) (a .taken) (a .probe .now) (fit-of 8 (a .reg .now) (λ i. c .before .before .before .before .before .before .before .before .before .before .before .before .before .before .before .before .shared-slice-known .given i .fits)) (a .evs .now) (a .bad) (a .zero) _
     (λ sound. at-case (contextIn (a .l)) _ _ (a .taken) (a .evs .now) (a .bad) (a .zero) _ _ _ (c .before .before .before .before .before .before .before .before .before .before .before .before .before .if1 .left) (sym (c .before .before .before .before .before .before .before .before .before .before .before .before .any-wrong .ensures) ∙ c .before .before .before .before .before .before .before .before .before .before .before .if2 .left) (c .before .before .before .before .before .before .before .before .before .before .if3 .left) (c .before .before .before .before .before .before .before .before .before .if4 .left) (sym (only-own (clash 22) (a .evs .now) (a .reg .now) _ (c .before .before .before .before .before .before .before .before .clashes .ensures)) ∙ c .before .before .before .before .before .before .before .if5 .left) (sym (c .before .before .before .before .before .before .any-wrong2 .ensures) ∙ c .before .before .before .before .before .if6 .left) (sym (c .before .before .before .before .case-stands .ensures sound) ∙ not-false _ (c .before .before .before .if7 .left))
-    _ _ _ (c .against-standing .ensures (c .before .before .case-events .ensures .settled sound)) (c .before .rows-held .ensures .0) (ap (map eventIn) (c .before .before .case-events .ensures .are sound)))
+    _ _ _ (c .against-standing .ensures (c .before .before .case-events .ensures .settled sound)) (c .before .rows-held .ensures .0) (ap (map eventNumberIn) (c .before .before .case-events .ensures .are sound)))
 
 pub judge-events-spec : {M : Type 1} → statement M
 judge-events-spec =

@@ -1,11 +1,11 @@
 -- The invariant: what stands before a is below the key, and what stands from e on is not.
 use Prim.Native.Nat.{_+_, _-_, _/_}
 use mathlib.Core.Path.{_≡_, ap, _∙_}
-use Rattle.register.specs.Fields.{eventKeyOf}
-use Rattle.register.proofs.Halving.{Bracket, start, up, down, met}
-use Rattle.judge.specs.Standing.{eventKeyAt}
 use borrow.Author.Needs.{needs}
 use native.Mathlib.Omega.{arith}
+use Rattle.register.proofs.Halving.{Bracket, start, up, down, met}
+use Rattle.home_care.specs.Row.{eventKeyOf}
+use Rattle.judge.specs.Standing.{eventKeyAt}
 use Rattle.judge.proofs.standing.event_place.Statement.{statement}
 use Rattle.judge.proofs.standing.event_place.Tie as tie
 

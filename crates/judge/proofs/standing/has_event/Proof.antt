@@ -1,8 +1,8 @@
 use mathlib.Core.Path.{ap, _∙_}
-use Rattle.register.specs.Fields.{eventKeyOf}
-use Rattle.judge.proofs.Rows.{has-none, has-here}
 use borrow.Author.Needs.{needs}
 use native.Mathlib.Omega.{arith}
+use Rattle.home_care.specs.Row.{eventKeyOf}
+use Rattle.judge.proofs.Rows.{has-none, has-here}
 use Rattle.judge.proofs.standing.has_event.Statement.{statement}
 use Rattle.judge.proofs.standing.has_event.Tie as tie
 

@@ -5,14 +5,14 @@ use lib.ListN.{length, drop}
 use borrow.Author.Tests.{not-true, not-false}
 use borrow.Author.Needs.{needs}
 use native.Mathlib.Omega.{arith}
-use Rattle.markup.specs.Bytes.{run}
+use Rattle.markup.specs.Bytes.{runLength}
 use Rattle.markup.specs.Classes.{class}
 use Rattle.markup.proofs.AtBytes.{run-yes, run-no, run-end}
 use Rattle.markup.proofs.bytes.run_end.Statement.{statement}
 use Rattle.markup.proofs.bytes.run_end.Tie as tie
 
 abbrev Inv-loop : tie.InvT-loop
-Inv-loop s from k at₀ at = (from ≤ at) × (from + run (class k) (drop from s) ≡ at + run (class k) (drop at s))
+Inv-loop s from k at₀ at = (from ≤ at) × (from + runLength (class k) (drop from s) ≡ at + runLength (class k) (drop at s))
 
 abbrev μ-loop : tie.MeasureT-loop
 μ-loop s from k at₀ at = length s - at

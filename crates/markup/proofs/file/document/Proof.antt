@@ -5,7 +5,7 @@ use borrow.Author.Tests.{not-true, not-false}
 use native.Mathlib.Omega.{arith}
 use borrow.Author.Needs.{needs}
 use Rattle.markup.specs.Elements.{element}
-use Rattle.markup.specs.Document.{document, taken, inMarkup}
+use Rattle.markup.specs.Document.{document, wasRead, inMarkup}
 use Rattle.markup.proofs.AtFile.{document-root, root-none, root-refused, root-more, root-end, root-taken}
 use Rattle.markup.proofs.file.document.Statement.{statement}
 use Rattle.markup.proofs.file.document.Tie as tie
@@ -116,7 +116,7 @@ returns-7 c =
     let e = rw (c .before .before .before .before .before .before .after .given .1) at (c .before .before .before .before .before .before .before .before .element .ensures) in
     let q = rw (c .before .before .last .given .1) at (c .before .before .before .before .misc2 .ensures) in
     let w = root-end l s (c .before .before .last .given .0 .0 .at) o (e .0) (q .0) (c .if2 .left) ∙ sym r in
-    (w, (omega arith, ap taken (sym w) ∙ root-taken o l (e .0)))
+    (w, (omega arith, ap wasRead (sym w) ∙ root-taken o l (e .0)))
 
 pub document-spec : {M : Type 1} → statement M
 document-spec =

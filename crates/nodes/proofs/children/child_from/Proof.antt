@@ -1,18 +1,17 @@
 -- The invariant: the first of the name among the children ahead is the first of all.
 use Prim.Native.Nat.{_-_, _≤_}
-use Rattle.markup.specs.Elements.{Inside}
+use borrow.Author.Needs.{needs}
+use denote.Ref.{now}
+use lib.ListN.{drop, length}
+use mathlib.Core.Path.{_∙_, refl, sym}
+use native.Mathlib.Omega.{arith}
+use Rattle.markup.specs.Elements.{Inside, kids}
 use Rattle.markup.specs.Names.{name}
 use Rattle.markup.specs.View.{part}
 use Rattle.nodes.proofs.Naming.{first-hit, first-none, first-on}
 use Rattle.nodes.proofs.Walking.{Look, look-gone, look-here, look-past, look-start, look-stuck}
 use Rattle.nodes.specs.Lookup.{firstNamed}
 use Rattle.nodes.specs.Stands.{Holds, lacks, stands}
-use Rattle.reading.specs.Within.{kids}
-use borrow.Author.Needs.{needs}
-use denote.Ref.{now}
-use lib.ListN.{drop, length}
-use mathlib.Core.Path.{_∙_, refl, sym}
-use native.Mathlib.Omega.{arith}
 use Rattle.nodes.proofs.children.child_from.Statement.{statement}
 use Rattle.nodes.proofs.children.child_from.Tie as tie
 

@@ -1,15 +1,14 @@
 -- The invariant: the children ahead are the children from the start on.
 use Prim.Native.Nat.{_-_, _≤_, ℕ}
-use Rattle.markup.specs.Elements.{Inside, Tree}
-use Rattle.markup.specs.Names.{name}
-use Rattle.markup.specs.View.{part}
-use Rattle.nodes.proofs.Walking.{Look, holds-bad, holds-kid, look-close, look-note, look-start, look-words}
-use Rattle.nodes.specs.Stands.{Holds}
-use Rattle.reading.specs.Within.{kids}
 use borrow.Author.Needs.{needs}
 use lib.ListN.{drop, length}
 use mathlib.Core.List.{List}
 use native.Mathlib.Omega.{arith}
+use Rattle.markup.specs.Elements.{Inside, Tree, kids}
+use Rattle.markup.specs.Names.{name}
+use Rattle.markup.specs.View.{part}
+use Rattle.nodes.proofs.Walking.{Look, holds-bad, holds-kid, look-close, look-note, look-start, look-words}
+use Rattle.nodes.specs.Stands.{Holds}
 use Rattle.nodes.proofs.children.next_kid.Statement.{statement}
 use Rattle.nodes.proofs.children.next_kid.Tie as tie
 

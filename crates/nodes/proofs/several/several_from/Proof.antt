@@ -4,14 +4,13 @@ use mathlib.Core.Path.{_≡_, sym, _∙_}
 use mathlib.Core.List.{List}
 use denote.Ref.{now}
 use lib.ListN.{drop, length}
-use Rattle.markup.specs.Reading.Read.{read}
-use Rattle.markup.specs.Elements.{Inside, content, element}
-use Rattle.markup.specs.View.{part}
-use Rattle.reading.specs.Within.{kids}
-use Rattle.nodes.proofs.Entering.{headed, head-name, not-headed}
-use Rattle.nodes.proofs.Seeking.{Walk, walk-start, walk-holds, walk-rest, walk-kid-rest, walk-end, walk-meet, walk-on, walk-stuck, all-met}
 use borrow.Author.Needs.{needs}
 use native.Mathlib.Omega.{arith}
+use Rattle.markup.specs.Reading.Read.{read}
+use Rattle.markup.specs.Elements.{Inside, content, element, kids}
+use Rattle.markup.specs.View.{part}
+use Rattle.nodes.proofs.Entering.{headed, head-name, not-headed}
+use Rattle.nodes.proofs.Seeking.{Walk, walk-start, walk-holds, walk-rest, walk-kid-rest, walk-end, walk-meet, walk-on, walk-stuck, all-met}
 use Rattle.nodes.proofs.several.several_from.Statement.{statement}
 use Rattle.nodes.proofs.several.several_from.Tie as tie
 

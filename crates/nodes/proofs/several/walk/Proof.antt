@@ -1,9 +1,9 @@
 use mathlib.Core.Path.{ap}
 use denote.Ref.{now}
-use Rattle.reading.specs.Within.{kids}
-use Rattle.nodes.proofs.Seeking.{six-none}
 use native.Mathlib.Omega.{arith}
 use borrow.Author.Needs.{needs}
+use Rattle.markup.specs.Elements.{kids}
+use Rattle.nodes.proofs.Seeking.{six-none}
 use Rattle.nodes.proofs.several.walk.Statement.{statement}
 use Rattle.nodes.proofs.several.walk.Tie as tie
 

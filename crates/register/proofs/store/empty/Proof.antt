@@ -1,7 +1,7 @@
 use lib.ListN.{length}
 use borrow.Author.Tests.{lt-ltb, le-ltb}
-use Rattle.register.specs.Calls.{emptied}
 use borrow.Author.Needs.{needs}
+use Rattle.register.specs.State.{emptied}
 use Rattle.register.proofs.store.empty.Statement.{statement}
 use Rattle.register.proofs.store.empty.Tie as tie
 

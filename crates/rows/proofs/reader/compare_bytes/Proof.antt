@@ -1,10 +1,10 @@
 use Prim.Native.Nat.{_-_, _≤_}
 use mathlib.Core.Path.{_≡_, refl, sym}
 use lib.ListN.{take}
-use Rattle.rows.specs.Pack.{num}
+use native.Mathlib.Omega.{arith}
+use Rattle.rows.specs.Packing.{num}
 use Rattle.rows.proofs.Bytes.{num-take, first-diff, fit-of}
 use Rattle.rows.proofs.Ordering.{order-less, order-more, order-same}
-use native.Mathlib.Omega.{arith}
 use Rattle.rows.proofs.reader.compare_bytes.Statement.{statement}
 use Rattle.rows.proofs.reader.compare_bytes.Tie as tie
 

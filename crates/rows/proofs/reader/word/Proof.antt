@@ -3,10 +3,10 @@ use mathlib.Core.Path.{_≡_, sym, ap, _∙_}
 use native.Mathlib.Nat.{add-zero, mul-one}
 use lib.ListN.{take, getD}
 use lib.Pow.{pow-pos}
-use Rattle.rows.specs.Pack.{num}
+use native.Mathlib.Omega.{arith}
+use Rattle.rows.specs.Packing.{num}
 use Rattle.rows.proofs.Bytes.{num-take}
 use Rattle.rows.proofs.Steps.{more, more-lt, within}
-use native.Mathlib.Omega.{arith}
 use Rattle.rows.proofs.reader.word.Statement.{statement}
 use Rattle.rows.proofs.reader.word.Tie as tie
 

@@ -3,9 +3,9 @@ use mathlib.Core.Path.{_≡_, refl, sym, ap, _∙_}
 use native.Mathlib.Nat.{mul-one}
 use lib.ListN.{length, take, length-set}
 use lib.Seq.{take-all}
-use Rattle.rows.specs.Pack.{num}
-use Rattle.rows.proofs.Steps.{stored, more-zero}
 use native.Mathlib.Omega.{arith}
+use Rattle.rows.specs.Packing.{num}
+use Rattle.rows.proofs.Steps.{stored, more-zero}
 use Rattle.rows.proofs.writer.clear_from.Statement.{statement}
 use Rattle.rows.proofs.writer.clear_from.Tie as tie
 

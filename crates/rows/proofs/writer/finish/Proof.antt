@@ -2,10 +2,10 @@ use Prim.Native.Nat.{ℕ, _-_, _*_, _^_}
 use mathlib.Core.Path.{ap, _∙_}
 use lib.ListN.{length, take}
 use lib.Pow.{pow-pos}
-use Rattle.rows.specs.Pack.{num}
-use Rattle.rows.proofs.Writing.{padded}
 use native.Mathlib.Omega.{arith}
 use borrow.Author.Needs.{needs}
+use Rattle.rows.specs.Packing.{num}
+use Rattle.rows.proofs.Writing.{padded}
 use Rattle.rows.proofs.writer.finish.Statement.{statement}
 use Rattle.rows.proofs.writer.finish.Tie as tie
 

@@ -3,9 +3,9 @@ use mathlib.Core.Path.{_≡_, refl, ap, _∙_}
 use native.Mathlib.Nat.{mod-lt}
 use lib.ListN.{length, take, length-set}
 use lib.Pow.{pow-pos, shr-lt}
-use Rattle.rows.specs.Pack.{num, packs}
-use Rattle.rows.proofs.Steps.{one-shl, more, stored, flushed, shl-add, shl-add-lt, within}
 use native.Mathlib.Omega.{arith}
+use Rattle.rows.specs.Packing.{num, packs}
+use Rattle.rows.proofs.Steps.{one-shl, more, stored, flushed, shl-add, shl-add-lt, within}
 use Rattle.rows.proofs.writer.put.Statement.{statement}
 use Rattle.rows.proofs.writer.put.Tie as tie
 
@@ -37,23 +37,17 @@ loop-holds c =
     let room : a .s .have + a .w ≤ 63 = omega (arith, p .0 .few, p .1 .0) in
     (refl, room, refl, omega arith, shl-add-lt 64 (a .s .acc) (a .v) (a .s .have) (a .w) (p .0 .small) (p .1 .0 .1) (omega arith), refl)
 
-cast-out : tie.Need-cast-out Inv-loop μ-loop
-cast-out c = omega arith
-
 shr-out : tie.Need-shr-out Inv-loop μ-loop
 shr-out c = omega arith
 
-cast-out-2 : tie.Need-cast-out-2 Inv-loop μ-loop
-cast-out-2 c =
+cast-out : tie.Need-cast-out Inv-loop μ-loop
+cast-out c =
     let l = c .before .loop in
     let k : 8 + (l .have - 8) ≡ l .have = omega arith in
     record { fits = shr-lt 8 (l .have - 8) (rw k (l .inv .4)) }
 
 slice-write-out : tie.Need-slice-write-out Inv-loop μ-loop
 slice-write-out c = omega arith
-
-cast-acc : tie.Need-cast-acc Inv-loop μ-loop
-cast-acc c = omega arith
 
 shl-acc-2 : tie.Need-shl-acc-2 Inv-loop μ-loop
 shl-acc-2 c = omega arith
@@ -113,11 +107,9 @@ put-spec =
     add-acc
     add-have
     loop-holds
-    cast-out
     shr-out
-    cast-out-2
+    cast-out
     slice-write-out
-    cast-acc
     shl-acc-2
     rem-acc
     add-at

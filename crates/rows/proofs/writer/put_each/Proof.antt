@@ -2,11 +2,11 @@ use Prim.Native.Nat.{_-_, _≤_, _<_}
 use mathlib.Core.Path.{_≡_, refl}
 use lib.ListN.{length, take}
 use lib.Seq.{take-all}
-use Rattle.rows.specs.Pack.{each}
+use native.Mathlib.Omega.{arith}
+use Rattle.rows.specs.Packing.{each}
 use Rattle.rows.specs.Writer.{Wrote}
 use Rattle.rows.proofs.Bytes.{each-width, room-at, each-take, fit-at}
 use Rattle.rows.proofs.Writing.{wrote-none, wrote-then}
-use native.Mathlib.Omega.{arith}
 use Rattle.rows.proofs.writer.put_each.Statement.{statement}
 use Rattle.rows.proofs.writer.put_each.Tie as tie
 

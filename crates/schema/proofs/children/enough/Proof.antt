@@ -1,4 +1,5 @@
-use Rattle.schema.proofs.Heads.{nodesFrom, enough-end, enough-no, enough-on}
+use Rattle.schema.specs.View.{nodesFrom}
+use Rattle.schema.proofs.Heads.{enough-end, enough-no, enough-on}
 use Rattle.schema.specs.Shape.{enough as enoughIn}
 use mathlib.Core.List.{List}
 use mathlib.Core.Path.{_≡_, refl, sym, _∙_}

@@ -1,4 +1,5 @@
-use Rattle.schema.proofs.Heads.{nodesFrom, seek-end, seek-here, seek-no, seek-on}
+use Rattle.schema.specs.View.{nodesFrom}
+use Rattle.schema.proofs.Heads.{seek-end, seek-here, seek-no, seek-on}
 use Rattle.schema.specs.Shape.{seek as seekIn}
 use mathlib.Core.List.{List}
 use mathlib.Core.Path.{_≡_, refl, sym, _∙_}
@@ -25,13 +26,13 @@ may-come-requires : tie.Need-may-come-requires Inv-loop μ-loop
 may-come-requires c κs = search needs
 
 returns : tie.Need-returns Inv-loop μ-loop
-returns c = (λ r d. seek-here (now (c .before .before .before .before .before .before .before .args .table)) (now (c .before .before .before .before .before .before .before .args .pool)) r d _ _ (now (c .before .before .before .before .before .before .before .args .x)) _ _ (c .before .before .loop-test .taken) (c .before .may-come .ensures r) (c .if1 .taken) ∙ c .before .before .before .loop .inv .1 r d, search needs)
+returns c = record { tells = λ r d. seek-here (now (c .before .before .before .before .before .before .before .args .table)) (now (c .before .before .before .before .before .before .before .args .pool)) r d _ _ (now (c .before .before .before .before .before .before .before .args .x)) _ _ (c .before .before .loop-test .taken) (c .before .may-come .ensures r) (c .if1 .taken) ∙ c .before .before .before .loop .inv .1 r d; places = search needs }
 
 cell-requires : tie.Need-cell-requires Inv-loop μ-loop
 cell-requires c κs = search needs
 
 returns-2 : tie.Need-returns-2 Inv-loop μ-loop
-returns-2 c = (λ r d. seek-no (now (c .before .before .before .before .before .before .before .before .before .args .table)) (now (c .before .before .before .before .before .before .before .before .before .args .pool)) r d _ _ (now (c .before .before .before .before .before .before .before .before .before .args .x)) _ _ (c .before .before .before .before .loop-test .taken) (c .before .before .before .may-come .ensures r) (c .before .before .if1 .left) (c .before .cell .ensures .0) (c .if2 .taken) ∙ c .before .before .before .before .before .loop .inv .1 r d, tt)
+returns-2 c = record { tells = λ r d. seek-no (now (c .before .before .before .before .before .before .before .before .before .args .table)) (now (c .before .before .before .before .before .before .before .before .before .args .pool)) r d _ _ (now (c .before .before .before .before .before .before .before .before .before .args .x)) _ _ (c .before .before .before .before .loop-test .taken) (c .before .before .before .may-come .ensures r) (c .before .before .if1 .left) (c .before .cell .ensures .0) (c .if2 .taken) ∙ c .before .before .before .before .before .loop .inv .1 r d; places = tt }
 
 add-j : tie.Need-add-j Inv-loop μ-loop
 add-j c = search needs
@@ -43,7 +44,7 @@ loop-again : tie.Need-loop-again Inv-loop μ-loop
 loop-again c = (search needs, λ r d. sym (seek-on (now (c .before .before .before .before .before .before .before .before .before .args .table)) (now (c .before .before .before .before .before .before .before .before .before .args .pool)) r d _ _ (now (c .before .before .before .before .before .before .before .before .before .args .x)) _ _ (c .before .before .before .before .loop-test .taken) (c .before .before .before .may-come .ensures r) (c .before .before .if1 .left) (c .before .cell .ensures .0) (c .if2 .left)) ∙ c .before .before .before .before .before .loop .inv .1 r d)
 
 returns-3 : tie.Need-returns-3 Inv-loop μ-loop
-returns-3 c = (λ r d. seek-end (now (c .before .before .before .before .before .args .table)) (now (c .before .before .before .before .before .args .pool)) r d _ _ (now (c .before .before .before .before .before .args .x)) _ _ (c .loop-test .left) ∙ c .before .loop .inv .1 r d, tt)
+returns-3 c = record { tells = λ r d. seek-end (now (c .before .before .before .before .before .args .table)) (now (c .before .before .before .before .before .args .pool)) r d _ _ (now (c .before .before .before .before .before .args .x)) _ _ (c .loop-test .left) ∙ c .before .loop .inv .1 r d; places = tt }
 
 pub seek-spec : {M : Type 1} → statement M
 seek-spec =

@@ -6,7 +6,7 @@ use Rattle.schema.proofs.file.has_name.Statement.{statement}
 use Rattle.schema.proofs.file.has_name.Tie as tie
 
 returns : tie.Need-returns
-returns c = (λ d t m e. absurd (not-past d (now (c .before .before .before .before .args .s)) (c .before .before .before .before .args .at) t m e (c .if1 .taken)), λ h. absurd (false≢true h))
+returns c = record { tells = λ d t m e. absurd (not-past d (now (c .before .before .before .before .args .s)) (c .before .before .before .before .args .at) t m e (c .if1 .taken)); places = λ h. absurd (false≢true h) }
 
 add-t9 : tie.Need-add-t9
 add-t9 c = search needs
@@ -32,12 +32,12 @@ enum-told c = search needs
 returns-2 : tie.Need-returns-2
 returns-2 c =
     let x = rw (c .before .before .before .before .start .given .1) at (c .before .before .before .before .before .before .name .ensures) in
-    (λ d t m e. rw (head-named d (now (c .before .before .before .before .before .before .before .before .before .before .before .args .s)) (c .before .before .before .before .before .before .before .before .before .before .before .args .at) t m e (x .0), ← c .before .before .name-of .ensures, ← c .before .part .ensures) (c .same .ensures), λ h. c .before .before .before .before .before .before .before .if1 .left)
+    record { tells = λ d t m e. rw (head-named d (now (c .before .before .before .before .before .before .before .before .before .before .before .args .s)) (c .before .before .before .before .before .before .before .before .before .before .before .args .at) t m e (x .0), ← c .before .before .name-of .ensures, ← c .before .part .ensures) (c .same .ensures); places = λ h. c .before .before .before .before .before .before .before .if1 .left }
 
 returns-3 : tie.Need-returns-3
 returns-3 c =
     let x = rw (c .enum-told .given .1) at (c .before .before .name .ensures) in
-    (λ d t m e. absurd (head-refused d (now (c .before .before .before .before .before .before .before .args .s)) (c .before .before .before .before .before .before .before .args .at) t m e (x .0)), λ h. absurd (false≢true h))
+    record { tells = λ d t m e. absurd (head-refused d (now (c .before .before .before .before .before .before .before .args .s)) (c .before .before .before .before .before .before .before .args .at) t m e (x .0)); places = λ h. absurd (false≢true h) }
 
 pub has-name-spec : {M : Type 1} → statement M
 has-name-spec =

@@ -1,11 +1,12 @@
-use Rattle.schema.proofs.Whole.{root-other, root-unfit, root-refused, root-empty, root-short, root-open}
-use Rattle.schema.proofs.Tagged.{not-past, head-refused}
-use Rattle.markup.specs.Document.{depth}
 use borrow.Author.Tests.{not-true, not-false}
 use mathlib.Core.Path.{_∙_}
 use denote.Ref.{now}
 use borrow.Author.Needs.{needs}
 use native.Mathlib.Omega.{arith}
+use Rattle.markup.specs.Elements.{depth}
+use Rattle.reading.specs.Many.{belowRoot}
+use Rattle.schema.proofs.Whole.{root-other, root-unfit, root-refused, root-empty, root-short, root-open}
+use Rattle.schema.proofs.Tagged.{not-past, head-refused}
 use Rattle.schema.proofs.file.shape.Statement.{statement}
 use Rattle.schema.proofs.file.shape.Tie as tie
 
@@ -79,7 +80,7 @@ returns-5 c =
     let u = rw (c .before .before .before .before .before .before .before .before .before .before .before .before .before .before .start .given .1) at (c .before .before .before .before .before .before .before .before .before .before .before .before .before .before .before .before .name .ensures) in
     let g = rw (c .before .before .before .before .before .before .before .before .before .before .before .before .name-of .ensures, c .before .before .before .before .before .before .before .before .before .before .before .part .ensures) at (c .before .before .before .before .before .before .before .before .before .before .same .ensures) in
     let w = rw (c .before .before .before .before .enum-told3 .given .1) at (c .before .before .before .before .before .before .attributes .ensures) in
-    (λ x m e. root-empty (now (c .before .before .before .before .before .before .before .before .before .before .before .before .before .before .before .before .before .before .before .before .before .before .args .table)) (now (c .before .before .before .before .before .before .before .before .before .before .before .before .before .before .before .before .before .before .before .before .before .before .args .pool)) (now (c .before .before .before .before .before .before .before .before .before .before .before .before .before .before .before .before .before .before .before .before .before .before .args .ranges)) (now (c .before .before .before .before .before .before .before .before .before .before .before .before .before .before .before .before .before .before .before .before .before .before .args .s)) (c .before .before .before .before .before .before .before .before .before .before .before .before .before .before .before .before .before .before .before .before .before .before .args .root) x m e _ _ (u .0) (c .before .before .before .before .before .before .before .before .before .before .same .result) g (not-false _ (c .before .before .before .before .before .before .before .before .before .if2 .left)) (c .before .before .before .before .before .before .before .before .root-attrs-fit .result) (c .before .before .before .before .before .before .before .before .root-attrs-fit .ensures (now (c .before .before .before .before .before .before .before .before .before .before .before .before .before .before .before .before .before .before .before .before .before .before .args .ranges))) (not-false _ (c .before .before .before .before .before .before .before .if3 .left)) (w .0) (c .before .before .before .cell .ensures .0) (c .before .before .cell2 .ensures .0) (c .before .enough .ensures (now (c .before .before .before .before .before .before .before .before .before .before .before .before .before .before .before .before .before .before .before .before .before .before .args .pool)) (now (c .before .before .before .before .before .before .before .before .before .before .before .before .before .before .before .before .before .before .before .before .before .before .args .ranges)) 11) (c .if4 .taken), search needs)
+    (λ x m e. root-empty (now (c .before .before .before .before .before .before .before .before .before .before .before .before .before .before .before .before .before .before .before .before .before .before .args .table)) (now (c .before .before .before .before .before .before .before .before .before .before .before .before .before .before .before .before .before .before .before .before .before .before .args .pool)) (now (c .before .before .before .before .before .before .before .before .before .before .before .before .before .before .before .before .before .before .before .before .before .before .args .ranges)) (now (c .before .before .before .before .before .before .before .before .before .before .before .before .before .before .before .before .before .before .before .before .before .before .args .s)) (c .before .before .before .before .before .before .before .before .before .before .before .before .before .before .before .before .before .before .before .before .before .before .args .root) x m e _ _ (u .0) (c .before .before .before .before .before .before .before .before .before .before .same .result) g (not-false _ (c .before .before .before .before .before .before .before .before .before .if2 .left)) (c .before .before .before .before .before .before .before .before .root-attrs-fit .result) (c .before .before .before .before .before .before .before .before .root-attrs-fit .ensures (now (c .before .before .before .before .before .before .before .before .before .before .before .before .before .before .before .before .before .before .before .before .before .before .args .ranges))) (not-false _ (c .before .before .before .before .before .before .before .if3 .left)) (w .0) (c .before .before .before .cell .ensures .0) (c .before .before .cell2 .ensures .0) (c .before .enough .ensures (now (c .before .before .before .before .before .before .before .before .before .before .before .before .before .before .before .before .before .before .before .before .before .before .args .pool)) (now (c .before .before .before .before .before .before .before .before .before .before .before .before .before .before .before .before .before .before .before .before .before .before .args .ranges)) belowRoot) (c .if4 .taken), search needs)
 
 enum-known-done : tie.Need-enum-known-done
 enum-known-done c = search needs
@@ -99,7 +100,7 @@ returns-7 c =
     let u = rw (c .before .before .before .before .before .before .before .before .before .before .before .before .before .before .start .given .1) at (c .before .before .before .before .before .before .before .before .before .before .before .before .before .before .before .before .name .ensures) in
     let g = rw (c .before .before .before .before .before .before .before .before .before .before .before .before .name-of .ensures, c .before .before .before .before .before .before .before .before .before .before .before .part .ensures) at (c .before .before .before .before .before .before .before .before .before .before .same .ensures) in
     let w = rw (c .before .before .before .before .enum-told3 .given .1) at (c .before .before .before .before .before .before .attributes .ensures) in
-    (λ x m e. root-short (now (c .before .before .before .before .before .before .before .before .before .before .before .before .before .before .before .before .before .before .before .before .before .before .args .table)) (now (c .before .before .before .before .before .before .before .before .before .before .before .before .before .before .before .before .before .before .before .before .before .before .args .pool)) (now (c .before .before .before .before .before .before .before .before .before .before .before .before .before .before .before .before .before .before .before .before .before .before .args .ranges)) (now (c .before .before .before .before .before .before .before .before .before .before .before .before .before .before .before .before .before .before .before .before .before .before .args .s)) (c .before .before .before .before .before .before .before .before .before .before .before .before .before .before .before .before .before .before .before .before .before .before .args .root) x m e _ _ (u .0) (c .before .before .before .before .before .before .before .before .before .before .same .result) g (not-false _ (c .before .before .before .before .before .before .before .before .before .if2 .left)) (c .before .before .before .before .before .before .before .before .root-attrs-fit .result) (c .before .before .before .before .before .before .before .before .root-attrs-fit .ensures (now (c .before .before .before .before .before .before .before .before .before .before .before .before .before .before .before .before .before .before .before .before .before .before .args .ranges))) (not-false _ (c .before .before .before .before .before .before .before .if3 .left)) (w .0) (c .before .before .before .cell .ensures .0) (c .before .before .cell2 .ensures .0) (c .before .enough .ensures (now (c .before .before .before .before .before .before .before .before .before .before .before .before .before .before .before .before .before .before .before .before .before .before .args .pool)) (now (c .before .before .before .before .before .before .before .before .before .before .before .before .before .before .before .before .before .before .before .before .before .before .args .ranges)) 11) (omega arith) (c .if4 .left), search needs)
+    (λ x m e. root-short (now (c .before .before .before .before .before .before .before .before .before .before .before .before .before .before .before .before .before .before .before .before .before .before .args .table)) (now (c .before .before .before .before .before .before .before .before .before .before .before .before .before .before .before .before .before .before .before .before .before .before .args .pool)) (now (c .before .before .before .before .before .before .before .before .before .before .before .before .before .before .before .before .before .before .before .before .before .before .args .ranges)) (now (c .before .before .before .before .before .before .before .before .before .before .before .before .before .before .before .before .before .before .before .before .before .before .args .s)) (c .before .before .before .before .before .before .before .before .before .before .before .before .before .before .before .before .before .before .before .before .before .before .args .root) x m e _ _ (u .0) (c .before .before .before .before .before .before .before .before .before .before .same .result) g (not-false _ (c .before .before .before .before .before .before .before .before .before .if2 .left)) (c .before .before .before .before .before .before .before .before .root-attrs-fit .result) (c .before .before .before .before .before .before .before .before .root-attrs-fit .ensures (now (c .before .before .before .before .before .before .before .before .before .before .before .before .before .before .before .before .before .before .before .before .before .before .args .ranges))) (not-false _ (c .before .before .before .before .before .before .before .if3 .left)) (w .0) (c .before .before .before .cell .ensures .0) (c .before .before .cell2 .ensures .0) (c .before .enough .ensures (now (c .before .before .before .before .before .before .before .before .before .before .before .before .before .before .before .before .before .before .before .before .before .before .args .pool)) (now (c .before .before .before .before .before .before .before .before .before .before .before .before .before .before .before .before .before .before .before .before .before .before .args .ranges)) belowRoot) (omega arith) (c .if4 .left), search needs)
 
 returns-8 : tie.Need-returns-8
 returns-8 c =
@@ -108,8 +109,8 @@ returns-8 c =
     let w = rw (c .before .before .done .given .1) at (c .before .before .before .before .attributes .ensures) in (
       λ x m e.
           let i = root-open (now (c .before .before .before .before .before .before .before .before .before .before .before .before .before .before .before .before .before .before .before .before .args .table)) (now (c .before .before .before .before .before .before .before .before .before .before .before .before .before .before .before .before .before .before .before .before .args .pool)) (now (c .before .before .before .before .before .before .before .before .before .before .before .before .before .before .before .before .before .before .before .before .args .ranges)) (now (c .before .before .before .before .before .before .before .before .before .before .before .before .before .before .before .before .before .before .before .before .args .s)) (c .before .before .before .before .before .before .before .before .before .before .before .before .before .before .before .before .before .before .before .before .args .root) x m e _ _ (u .0) (c .before .before .before .before .before .before .before .before .same .result) g (not-false _ (c .before .before .before .before .before .before .before .if2 .left)) (c .before .before .before .before .before .before .root-attrs-fit .result) (c .before .before .before .before .before .before .root-attrs-fit .ensures (now (c .before .before .before .before .before .before .before .before .before .before .before .before .before .before .before .before .before .before .before .before .args .ranges))) (not-false _ (c .before .before .before .before .before .if3 .left)) (w .0) in
-          c .root-inside .ensures .0 (i .0) m (i .1) (omega arith) ∙ i .2,
-      c .root-inside .ensures .1,
+          c .root-inside .ensures .tells (i .0) m (i .1) (omega arith) ∙ i .2,
+      c .root-inside .ensures .places,
     )
 
 pub shape-spec : {M : Type 1} → statement M

@@ -1,6 +1,7 @@
 use Rattle.schema.proofs.Whole.{take-none, take-other, take-bad, take-good, further-on}
 use Rattle.schema.proofs.Heads.{same-is}
 use Rattle.schema.specs.Table.{schemaAt}
+use Rattle.reading.specs.Many.{belowRoot}
 use mathlib.Core.Path.{sym, _∙_}
 use borrow.Author.Tests.{not-true, not-false}
 use denote.Ref.{now}
@@ -16,7 +17,8 @@ enum-told : tie.Need-enum-told
 enum-told c = search needs
 
 returns : tie.Need-returns
-returns c = (λ k m e. (take-none (schemaAt (now (c .before .before .before .before .before .before .args .table)) (now (c .before .before .before .before .before .before .args .pool)) (now (c .before .before .before .before .before .before .args .ranges)) 11) (c .before .before .before .before .before .before .args .seen) (c .enum-told .given .1) k, λ h. absurd (omega arith)), further-on (c .before .before .before .before .before .before .args .seen) (omega arith) (c .before .before .before .before .before .before .pre), λ h. absurd (omega arith))
+returns c =
+    record { tells = λ k m e. (take-none (schemaAt (now (c .before .before .before .before .before .before .args .table)) (now (c .before .before .before .before .before .before .args .pool)) (now (c .before .before .before .before .before .before .args .ranges)) belowRoot) (c .before .before .before .before .before .before .args .seen) (c .enum-told .given .1) k, λ h. absurd (omega arith)); counts = further-on (c .before .before .before .before .before .before .args .seen) (omega arith) (c .before .before .before .before .before .before .pre); places = λ h. absurd (omega arith) }
 
 cell-requires : tie.Need-cell-requires
 cell-requires c κs = search needs
@@ -27,12 +29,12 @@ has-name-requires c κs = search needs
 returns-2 : tie.Need-returns-2
 returns-2 c =
     let w = rw (c .before .before .before .before .seen .given .1) at (c .before .before .before .before .before .before .before .before .before .before .pre) in
-    (λ k m e. (take-other (now (c .before .before .before .before .before .before .before .before .before .before .args .table)) (now (c .before .before .before .before .before .before .before .before .before .before .args .pool)) (now (c .before .before .before .before .before .before .before .before .before .before .args .ranges)) (c .before .before .cell .ensures .0) k (c .before .has-name .ensures .0 11 k m e) (c .before .before .before .before .seen .given .1) (not-true _ (c .if1 .taken)), λ h. absurd (omega arith)), omega arith, λ h. absurd (omega arith))
+    record { tells = λ k m e. (take-other (now (c .before .before .before .before .before .before .before .before .before .before .args .table)) (now (c .before .before .before .before .before .before .before .before .before .before .args .pool)) (now (c .before .before .before .before .before .before .before .before .before .before .args .ranges)) (c .before .before .cell .ensures .0) k (c .before .has-name .ensures .tells belowRoot k m e) (c .before .before .before .before .seen .given .1) (not-true _ (c .if1 .taken)), λ h. absurd (omega arith)); counts = omega arith; places = λ h. absurd (omega arith) }
 
 add-number : tie.Need-add-number
 add-number c =
     let w = rw (c .before .before .before .before .seen .given .1) at (c .before .before .before .before .before .before .before .before .before .before .pre) in
-    let b = c .before .has-name .ensures .1 (not-false _ (c .if1 .left)) in
+    let b = c .before .has-name .ensures .places (not-false _ (c .if1 .left)) in
     omega arith
 
 fault-requires : tie.Need-fault-requires
@@ -51,19 +53,20 @@ returns-3 : tie.Need-returns-3
 returns-3 c =
     let w = rw (c .before .before .before .before .before .before .before .before .seen .given .1) at (c .before .before .before .before .before .before .before .before .before .before .before .before .before .before .pre) in
     let v = rw (c .before .from .given .1) at (c .before .before .before .fault .ensures) in
-    (λ k m e. (take-bad (now (c .before .before .before .before .before .before .before .before .before .before .before .before .before .before .args .table)) (now (c .before .before .before .before .before .before .before .before .before .before .before .before .before .before .args .pool)) (now (c .before .before .before .before .before .before .before .before .before .before .before .before .before .before .args .ranges)) (c .before .before .before .before .before .before .cell .ensures .0) k (c .before .before .before .before .before .has-name .ensures .0 11 k m e) (c .before .before .before .before .before .before .before .before .seen .given .1) (not-false _ (c .before .before .before .before .if1 .left)) (v .0 k m e (sym (same-is _ _ (sym (c .before .before .before .before .before .has-name .ensures .0 11 k m e) ∙ not-false _ (c .before .before .before .before .if1 .left))))), λ h. absurd (omega arith)), omega arith, λ h. absurd (omega arith))
+    record { tells = λ k m e. (take-bad (now (c .before .before .before .before .before .before .before .before .before .before .before .before .before .before .args .table)) (now (c .before .before .before .before .before .before .before .before .before .before .before .before .before .before .args .pool)) (now (c .before .before .before .before .before .before .before .before .before .before .before .before .before .before .args .ranges)) (c .before .before .before .before .before .before .cell .ensures .0) k (c .before .before .before .before .before .has-name .ensures .tells belowRoot k m e) (c .before .before .before .before .before .before .before .before .seen .given .1) (not-false _ (c .before .before .before .before .if1 .left)) (v .tells k m e (sym (same-is _ _ (sym (c .before .before .before .before .before .has-name .ensures .tells belowRoot k m e) ∙ not-false _ (c .before .before .before .before .if1 .left))))), λ h. absurd (omega arith)); counts = omega arith; places = λ h. absurd (omega arith) }
 
 returns-4 : tie.Need-returns-4
 returns-4 c =
     let w = rw (c .before .before .before .before .before .before .before .before .before .seen .given .1) at (c .before .before .before .before .before .before .before .before .before .before .before .before .before .before .before .pre) in
     let v = rw (c .before .before .next .given .1) at (c .before .before .before .before .fault .ensures) in
-    let o = c .first-over .ensures .1 (omega arith) in (
-      λ k m e.
-          let h = v .0 k m e (sym (same-is _ _ (sym (c .before .before .before .before .before .before .has-name .ensures .0 11 k m e) ∙ not-false _ (c .before .before .before .before .before .if1 .left)))) in
-          (take-good (now (c .before .before .before .before .before .before .before .before .before .before .before .before .before .before .before .args .table)) (now (c .before .before .before .before .before .before .before .before .before .before .before .before .before .before .before .args .pool)) (now (c .before .before .before .before .before .before .before .before .before .before .before .before .before .before .before .args .ranges)) (c .before .before .before .before .before .before .before .cell .ensures .0) k (c .before .before .before .before .before .before .has-name .ensures .0 11 k m e) (c .before .before .before .before .before .before .before .before .before .seen .given .1) (not-false _ (c .before .before .before .before .before .if1 .left)) (h .0) (h .1) (c .first-over .ensures .0), λ q. h .2),
-      omega arith,
-      λ q. omega arith,
-    )
+    let o = c .first-over .ensures .1 (omega arith) in
+    record {
+      tells = λ k m e.
+          let h = v .tells k m e (sym (same-is _ _ (sym (c .before .before .before .before .before .before .has-name .ensures .tells belowRoot k m e) ∙ not-false _ (c .before .before .before .before .before .if1 .left)))) in
+          (take-good (now (c .before .before .before .before .before .before .before .before .before .before .before .before .before .before .before .args .table)) (now (c .before .before .before .before .before .before .before .before .before .before .before .before .before .before .before .args .pool)) (now (c .before .before .before .before .before .before .before .before .before .before .before .before .before .before .before .args .ranges)) (c .before .before .before .before .before .before .before .cell .ensures .0) k (c .before .before .before .before .before .before .has-name .ensures .tells belowRoot k m e) (c .before .before .before .before .before .before .before .before .before .seen .given .1) (not-false _ (c .before .before .before .before .before .if1 .left)) (h .0) (h .1) (c .first-over .ensures .0), λ q. h .2);
+      counts = omega arith;
+      places = λ q. omega arith;
+    }
 
 pub take-record-spec : {M : Type 1} → statement M
 take-record-spec =

@@ -1,17 +1,16 @@
 -- The invariant: the tally and the buffer, moved on by the children ahead, are those of all the children.
 use Prim.Native.Nat.{_-_, _≤_}
-use Rattle.markup.specs.Elements.{Inside}
-use Rattle.markup.specs.Names.{name}
-use Rattle.markup.specs.View.{part}
-use Rattle.nodes.proofs.Walking.{Look, look-gone, look-past, look-start, look-stuck}
-use Rattle.nodes.specs.Stands.{Holds}
-use Rattle.reading.specs.Within.{kids}
-use Rattle.tracks.proofs.Gathering.{gather, gather-all, gather-end, gather-on, kept-length}
 use borrow.Author.Needs.{needs}
 use denote.Ref.{now}
 use lib.ListN.{drop, length}
 use mathlib.Core.Path.{_∙_, _≡_, ap, refl}
 use native.Mathlib.Omega.{arith}
+use Rattle.markup.specs.Elements.{Inside, kids}
+use Rattle.markup.specs.Names.{name}
+use Rattle.markup.specs.View.{part}
+use Rattle.nodes.proofs.Walking.{Look, look-gone, look-past, look-start, look-stuck}
+use Rattle.nodes.specs.Stands.{Holds}
+use Rattle.tracks.proofs.Gathering.{gather, gather-all, gather-end, gather-on, kept-length}
 use Rattle.tracks.proofs.events.events_from.Statement.{statement}
 use Rattle.tracks.proofs.events.events_from.Tie as tie
 

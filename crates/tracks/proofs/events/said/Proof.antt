@@ -35,13 +35,19 @@ slice-aggregate-same c = search needs
 same-requires : tie.Need-same-requires
 same-requires c κs = search needs
 
+conferma-of-requires : tie.Need-conferma-of-requires
+conferma-of-requires c κs = search needs
+
+kind-of-requires : tie.Need-kind-of-requires
+kind-of-requires c κs = search needs
+
 returns : tie.Need-returns
 returns c =
     λ t h.
-    let v = found-child (bytes "Valutazione") h (c .before .before .before .before .before .before .before .before .child .ensures t h) in
-    let p = c .before .before .before .child-text .ensures .0 _ (c .before .before .before .before .before .child2 .ensures _ (c .before .before .before .before .before .before .before .before .child .ensures t h)) in
+    let v = found-child (bytes "Valutazione") h (c .before .before .before .before .before .before .before .before .before .before .child .ensures t h) in
+    let p = c .before .before .before .child-text .ensures .0 _ (c .before .before .before .before .before .child2 .ensures _ (c .before .before .before .before .before .before .before .before .before .before .child .ensures t h)) in
     let z = c .same .ensures ∙ ap (λ (l : List ℕ). same l (bytes "000")) (c .before .before .part .ensures ∙ p) in
-    rw (← v, ← z)
+    rw (c .before .before .before .before .before .before .before .kind-of .ensures, c .before .before .before .before .before .before .before .before .conferma-of .ensures, ← v, ← z)
 
 pub said-spec : {M : Type 1} → statement M
 said-spec =
@@ -49,6 +55,8 @@ said-spec =
     (tie.spec
     slice-aggregate-child
     child-requires
+    conferma-of-requires
+    kind-of-requires
     slice-aggregate-child-2
     child-requires-2
     slice-aggregate-child-text

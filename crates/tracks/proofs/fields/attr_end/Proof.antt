@@ -1,9 +1,14 @@
+use Rattle.tracks.proofs.Totals.{nameless, named}
 use Rattle.tracks.specs.Defaults.{dayElse}
 use borrow.Author.Needs.{needs}
+use denote.Ref.{now}
 use mathlib.Core.Path.{_∙_, ap}
 use native.Mathlib.Omega.{arith}
 use Rattle.tracks.proofs.fields.attr_end.Statement.{statement}
 use Rattle.tracks.proofs.fields.attr_end.Tie as tie
+
+returns : tie.Need-returns
+returns c = (λ t h. rw (nameless (now (c .before .before .before .args .x)) t (c .if1 .taken) .1), omega arith)
 
 attribute-requires : tie.Need-attribute-requires
 attribute-requires c κs = search needs
@@ -20,24 +25,26 @@ part-requires c κs = search needs
 day-of-requires : tie.Need-day-of-requires
 day-of-requires c κs = search needs
 
-returns : tie.Need-returns
-returns c =
-    let v = rw (c .enum-told .given .1) at (c .before .before .attribute .ensures) in
-    (λ t h. rw (v .0 t h .1), omega arith)
-
 returns-2 : tie.Need-returns-2
 returns-2 c =
+    let v = rw (c .enum-told .given .1) at (c .before .before .attribute .ensures) in
+    (λ t h. rw (named (now (c .before .before .before .before .before .before .args .x)) t (c .before .before .before .if1 .left) .1, v .0 t h .1), omega arith)
+
+returns-3 : tie.Need-returns-3
+returns-3 c =
     let v = rw (c .before .before .before .start .given .1) at (c .before .before .before .before .before .attribute .ensures) in
-    (λ t h. rw (v .0 t h .1) (c .day-of .ensures .0 ∙ ap dayElse (c .before .part .ensures ∙ v .0 t h .0)), omega (arith, c .day-of .ensures .1))
+    let n = c .before .before .before .before .before .before .if1 .left in
+    (λ t h. rw (named (now (c .before .before .before .before .before .before .before .before .before .args .x)) t n .1, named (now (c .before .before .before .before .before .before .before .before .before .args .x)) t n .0, v .0 t h .1) (c .day-of .ensures .0 ∙ ap dayElse (c .before .part .ensures ∙ v .0 t h .0)), omega (arith, c .day-of .ensures .1))
 
 pub attr-end-spec : {M : Type 1} → statement M
 attr-end-spec =
     tie.close
     (tie.spec
+    returns
     attribute-requires
     enum-told
     enum-known-start
     part-requires
     day-of-requires
-    returns
-    returns-2)
+    returns-2
+    returns-3)

@@ -1,7 +1,6 @@
-use Prim.Native.Nat.{_%_, ℕ}
-use Rattle.laws.specs.Decimal.{decimal}
+use Rattle.tracks.specs.Defaults.{numberElse}
+use Rattle.tracks.proofs.Totals.{number-below}
 use borrow.Author.Needs.{needs}
-use mathlib.Core.List.{List}
 use mathlib.Core.Path.{_∙_, ap}
 use Rattle.tracks.proofs.fields.number.Statement.{statement}
 use Rattle.tracks.proofs.fields.number.Tie as tie
@@ -9,12 +8,13 @@ use Rattle.tracks.proofs.fields.number.Tie as tie
 part-requires : tie.Need-part-requires
 part-requires c κs = search needs
 
-number-of-requires : tie.Need-number-of-requires
-number-of-requires c κs = search needs
+read-digits-requires : tie.Need-read-digits-requires
+read-digits-requires c κs = search needs
 
 returns : tie.Need-returns
 returns c =
-    (c .number-of .ensures .0 ∙ ap (λ (x : List ℕ). decimal x % 10000) (c .before .part .ensures), c .number-of .ensures .1)
+    let n = c .read-digits .ensures .0 in
+    (n ∙ ap numberElse (c .before .part .ensures), number-below _ n)
 
 pub number-spec : {M : Type 1} → statement M
-number-spec = tie.close (tie.spec part-requires number-of-requires returns)
+number-spec = tie.close (tie.spec part-requires read-digits-requires returns)

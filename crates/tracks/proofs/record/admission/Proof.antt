@@ -1,11 +1,12 @@
 use mathlib.Core.Path.{_∙_, ap}
 use denote.Ref.{now}
 use lib.ListN.{drop}
-use Rattle.reading.specs.Many.{belowRoot}
-use Rattle.tracks.specs.Record.{padded}
-use Rattle.tracks.proofs.ShapedAdmissions.{case-shaped}
 use native.Mathlib.Omega.{arith}
 use borrow.Author.Needs.{needs}
+use Rattle.reading.specs.Many.{belowRoot}
+use Rattle.codes.proofs.Decimals.{up-to-low}
+use Rattle.home_care.specs.Record.{padded}
+use Rattle.tracks.proofs.ShapedAdmissions.{case-shaped}
 use Rattle.tracks.proofs.record.admission.Statement.{statement}
 use Rattle.tracks.proofs.record.admission.Tie as tie
 
@@ -96,7 +97,7 @@ returns c = (
       let home = c .before .before .before .before .before .before .before .before .before .before .before .before .several2 .ensures _ (p .b) in
       let v = c .before .before .before .before .before .before .before .before .before .valued .ensures _ (c .before .before .before .before .before .before .before .before .before .before .child2 .ensures _ (w .d)) in
       record {
-        birth = c .text-number .ensures .0 _ (p .a) ∙ (let b = h .birth in omega arith);
+        birth = c .text-number .ensures .0 _ (p .a) ∙ up-to-low 9999 _ (let b = h .birth in omega arith);
         prevalente = c .before .before .before .before .before .before .filled .ensures ∙ ap padded (c .before .before .before .before .before .before .before .part .ensures ∙ v .0);
         scales = v .1 ∙ h .scales;
         region = c .before .before .before .before .text .ensures .0 _ (home .a);

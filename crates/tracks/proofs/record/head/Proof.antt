@@ -2,6 +2,7 @@ use mathlib.Core.Path.{_∙_}
 use denote.Ref.{now}
 use lib.ListN.{drop}
 use Rattle.reading.specs.Many.{belowRoot}
+use Rattle.codes.proofs.Decimals.{up-to-low}
 use Rattle.tracks.proofs.Filling.{by-place}
 use Rattle.tracks.proofs.Shaped.{head-shaped}
 use native.Mathlib.Omega.{arith}
@@ -54,7 +55,7 @@ returns c = (
       let taken = c .before .before .before .before .before .before .before .before .before .before .child .ensures _ (w .d) in
       record {
         tipo = c .before .before .before .before .attr-byte .ensures _ (w .a);
-        region = c .before .before .child-number .ensures .0 _ (w .c) ∙ (let r = h .region in omega arith);
+        region = c .before .before .child-number .ensures .0 _ (w .c) ∙ up-to-low 9999 _ (let r = h .region in omega arith);
         asl = by-place s (c .before .before .before .before .before .before .before .before .child-text .result .start) (c .before .before .before .before .before .before .before .before .child-text .result .end) 3 (c .before .before .before .before .before .before .before .before .child-text .ensures .1) (c .before .before .before .before .before .before .before .before .child-text .ensures .0 _ (w .c)) (h .asl);
         taken = c .attr-day .ensures .0 _ taken ∙ rw (h .taken);
         id = by-place s (c .before .before .before .before .before .before .child-text2 .result .start) (c .before .before .before .before .before .before .child-text2 .result .end) 88 (c .before .before .before .before .before .before .child-text2 .ensures .1) (c .before .before .before .before .before .before .child-text2 .ensures .0 _ taken) (h .id);

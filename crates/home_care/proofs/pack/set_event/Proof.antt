@@ -1,0 +1,28 @@
+use mathlib.Core.Path.{_∙_}
+use lib.ListN.{length}
+use borrow.Author.Needs.{needs}
+use Rattle.rows.proofs.Bytes.{fit-of}
+use Rattle.home_care.proofs.Packed.{event-set, still-written}
+use Rattle.home_care.proofs.pack.set_event.Statement.{statement}
+use Rattle.home_care.proofs.pack.set_event.Tie as tie
+
+put-requires : tie.Need-put-requires
+put-requires c κs = search needs
+
+finish-requires : tie.Need-finish-requires
+finish-requires c κs = search needs
+
+same-length : tie.Need-same-length
+same-length c = search needs
+
+returns : tie.Need-returns
+returns c =
+    let a = c .before .before .before .before .before .before .before .before .before .args in
+    let n = length (a .out .now) in
+    let e = event-set (a .out .now) (c .before .before .before .before .before .before .put .last .0) (c .before .before .finish .last .0) (a .s) (c .before .before .before .before .before .before .put .result) (a .event) n (c .before .before .before .before .before .before .put .ensures .0) (c .before .before .before .before .before .before .put .kept .0) (c .before .before .finish .ensures) in (
+      e,
+      still-written (a .out .now) (c .before .before .finish .last .0) (a .s) (a .event) n (c .before .before .before .before .before .before .before .before .before .pre .0) (c .before .before .before .before .before .before .before .before .before .pre .1) (fit-of 8 (c .before .before .finish .last .0) (λ i. c .slice-known3 .given i .fits)) (c .before .before .finish .kept .0 ∙ c .before .before .before .before .before .before .put .kept .0) (c .before .before .before .before .before .before .before .before .before .pre .2) e,
+    )
+
+pub set-event-spec : {M : Type 1} → statement M
+set-event-spec = tie.close (tie.spec put-requires finish-requires same-length returns)

@@ -1,0 +1,5 @@
+pub mod Allowed
+pub mod Anomalies
+pub mod Record
+pub mod Row
+pub mod Fits

@@ -1,0 +1,176 @@
+-- The rows of the register (document 01, "The register", the table): their fields with the widths from the front of the row, packed, and read back by the
+-- same widths.
+use Prim.Native.Nat.{ℕ, suc, _+_, _-_, _*_, _/_, _%_, _^_}
+use mathlib.Core.List.{List, [], _∷_, _++_}
+use lib.ListN.{take, drop, getD, replicate}
+use Rattle.model.specs.Map.{Row}
+use Rattle.rows.specs.Packing.{Field, bits, each, fields, packs, total, fieldAt, unpacks}
+use Rattle.register.specs.Layout.{Layout}
+
+-- ---- what the rows say
+
+-- "region as a number, ASL, date of taking in, Id_Rec"
+pub record Key : Type 0 where
+  pub region : ℕ
+  pub asl : List ℕ
+  pub taken : ℕ
+  pub id : List ℕ
+
+-- "birth year, prevalente (unused last characters 0), then Autonomia, GradoMobilita, Cognitivi, Comportamenti, SupportoSociale, RischioInfettivo (0 = missing)"
+pub record Case : Type 0 where
+  pub birth : ℕ
+  pub prevalente : List ℕ
+  pub scales : List ℕ
+
+-- "kind (0 Rivalutazione, 1 Erogazione, 2 Sospensione, 3 Conclusione), date, end date, code, accesses (0 = missing), conferma (0 unless Rivalutazione)"
+pub record Event : Type 0 where
+  pub kind : ℕ
+  pub date : ℕ
+  pub end : ℕ
+  pub code : ℕ
+  pub accesses : ℕ
+  pub conferma : ℕ
+
+-- ---- how wide the fields are
+
+-- "rows of 91 bytes"
+abbrev pub rowBytes : ℕ
+rowBytes = 91
+
+-- a day number, and a character
+abbrev pub dayBits : ℕ
+dayBits = 17
+
+abbrev pub charBits : ℕ
+charBits = 7
+
+-- "region as a number 8, ASL 3 x 7, date of taking in 17, Id_Rec 88 x 7"
+abbrev pub keyWidths : List ℕ
+keyWidths = 8 ∷ (replicate 3 charBits ++ (dayBits ∷ replicate 88 charBits))
+
+-- "birth year 12, prevalente 5 x 7, then [six fields] 2 each"
+abbrev pub caseWidths : List ℕ
+caseWidths = 12 ∷ (replicate 5 charBits ++ replicate 6 2)
+
+-- "kind 2, date 17, end date 17, code 7, accesses 7, conferma 2"
+abbrev pub eventWidths : List ℕ
+eventWidths = 2 ∷ dayBits ∷ dayBits ∷ 7 ∷ 7 ∷ 2 ∷ []
+
+-- the sums of these widths (`widths-sum`): "key of a case, 662"; a case and an event after the case's key
+abbrev pub keyBits : ℕ
+keyBits = 662
+
+abbrev pub caseBits : ℕ
+caseBits = 59
+
+abbrev pub eventBits : ℕ
+eventBits = 52
+
+-- "An event's key is case key, kind and date": what it has after the case's, and what the event has after that
+abbrev pub ownBits : ℕ
+ownBits = 19
+
+abbrev pub pastOwn : ℕ
+pastOwn = eventBits - ownBits
+
+abbrev pub eventKeyBits : ℕ
+eventKeyBits = keyBits + ownBits
+
+-- the zero bits at the end of a row
+abbrev pub caseZeros : ℕ
+caseZeros = 8 * rowBytes - (keyBits + caseBits)
+
+abbrev pub eventZeros : ℕ
+eventZeros = 8 * rowBytes - (keyBits + eventBits)
+
+abbrev pub siad : Layout
+siad = record { bytes = rowBytes; caseKey = keyBits; eventKey = eventKeyBits }
+
+-- "all ones stands for none" (the end date)
+abbrev pub never : ℕ
+never = 2 ^ dayBits - 1
+
+-- ---- packed
+
+abbrev pub keyFields : Key → List Field
+keyFields k = bits 8 (k .region) ∷ (each charBits (k .asl) ++ (bits dayBits (k .taken) ∷ each charBits (k .id)))
+
+abbrev pub caseFields : Case → List Field
+caseFields c = bits 12 (c .birth) ∷ (each charBits (c .prevalente) ++ each 2 (c .scales))
+
+abbrev pub eventFields : Event → List Field
+eventFields e = fields eventWidths (e .kind ∷ e .date ∷ e .end ∷ e .code ∷ e .accesses ∷ e .conferma ∷ [])
+
+-- a key as a number
+abbrev pub keyNumber : Key → ℕ
+keyNumber k = packs (keyFields k) 0
+
+-- a case, without its key, as a number
+abbrev pub caseNumber : Case → ℕ
+caseNumber c = packs (caseFields c) 0
+
+-- an event, without the case's key, as a number
+abbrev pub eventNumber : Event → ℕ
+eventNumber e = packs (eventFields e) 0
+
+-- the row of the event of that number, of the case c
+abbrev pub eventRow : ℕ → ℕ → Row ℕ
+eventRow c e = record { key = c * 2 ^ ownBits + e / 2 ^ pastOwn; val = e % 2 ^ pastOwn * 2 ^ eventZeros }
+
+-- ---- read back
+
+-- a case's key
+abbrev pub keyIn : ℕ → Key
+keyIn n =
+    let vs = unpacks keyWidths n in
+    record { region = getD vs 0 0; asl = take 3 (drop 1 vs); taken = getD vs 4 0; id = drop 5 vs }
+
+-- the day of taking in that it has
+abbrev pub takenIn : ℕ → ℕ
+takenIn n = keyIn n .taken
+
+-- what a case's row has after it, and the zero bits behind that
+abbrev pub caseIn : ℕ → Case
+caseIn v =
+    let vs = unpacks (caseWidths ++ (caseZeros ∷ [])) v in
+    record { birth = getD vs 0 0; prevalente = take 5 (drop 1 vs); scales = take 6 (drop 6 vs) }
+
+abbrev pub casePad : ℕ → ℕ
+casePad v = v % 2 ^ caseZeros
+
+-- the event's number in its row, and the zero bits behind it
+abbrev pub eventNumberIn : Row ℕ → ℕ
+eventNumberIn r = r .key % 2 ^ ownBits * 2 ^ pastOwn + r .val / 2 ^ eventZeros
+
+abbrev pub eventPad : Row ℕ → ℕ
+eventPad r = r .val % 2 ^ eventZeros
+
+-- the first field of an event's number is all that stands above the others; a field after it, counted from the front
+abbrev pub kindOf : ℕ → ℕ
+kindOf e = e / 2 ^ total (drop 1 eventWidths)
+
+abbrev pub eventField : ℕ → ℕ → ℕ
+eventField i e = fieldAt (total (drop (suc i) eventWidths)) (getD eventWidths i 0) e
+
+abbrev pub dateOf : ℕ → ℕ
+dateOf e = eventField 1 e
+
+abbrev pub endOf : ℕ → ℕ
+endOf e = eventField 2 e
+
+abbrev pub codeOf : ℕ → ℕ
+codeOf e = eventField 3 e
+
+abbrev pub accessesOf : ℕ → ℕ
+accessesOf e = eventField 4 e
+
+abbrev pub confermaOf : ℕ → ℕ
+confermaOf e = eventField 5 e
+
+abbrev pub eventIn : ℕ → Event
+eventIn e =
+    record { kind = kindOf e; date = dateOf e; end = endOf e; code = codeOf e; accesses = accessesOf e; conferma = confermaOf e }
+
+-- the part of an event's key after its case's
+abbrev pub eventKeyOf : ℕ → ℕ
+eventKeyOf e = e / 2 ^ pastOwn

@@ -1,0 +1,109 @@
+// A row is the packing of field values allowed (document 01, "Sound means").
+ghost use mathlib.Core.Path.{_≡_};
+ghost use mathlib.Core.Bool.{_&&_};
+ghost use Prim.Native.Nat.{_/_, _%_, _<_, _^_};
+ghost use lib.Dec.{eqb};
+ghost use lib.ListN.{length};
+ghost use Rattle.days.specs.Calendar.{yearOf};
+ghost use Rattle.days.specs.Table.{Firsts};
+ghost use Rattle.rows.specs.Packing.{num};
+ghost use Rattle.register.specs.Layout.{caseRest, eventRest};
+ghost use Rattle.register.specs.State.{split};
+ghost use Rattle.home_care.specs.Row.{Key, rowBytes, siad, keyIn, caseIn, casePad, eventNumberIn, eventIn};
+ghost use Rattle.home_care.specs.Allowed.{eventAllowed, keyAllowed, caseAllowed, caseRowAllowed, eventRowAllowed};
+use crate::event::accesses_of;
+use crate::event::code_of;
+use crate::event::conferma_of;
+use crate::event::date_of;
+use crate::event::end_of;
+use crate::event::kind_of;
+use crate::layout::AFTER_CASE;
+use crate::layout::AFTER_EVENT;
+use crate::layout::ASL;
+use crate::layout::BIRTH;
+use crate::layout::BIRTH_BITS;
+use crate::layout::CASE_ZEROS;
+use crate::layout::DAY_BITS;
+use crate::layout::DAYS;
+use crate::layout::EVENT_ZEROS;
+use crate::layout::FIRST_BIRTH;
+use crate::layout::ID;
+use crate::layout::INFECTION;
+use crate::layout::NEVER;
+use crate::layout::PREVALENTE;
+use crate::layout::REGION;
+use crate::layout::REGION_BITS;
+use crate::layout::SCALE_BITS;
+use crate::layout::TAKEN;
+use crate::texts::prevalente_allowed;
+use codes::lists::REVALUATION;
+use codes::lists::SERVICE;
+use codes::lists::SUSPENSION;
+use rows::reader::read_run;
+
+// An event's fields; the code is one of its kind's list.
+pub fn event_allowed(e: u64) -> bool
+    ensures { λ r. ⌜ r ≡ eventAllowed (eventIn e) ⌝ }
+{
+    let kind = kind_of(e);
+    let end = end_of(e);
+    let accesses = accesses_of(e);
+    let conferma = conferma_of(e);
+    let ends = (end == NEVER) | ((kind == SUSPENSION) & (end < DAYS));
+    let counts = ((kind == SERVICE) & (accesses <= 99)) | ((kind != SERVICE) & (accesses == 0));
+    let confirms = ((kind == REVALUATION) & ((1 <= conferma) & (conferma <= 2)))
+        | ((kind != REVALUATION) & (conferma == 0));
+    (date_of(e) < DAYS) & (ends & (codes::lists::is_code(kind, code_of(e)) & (counts & confirms)))
+}
+
+// An event's row, whose 52 bits are e.
+pub fn event_row_allowed(row: &[u8], e: u64) -> bool
+    requires { ⌜ (length (now row) ≡ rowBytes) × (e ≡ eventNumberIn (split (eventRest siad) (num (now row)))) ⌝ }
+    ensures { λ r. ⌜ r ≡ eventRowAllowed (split (eventRest siad) (num (now (row .entry)))) ⌝ }
+{
+    let pad = rows::reader::get(row, AFTER_EVENT, EVENT_ZEROS);
+    event_allowed(e) & (pad == 0)
+}
+
+// A case's key.
+pub fn key_allowed(row: &[u8]) -> bool
+    requires { ⌜ length (now row) ≡ rowBytes ⌝ }
+    ensures { λ r. ⌜ r ≡ keyAllowed (keyIn (num (now (row .entry)) / 2 ^ caseRest siad)) ⌝ }
+{
+    let mut asl = [0u8; 3];
+    let mut id = [0u8; 88];
+    read_run(row, ASL, &mut asl);
+    read_run(row, ID, &mut id);
+    let region = rows::reader::get(row, REGION, REGION_BITS);
+    let taken = rows::reader::get(row, TAKEN, DAY_BITS);
+    codes::lists::is_region(region)
+        & (codes::chars::all_alnum(&asl) & ((taken < DAYS) & codes::chars::all_id(&id)))
+}
+
+// What a case's row has after its key, taken in in that year.
+fn rest_allowed(row: &[u8], year: u64) -> bool
+    requires { ⌜ length (now row) ≡ rowBytes ⌝ }
+    ensures { λ r. ⌜ ((k : Key) → year ≡ yearOf (k .taken) → r ≡ caseAllowed k (caseIn (num (now (row .entry)) % 2 ^ caseRest siad)) && eqb (casePad (num (now (row .entry)) % 2 ^ caseRest siad)) 0) ⌝ }
+{
+    let mut prevalente = [0u8; 5];
+    read_run(row, PREVALENTE, &mut prevalente);
+    let birth = rows::reader::get(row, BIRTH, BIRTH_BITS);
+    let infection = rows::reader::get(row, INFECTION, SCALE_BITS);
+    let pad = rows::reader::get(row, AFTER_CASE, CASE_ZEROS);
+    (!((birth < FIRST_BIRTH) | (year < birth))
+        & (prevalente_allowed(&prevalente) & (infection <= 2)))
+        & (pad == 0)
+}
+
+// A case's row.
+pub fn case_row_allowed(t: &[u32; 2400], row: &[u8]) -> bool
+    requires { ⌜ Firsts (now t) × (length (now row) ≡ rowBytes) ⌝ }
+    ensures { λ r. ⌜ r ≡ caseRowAllowed (split (caseRest siad) (num (now (row .entry)))) ⌝ }
+{
+    if !key_allowed(row) {
+        return false;
+    }
+    let taken = rows::reader::get(row, TAKEN, DAY_BITS);
+    let year = days::calendar::year_of(t, taken as u32);
+    rest_allowed(row, year as u64)
+}

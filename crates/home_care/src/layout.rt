@@ -1,0 +1,89 @@
+// The home-care register's rows (document 01, the table): where each field begins, counted from the front of the row, and how many bits it has.
+
+// The bytes of a row.
+pub const ROW: usize = 91;
+
+// A region, a character, a day number, a birth year, a scale.
+pub const REGION_BITS: usize = 8;
+
+pub const CHAR_BITS: usize = 7;
+
+pub const DAY_BITS: usize = 17;
+
+pub const BIRTH_BITS: usize = 12;
+
+pub const SCALE_BITS: usize = 2;
+
+// ---- a key, at the front of every row
+
+pub const REGION: usize = 0;
+
+pub const ASL: usize = 8;
+
+pub const TAKEN: usize = 29;
+
+pub const ID: usize = 46;
+
+pub const CASE_KEY: usize = 662;
+
+// ---- behind it in a case's row
+
+pub const BIRTH: usize = 662;
+
+pub const PREVALENTE: usize = 674;
+
+pub const INFECTION: usize = 719;
+
+pub const AFTER_CASE: usize = 721;
+
+// The zero bits at the end.
+pub const CASE_ZEROS: usize = 7;
+
+// ---- behind it in an event's row
+
+pub const KIND: usize = 662;
+
+pub const DATE: usize = 664;
+
+pub const END: usize = 681;
+
+pub const CODE: usize = 698;
+
+pub const ACCESSES: usize = 705;
+
+pub const CONFERMA: usize = 712;
+
+pub const AFTER_EVENT: usize = 714;
+
+pub const CODE_BITS: usize = 7;
+
+pub const ACCESSES_BITS: usize = 7;
+
+pub const CONFERMA_BITS: usize = 2;
+
+pub const EVENT_BITS: usize = 52;
+
+// The zero bits at the end.
+pub const EVENT_ZEROS: usize = 14;
+
+// An event's key: what it has after its case's, kind and date; the event's bits after that; no own key is so large.
+pub const EVENT_KEY: usize = 681;
+
+pub const OWN_KEY: usize = 19;
+
+pub const PAST_OWN: usize = 33;
+
+pub const OWN_KEYS: u64 = 524288;
+
+// The own keys of one kind: as many as there are dates.
+pub const DATES: u64 = 131072;
+
+// ---- values
+
+// The days of 1900 to 2099; all ones stands for no end.
+pub const DAYS: u64 = 73049;
+
+pub const NEVER: u64 = 131071;
+
+// 11: nobody was born before.
+pub const FIRST_BIRTH: u64 = 1880;

@@ -1,0 +1,113 @@
+-- The four kinds of event as Track 2's schema tells them, and what holds of each holds of any event.
+use Prim.Native.Nat.{ℕ}
+use mathlib.Core.Path.{_≡_, refl}
+use mathlib.Core.Bool.{Bool, true, false, cond, _||_, false≢true}
+use mathlib.Core.List.{List, [], _∷_}
+use native.Mathlib.Omega.{arith}
+use Rattle.laws.specs.Lists.{any, same}
+use Rattle.laws.specs.Text.{bytes}
+use Rattle.codes.specs.Codes.{revaluation}
+use Rattle.markup.specs.Elements.{Tree}
+use Rattle.reading.specs.Everywhere.{Every}
+use Rattle.reading.proofs.Places.{every-map}
+use Rattle.schema.specs.Schema.{Particle, group, Nodes}
+use Rattle.nodes.proofs.Taken.{Meets, Taken}
+use Rattle.nodes.proofs.Present.{nodeOf, only, absent, owed, by-node}
+use Rattle.nodes.proofs.Fields.{attrNamed}
+use Rattle.schemas.specs.Track2
+use Rattle.tracks.specs.Wordings
+use Rattle.tracks.specs.Wordings.{Wording, wordings, wordingIn}
+use Rattle.tracks.proofs.Worded.{Field, in-child, in-attribute, Tells}
+
+-- a Valutazione stands in no other event than a Rivalutazione
+pub data Valued (k : ℕ) (ns : Nodes) : Type 0 where
+  unvalued : nodeOf (bytes "Valutazione") ns ≡ absent → Valued k ns
+  valued : k ≡ revaluation → nodeOf (bytes "Valutazione") ns ≡ only Track2.valutazione → Valued k ns
+
+pub record Kind (w : Wording) : Type 0 where
+  pub head : Particle
+  pub nodes : Nodes
+  pub found : nodeOf (w .element) Track2.eventi ≡ only (group head nodes)
+  pub tells : Tells w head nodes
+  pub values : Valued (w .kind) nodes
+
+abbrev pub Each : (Wording → Type 0) → List Wording → Type 0
+Each q [] = Unit
+Each q (w ∷ ws) = q w × Each q ws
+
+rivalutazione : Kind Wordings.rivalutazione
+unfolding nodeOf owed attrNamed same
+rivalutazione =
+    record {
+      head = _;
+      nodes = _;
+      found = refl;
+      tells = record { day = refl; end = Field.none tt; code = in-attribute refl (Field.one tt refl); accesses = Field.none tt; conferma = Field.one refl refl };
+      values = valued refl refl;
+    }
+
+erogazione : Kind Wordings.erogazione
+unfolding nodeOf owed attrNamed same
+erogazione =
+    record {
+      head = _;
+      nodes = _;
+      found = refl;
+      tells = record { day = refl; end = Field.none tt; code = in-child refl refl; accesses = Field.one refl refl; conferma = Field.none refl };
+      values = unvalued refl;
+    }
+
+sospensione : Kind Wordings.sospensione
+unfolding nodeOf owed attrNamed same
+sospensione =
+    record {
+      head = _;
+      nodes = _;
+      found = refl;
+      tells = record { day = refl; end = Field.one refl refl; code = in-child refl refl; accesses = Field.none tt; conferma = Field.none refl };
+      values = unvalued refl;
+    }
+
+conclusione : Kind Wordings.conclusione
+unfolding nodeOf owed attrNamed same
+conclusione =
+    record {
+      head = _;
+      nodes = _;
+      found = refl;
+      tells = record { day = refl; end = Field.none tt; code = in-child refl refl; accesses = Field.none tt; conferma = Field.none refl };
+      values = unvalued refl;
+    }
+
+pub kinds : Each Kind wordings
+kinds = (rivalutazione, (erogazione, (sospensione, (conclusione, tt))))
+
+-- what holds of each wording that has a name holds of the one found by it
+pub by-name : (q : Wording → Type 0) (x : List ℕ) (ws : List Wording) → Each (λ w. same (w .element) x ≡ true → q w) ws → any (λ w. same (w .element) x) ws ≡ true
+    → q (wordingIn ws x)
+unfolding any wordingIn
+by-name q x [] h e = absurd (false≢true e)
+by-name q x (w ∷ ws) h e = go (same (w .element) x) (h .0) (by-name q x ws (h .1)) e
+  where
+    go : (b : Bool) → (b ≡ true → q w) → (any (λ w. same (w .element) x) ws ≡ true → q (wordingIn ws x)) → b || any (λ w. same (w .element) x) ws ≡ true
+        → q (cond b w (wordingIn ws x))
+    go true f g e = f refl
+    go false f g e = g e
+
+every-both : (a b : Tree → Type 0) (ts : List Tree) → Every a ts → Every b ts → Every (λ t. a t × b t) ts
+every-both a b [] f g = tt
+every-both a b (t ∷ ts) f g = ((f .0, g .0), every-both a b ts (f .1) (g .1))
+
+-- what each kind's node tells of its elements holds of the children of Eventi, each by its name
+module _ (p : Tree → Type 0) (q : Wording → Tree → Type 0) (f : (w : Wording) (k : Kind w) (t : Tree) → Meets p (group (k .head) (k .nodes)) t → q w t) where
+  pub each-child : (ws : List Wording) → Each Kind ws → {j : ℕ} {cs : List Tree} → Taken p Track2.eventi j cs → Every (λ t. Each (λ w. same (w .element) (t .named) ≡ true → q w t) ws) cs
+  each-child [] h {j} {cs} c = all-of cs
+    where
+      all-of : (cs : List Tree) → Every (λ t. Unit) cs
+      all-of [] = tt
+      all-of (t ∷ ts) = (tt, all-of ts)
+  each-child (w ∷ ws) h {j} {cs} c =
+      every-both (λ t. same (w .element) (t .named) ≡ true → q w t) (λ t. Each (λ w. same (w .element) (t .named) ≡ true → q w t) ws) cs
+      (every-map (λ t. same (w .element) (t .named) ≡ true → Meets p (group (h .0 .head) (h .0 .nodes)) t) (λ t. same (w .element) (t .named) ≡ true → q w t)
+      (λ t g u. f w (h .0) t (g u)) cs (by-node p (w .element) (group (h .0 .head) (h .0 .nodes)) c (h .0 .found)))
+      (each-child ws (h .1) c)
