@@ -1,8 +1,8 @@
 /* The calls of the SIAD intake (crates/exports). A slice is a pointer and a length; buffers must not overlap, and a length must be that of the buffer.
    What each call answers, and what every lent byte holds afterwards, is stated and proved in crates/exports/src/lib.rt. The archive is made by
-   `rt staticlib exports`, for x86-64. No call takes memory of its own but stack. Measured, not
-   proved: siad_submit at most 15,768 bytes on the files that bench/stack makes, hostile ones among them; siad_sound 9,931 and siad_find 10,187, each once on a
-   register for 4,096 rows with one case. Keep 16 KB free. */
+   `rt staticlib exports`, for x86-64. No call takes memory of its own but stack. Measured, not proved: siad_submit at most 15,736 bytes on the files that
+   bench/stack makes, hostile ones among them; siad_sound 9,932 and siad_find 10,188, each on a register for 4,096 rows that bench's two ordinary files filled.
+   Keep 16 KB free. */
 #ifndef SIAD_H
 #define SIAD_H
 #include <stddef.h>

@@ -1,5 +1,5 @@
 -- What the code reads where a text is not of its type, so that reading is total. A record without a fault has no such text, and its fields are those of
--- `headOf`, `admissionOf` and `eventsOf`.
+-- `headOf`, `admissionOf` and `allSaid`.
 use Prim.Native.Nat.{ℕ, _+_, _%_}
 use mathlib.Core.Bool.{cond, _||_}
 use mathlib.Core.List.{List, [], _∷_}
