@@ -5,14 +5,18 @@ use mathlib.Core.List.{List, _∷_, _++_}
 use native.Mathlib.Omega.{arith}
 use lib.ListN.{length, replicate, take, drop}
 use lib.Seq.{take-at, drop-at}
-use Rattle.rows.specs.Packing.{Field, bits, each, width, widths, values, Fit, num, firstBits, rowNumber}
+use Rattle.rows.specs.Packing.{Field, bits, each, total, width, widths, values, Fit, num, firstBits, rowNumber}
 use Rattle.rows.proofs.Packing.{width-append, widths-append, values-append, fit-append, packs-lt, packs-injective}
 use Rattle.rows.proofs.Bytes.{each-width, each-widths, each-values}
 use Rattle.rows.proofs.Rows.{first-fields}
-use Rattle.home_care.specs.Row.{keyBits, caseBits, eventBits, Key, Case, Event, keyFields, caseFields, eventFields, keyNumber, caseNumber, eventNumber}
+use Rattle.home_care.specs.Row.{keyWidths, caseWidths, eventWidths, keyBits, caseBits, eventBits, ownBits, Key, Case, Event, keyFields, caseFields, eventFields, keyNumber, caseNumber, eventNumber}
 use Rattle.home_care.specs.Fits.{KeyFits, CaseFits, EventFits}
 
 -- ---- widths and sizes
+
+-- the sums that the table names are those of its widths; kind and date are an event's own part of its key
+pub widths-sum : (total keyWidths ≡ keyBits) × (total caseWidths ≡ caseBits) × (total eventWidths ≡ eventBits) × (total (take 2 eventWidths) ≡ ownBits)
+widths-sum = (refl, refl, refl, refl)
 
 pub key-width : (k : Key) → KeyFits k → width (keyFields k) ≡ keyBits
 key-width k h =

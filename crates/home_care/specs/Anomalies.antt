@@ -19,6 +19,7 @@ pub record Context : Type 0 where
   pub last : ℕ
   pub room : ℕ
 
+-- 10: "a date outside the declared quarter"
 abbrev pub outOfQuarter : Context → ℕ → Bool
 outOfQuarter c day = not (leb (c .first) day && leb day (c .last))
 

@@ -1,6 +1,5 @@
 -- What a record says: the fields that are kept or judged (document 01, "The shape of a record", "The register").
-use Prim.Native.Nat.{ℕ, _+_}
-use Prim.Native.String as string
+use Prim.Native.Nat.{ℕ}
 use mathlib.Core.Bool.{Bool}
 use mathlib.Core.List.{List, [], _∷_, _++_}
 use lib.ListN.{take, replicate}

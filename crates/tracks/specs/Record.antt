@@ -2,9 +2,9 @@
 use Prim.Native.Nat.{ℕ, _+_}
 use Prim.Native.String as string
 use mathlib.Core.Bool.{Bool, cond}
-use mathlib.Core.List.{List, [], _∷_, _++_}
+use mathlib.Core.List.{List, [], _∷_}
 use lib.Dec.{ltb, eqb}
-use lib.ListN.{length, take, getD, replicate}
+use lib.ListN.{length, getD}
 use Rattle.laws.specs.Decimal.{decimal}
 use Rattle.laws.specs.Lists.{any, same}
 use Rattle.laws.specs.Text.{bytes}
@@ -12,6 +12,7 @@ use Rattle.days.specs.Dates.{dayOf}
 use Rattle.markup.specs.Elements.{Tree, kids}
 use Rattle.schema.specs.Shape.{recordsOf}
 use Rattle.nodes.specs.Lookup.{childOf, hasChild, attrOf, textOf}
+use Rattle.schemas.specs.Parts.{mostEvents}
 use Rattle.schemas.specs.Schemas.{schemaOf}
 use Rattle.home_care.specs.Record.{Head, padded, Admission, Said, Record, admission, events}
 use Rattle.home_care.specs.Row.{Event, never, eventNumber}
@@ -22,6 +23,7 @@ abbrev pub _▹_ : Tree → string.String → Tree
 t ▹ x = childOf (bytes x) t
 
 infixl 60 _▹_
+-- what both tracks have
 abbrev pub headOf : Tree → Head
 headOf a =
     record {
@@ -101,10 +103,10 @@ allSaid a = saidIn (kids ((a ▹ "Eventi") .inside))
 unfoldable pub recordOf : ℕ → Tree → Record
 recordOf track a = cond (eqb track 1) (admission (headOf a) (admissionOf a)) (events (headOf a) (allSaid a))
 
--- the number of the first record with more than 128 events, from 1; 0 where none has
+-- the number of the first record with too many events, from 1; 0 where none has
 unfoldable pub tooMany : ℕ → List Tree → ℕ
 tooMany i [] = 0
-tooMany i (a ∷ rs) = cond (ltb 128 (length (allSaid a))) (1 + i) (tooMany (1 + i) rs)
+tooMany i (a ∷ rs) = cond (ltb mostEvents (length (allSaid a))) (1 + i) (tooMany (1 + i) rs)
 
 -- 7 of a file of a track: "some record has more than 128 events; number of the first"; "7 never comes in Track 1"
 abbrev pub crowdedIn : ℕ → Tree → ℕ
