@@ -1,18 +1,20 @@
-/* The gateway: takes a submission file into a register file over the calls of siad.h. The register file is written back only with answer 0, as a new file that
-   takes the old one's name, so that whoever reads it sees the register before or after, never a part of each. */
-#include "siad.h"
+/* The gateway: an office's register file, over the calls of siad.h. It decodes no row of a register: it reads the two
+   counts of a header, once the register is known to be sound. A register's file is written only as a whole, as a new
+   file that takes the old one's name (files.c), so whoever reads it sees the register before or after a call. */
+#define _GNU_SOURCE
+#include "answers.h"
+#include "files.h"
 #include <errno.h>
+#include <inttypes.h>
+#include <signal.h>
 #include <stdio.h>
 #include <stdlib.h>
 #include <string.h>
-#include <sys/stat.h>
-#include <unistd.h>
 
-enum { TAKEN = 0, REFUSED = 1, FAILED = 2 };
+enum { GOOD = 0, NOT_SO = 1, FAILED = 2 }; /* exit statuses */
 
-struct bytes {
-    uint8_t *at;
-    size_t len;
+struct options {
+    int force, backup;
 };
 
 static int failed(const char *what, const char *name) {
@@ -20,114 +22,324 @@ static int failed(const char *what, const char *name) {
     return FAILED;
 }
 
-/* A buffer of its own for each of the lent ones: they never overlap. */
-static uint8_t *room(size_t n) {
-    uint8_t *p = calloc(n ? n : 1, 1);
-    if (p == NULL) {
-        fprintf(stderr, "gateway: no memory for %zu bytes\n", n);
-        exit(FAILED);
-    }
-    return p;
+/* ---- a register's file */
+
+struct reg {
+    const char *said;   /* its name as it was given */
+    char *name;         /* its name without links: what stands beside the file stands beside this name */
+    struct bytes bytes; /* empty where the file is not there */
+    int lock;           /* -1 without one */
+};
+
+static void waiting(void) {
+    fputs("gateway: another gateway is writing this register: waiting for it\n", stderr);
 }
 
-/* All bytes of a file: 0, or -1 with errno set. */
-static int read_file(const char *name, struct bytes *b) {
-    size_t got, held = 65536;
-    FILE *f = fopen(name, "rb");
-    if (f == NULL) return -1;
-    b->at = room(held);
-    b->len = 0;
-    while ((got = fread(b->at + b->len, 1, held - b->len, f)) > 0) {
-        b->len += got;
-        if (b->len == held) {
-            uint8_t *wider = room(2 * held);
-            memcpy(wider, b->at, held);
-            free(b->at);
-            b->at = wider;
-            held *= 2;
-        }
-    }
-    int why = errno, bad = ferror(f);
-    fclose(f);
-    errno = why;
-    return bad ? -1 : 0;
+static void close_register(struct reg *r) {
+    if (r->lock >= 0) unlock_file(r->lock);
+    free(r->bytes.at);
+    free(r->name);
 }
 
-/* The bytes on disk under a temporary name beside the register's, with its mode, then the register's name: 0, or -1 with errno set and the old file as it was. */
-static int write_back(const char *name, const struct bytes *b) {
-    struct stat st;
-    size_t n = strlen(name);
-    char *temporary = (char *)room(n + 8);
-    memcpy(temporary, name, n);
-    memcpy(temporary + n, ".XXXXXX", 8);
-    int fd = stat(name, &st) == 0 ? mkstemp(temporary) : -1;
-    FILE *f = fd < 0 ? NULL : fdopen(fd, "wb");
-    int good = f != NULL && fchmod(fd, st.st_mode & 07777) == 0 && fwrite(b->at, 1, b->len, f) == b->len && fflush(f) == 0 && fsync(fd) == 0;
-    int why = errno;
-    if (f != NULL && fclose(f) != 0 && good) {
-        good = 0;
-        why = errno;
-    }
-    if (good && rename(temporary, name) != 0) {
-        good = 0;
-        why = errno;
-    }
-    if (!good && fd >= 0) unlink(temporary);
-    free(temporary);
-    errno = why;
-    return good ? 0 : -1;
+/* 0 where the name is that of a regular file, or of nothing and `missing` is fine. */
+static int named(struct reg *r, int missing) {
+    r->name = realpath(r->said, NULL);
+    if (r->name == NULL && errno == ENOENT && missing) r->name = beside(r->said, "");
+    if (r->name == NULL) return failed("cannot read the register", r->said);
+    enum kind kind = kind_of(r->name);
+    if (kind == UNKNOWN) return failed("cannot read the register", r->said);
+    if (kind != OTHER) return GOOD;
+    fprintf(stderr, "gateway: cannot read the register %s: it is not a regular file\n", r->said);
+    return FAILED;
 }
+
+/* Reads a register; a writer locks it before and until close_register, which is called whatever this gives. */
+static int open_register(struct reg *r, const char *said, int writer, int missing) {
+    *r = (struct reg){said, NULL, {NULL, 0}, -1};
+    if (named(r, missing) != GOOD) return FAILED;
+    if (writer && (r->lock = lock_file(r->name, waiting)) < 0) return failed("cannot lock the register", said);
+    if (missing && kind_of(r->name) == NOTHING) return GOOD;
+    return read_file(r->name, SIZE_MAX, &r->bytes) == 0 ? GOOD : failed("cannot read the register", said);
+}
+
+/* The new bytes take the register's name; with --backup the old ones first go to REGISTER.bak. `undone` is what did not
+   happen where they can't. Gives replace_file's 0, 1 or -1, and has told the reason for the last two. */
+static int write_register(const struct reg *r, const struct bytes *now, const struct options *o, const char *undone) {
+    char *bak = beside(r->name, ".bak");
+    int done = o->backup && r->bytes.at != NULL ? replace_file(bak, r->name, &r->bytes) : 0;
+    if (done < 0) {
+        fprintf(stderr, "gateway: %s: cannot write the backup %s: %s\n", undone, bak, strerror(errno));
+    } else if ((done = replace_file(r->name, r->name, now)) < 0) {
+        fprintf(stderr, "gateway: %s: cannot write the register %s: %s\n", undone, r->said, strerror(errno));
+    } else if (done > 0) {
+        failed("done, but a power failure may undo it: cannot sync the folder of", r->said);
+    }
+    free(bak);
+    return done;
+}
+
+/* The counts of a sound register's header, most significant byte first. */
+static unsigned cases_of(const struct bytes *b) {
+    return 256u * b->at[0] + b->at[1];
+}
+
+static unsigned events_of(const struct bytes *b) {
+    return 256u * b->at[2] + b->at[3];
+}
+
+/* ---- what is printed: the program's words, a tab, the answer in words */
+
+static const char *in_words(uint64_t answer, const char *zero) {
+    const char *words = words_of(answer, zero);
+    return words == NULL ? "an answer that no call gives" : words;
+}
+
+/* The status, once all that was printed is out; `done` is what stays done where it can't be. */
+static int printed(int status, const char *done) {
+    if (fflush(stdout) == 0 && !ferror(stdout)) return status;
+    return failed(done, "cannot be printed");
+}
+
+static void print_file(uint64_t answer, const uint64_t *report) {
+    uint64_t number = report[SIAD_NUMBER];
+    printf("file %" PRIu64 " %" PRIu64 " records %" PRIu64 " accepted %" PRIu64 " discarded %" PRIu64 "\t%s", answer,
+           number, report[SIAD_RECORDS], report[SIAD_RECORDS_ACCEPTED], report[SIAD_RECORDS_DISCARDED],
+           in_words(answer, "taken"));
+    if (number > 0) printf(": record (Assistenza) %" PRIu64, number);
+    else if (answer == SIAD_NOT_SHAPE) fputs(" outside every record (Assistenza), or no record at all", stdout);
+    putchar('\n');
+}
+
+static void print_records(const uint8_t *answers, uint64_t records) {
+    for (uint64_t i = 0; i < records; i++)
+        printf("%" PRIu64 " %u\t%s\n", i + 1, answers[i], in_words(answers[i], "accepted"));
+}
+
+/* What stands, and how much room a register of this length has. */
+static void print_counts(const struct bytes *b) {
+    size_t rows = (b->len - SIAD_HEADER_BYTES) / SIAD_ROW_BYTES;
+    if (rows > SIAD_MOST_ROWS) rows = SIAD_MOST_ROWS;
+    unsigned cases = cases_of(b), events = events_of(b);
+    printf("cases %u events %u\t%u of %zu rows are in use\n", cases, events, cases + events, rows);
+}
+
+/* ---- the arguments */
 
 /* A number of 1 to 4 digits, as the program's first line has it. */
-static int number(const char *text, uint64_t *n) {
+static int number(const char *what, const char *text, uint64_t *n) {
     size_t len = strlen(text);
-    if (len < 1 || len > 4 || strspn(text, "0123456789") != len) return -1;
     *n = strtoull(text, NULL, 10);
-    return 0;
+    if (len >= 1 && len <= 4 && strspn(text, "0123456789") == len) return GOOD;
+    fprintf(stderr, "gateway: %s is a number of 1 to 4 digits, not \"%s\"\n", what, text);
+    return FAILED;
 }
 
-static unsigned count(const struct bytes *reg, size_t at) {
-    return reg->len < 4 ? 0 : 256u * reg->at[at] + reg->at[at + 1];
+/* ---- the commands, each over its words */
+
+/* 0 where the file is not there or an emptied register: nothing is lost with it. */
+static int holds_something(const struct reg *r) {
+    if (r->bytes.at == NULL) return 0;
+    if (siad_sound(r->bytes.at, r->bytes.len) != 0) {
+        fprintf(stderr, "gateway: %s is not a sound register and is left as it is; --force overwrites it\n", r->said);
+        return 1;
+    }
+    unsigned cases = cases_of(&r->bytes), events = events_of(&r->bytes);
+    if (cases + events == 0) return 0;
+    fprintf(stderr, "gateway: %s holds something (cases %u events %u) and is left as it is; --force empties it\n",
+            r->said, cases, events);
+    return 1;
 }
 
-/* The lines that the program prints. */
-static void print(uint64_t answer, const uint64_t *report, const uint8_t *answers, const struct bytes *reg) {
-    printf("file %llu %llu records %llu accepted %llu discarded %llu\n", (unsigned long long)answer, (unsigned long long)report[0],
-           (unsigned long long)report[1], (unsigned long long)report[2], (unsigned long long)report[3]);
-    for (uint64_t i = 0; i < report[1]; i++) printf("%llu %u\n", (unsigned long long)(i + 1), answers[i]);
-    printf("cases %u events %u\n", count(reg, 0), count(reg, 2));
+/* Writes the emptied register and tells so. */
+static int write_empty(const struct reg *r, const struct options *o, size_t len) {
+    struct bytes now = {room(len), len};
+    uint64_t answer = siad_empty(now.at, now.len);
+    int wrote = write_register(r, &now, o, "NOT emptied"), status = wrote == 0 ? GOOD : FAILED;
+    if (wrote >= 0) {
+        printf("empty %" PRIu64 "\t%s\n", answer, in_words(answer, "an emptied register"));
+        print_counts(&now);
+        status = printed(status, "the register is emptied, but that");
+    }
+    free(now.at);
+    return status;
 }
 
-/* Submits, writes the register back, prints: the exit status. */
-static int submit(const char *register_file, struct bytes *reg, const struct bytes *sub, uint8_t *answers, const uint64_t *period) {
-    uint64_t report[4] = {0};
-    uint64_t answer = siad_submit(sub->at, sub->len, period[0], period[1], period[2], reg->at, reg->len, answers, sub->len, report);
-    if (answer == 0 && write_back(register_file, reg) != 0) return failed("the submission is NOT taken: cannot write the register", register_file);
-    print(answer, report, answers, reg);
-    if (fflush(stdout) != 0) return failed("cannot write", "the report");
-    return answer == 0 ? TAKEN : REFUSED;
+static int empty(char **w, const struct options *o) {
+    uint64_t rows;
+    struct reg r;
+    if (number("ROWS", w[1], &rows) != GOOD) return FAILED;
+    if (rows < 1 || rows > SIAD_MOST_ROWS) {
+        fprintf(stderr, "gateway: ROWS is a number from 1 to %d, not %s\n", SIAD_MOST_ROWS, w[1]);
+        return FAILED;
+    }
+    int status = open_register(&r, w[0], 1, 1);
+    if (status == GOOD && !o->force && holds_something(&r)) status = NOT_SO;
+    if (status == GOOD) status = write_empty(&r, o, SIAD_REGISTER_BYTES(rows));
+    close_register(&r);
+    return status;
+}
+
+/* What was answered, and what stands; of an unsound register nothing can be told. */
+static int print_report(int status, uint64_t answer, const uint64_t *report, const uint8_t *answers,
+                        const struct bytes *now) {
+    print_file(answer, report);
+    print_records(answers, report[SIAD_RECORDS]);
+    if (siad_sound(now->at, now->len) == 0) print_counts(now);
+    return printed(status, answer == SIAD_TAKEN ? "the submission is taken, but its report"
+                                                : "the submission is refused, and its report");
+}
+
+/* The call, the register's file, the report. The file is written where the register's bytes changed, which only a taken
+   submission does. */
+static int take(const struct reg *r, const struct bytes *sub, const uint64_t *period, const struct options *o) {
+    uint64_t report[SIAD_REPORT] = {0};
+    uint8_t *answers = room(sub->len); /* a record takes more than a byte, so this list is never too short */
+    struct bytes now = {room(r->bytes.len), r->bytes.len};
+    memcpy(now.at, r->bytes.at, now.len);
+    uint64_t answer = siad_submit(sub->at, sub->len, period[0], period[1], period[2], now.at, now.len, answers,
+                                  sub->len, report);
+    int changed = memcmp(now.at, r->bytes.at, now.len) != 0;
+    int wrote = changed ? write_register(r, &now, o, "the submission is NOT taken") : 0;
+    int status = wrote != 0 ? FAILED : answer == SIAD_TAKEN ? GOOD : NOT_SO;
+    if (wrote >= 0) status = print_report(status, answer, report, answers, &now);
+    free(now.at);
+    free(answers);
+    return status;
+}
+
+static int submit(char **w, const struct options *o) {
+    static const char *const what[3] = {"TRACK", "YEAR", "QUARTER"};
+    uint64_t period[3];
+    struct bytes sub = {NULL, 0};
+    struct reg r;
+    for (int i = 0; i < 3; i++)
+        if (number(what[i], w[2 + i], &period[i]) != GOOD) return FAILED;
+    /* one byte more than a submission may have is enough for answer 4 */
+    if (read_file(w[1], SIAD_MOST_BYTES + 1, &sub) != 0) {
+        free(sub.at);
+        return failed("cannot read the submission", w[1]);
+    }
+    int status = open_register(&r, w[0], 1, 0);
+    if (status == GOOD) status = take(&r, &sub, period, o);
+    close_register(&r);
+    free(sub.at);
+    return status;
+}
+
+static int sound(char **w, const struct options *o) {
+    struct reg r;
+    (void)o;
+    int status = open_register(&r, w[0], 0, 0);
+    if (status == GOOD) {
+        uint64_t answer = siad_sound(r.bytes.at, r.bytes.len);
+        printf("sound %" PRIu64 "\t%s\n", answer, in_words(answer, "the register is sound"));
+        status = printed(answer == 0 ? GOOD : NOT_SO, "the answer");
+    }
+    close_register(&r);
+    return status;
+}
+
+static int find(char **w, const struct options *o) {
+    struct reg r;
+    (void)o;
+    int status = open_register(&r, w[0], 0, 0);
+    if (status == GOOD) {
+        const uint8_t *text[4];
+        uint64_t place;
+        for (int i = 0; i < 4; i++) text[i] = (const uint8_t *)w[1 + i];
+        uint64_t answer = siad_find(r.bytes.at, r.bytes.len, text[0], strlen(w[1]), text[1], strlen(w[2]), text[2],
+                                    strlen(w[3]), text[3], strlen(w[4]), &place);
+        printf("find %" PRIu64 " %" PRIu64 "\t%s\n", answer, place,
+               in_words(answer, "the case stands; its row begins at this place of the register, counted from 0"));
+        status = printed(answer == 0 ? GOOD : NOT_SO, "the answer");
+    }
+    close_register(&r);
+    return status;
+}
+
+static int count(char **w, const struct options *o) {
+    struct reg r;
+    (void)o;
+    int status = open_register(&r, w[0], 0, 0);
+    if (status == GOOD) {
+        uint64_t answer = siad_sound(r.bytes.at, r.bytes.len);
+        if (answer == 0) print_counts(&r.bytes);
+        else printf("count %" PRIu64 "\t%s\n", answer, in_words(answer, ""));
+        status = printed(answer == 0 ? GOOD : NOT_SO, "the answer");
+    }
+    close_register(&r);
+    return status;
+}
+
+static const char help[] =
+    "gateway empty [--force] [--backup] REGISTER ROWS\n"
+    "    makes an emptied register for ROWS cases and events, 1 to 4096; a file that holds something is\n"
+    "    left as it is, unless --force\n"
+    "gateway submit [--backup] REGISTER SUBMISSION TRACK YEAR QUARTER\n"
+    "    takes a submission (XML) of a track (1 or 2) and a quarter (1 to 4) into a register; prints the\n"
+    "    file's answer, record number, records, accepted, discarded; each record's number and answer;\n"
+    "    the cases and events that stand\n"
+    "gateway sound REGISTER\n"
+    "    tells whether a register is sound\n"
+    "gateway find REGISTER REGION ASL DATE ID\n"
+    "    tells where a case stands; DATE is that of the taking in (presa in carico), as AAAA-MM-GG, and ID\n"
+    "    its Id_Rec\n"
+    "gateway count REGISTER\n"
+    "    tells how many cases and events stand\n"
+    "--backup keeps the register as it was before, as REGISTER.bak.\n"
+    "After a tab each line has its answer in words. Exit status: 0 taken, or so; 1 refused, or not so;\n"
+    "2 the gateway failed, with the reason on standard error. REGISTER.lock keeps two gateways from writing\n"
+    "one register at the same time: the second waits.\n";
+
+static const struct command {
+    const char *name;
+    int words;
+    const char *takes;
+    int forces, backs_up; /* the options that it has */
+    int (*run)(char **words, const struct options *o);
+} commands[] = {
+    {"empty", 2, "REGISTER ROWS", 1, 1, empty},
+    {"submit", 5, "REGISTER SUBMISSION TRACK YEAR QUARTER", 0, 1, submit},
+    {"sound", 1, "REGISTER", 0, 0, sound},
+    {"find", 5, "REGISTER REGION ASL DATE ID", 0, 0, find},
+    {"count", 1, "REGISTER", 0, 0, count},
+};
+
+/* Takes the options out of a command's words: how many words are left, or -1. */
+static int without_options(const struct command *c, char **words, struct options *o) {
+    int left = 0;
+    for (int i = 0; words[i] != NULL; i++) {
+        if (strncmp(words[i], "--", 2) != 0) words[left++] = words[i];
+        else if (c->forces && strcmp(words[i], "--force") == 0) o->force = 1;
+        else if (c->backs_up && strcmp(words[i], "--backup") == 0) o->backup = 1;
+        else {
+            fprintf(stderr, "gateway: %s has no option %s; gateway --help tells more\n", c->name, words[i]);
+            return -1;
+        }
+    }
+    return left;
+}
+
+static int run(const struct command *c, char **words) {
+    struct options o = {0, 0};
+    int left = without_options(c, words, &o);
+    if (left < 0) return FAILED;
+    if (left == c->words) return c->run(words, &o);
+    fprintf(stderr, "gateway: %s takes %s; gateway --help tells more\n", c->name, c->takes);
+    return FAILED;
 }
 
 int main(int argc, char **argv) {
-    uint64_t period[3]; /* track, year, quarter */
-    struct bytes reg = {NULL, 0}, sub = {NULL, 0};
-    uint8_t *answers = NULL;
-    int status;
-    if (argc != 6 || number(argv[3], &period[0]) || number(argv[4], &period[1]) || number(argv[5], &period[2])) {
-        fputs("usage: gateway REGISTER SUBMISSION TRACK YEAR QUARTER\n"
-              "REGISTER and SUBMISSION are files; TRACK, YEAR and QUARTER are numbers of 1 to 4 digits.\n", stderr);
-        return FAILED;
+    signal(SIGPIPE, SIG_IGN); /* a reader that goes away is an error like any other */
+    signal(SIGXFSZ, SIG_IGN); /* as is a file that may not grow */
+    if (argc >= 2 && strcmp(argv[1], "--help") == 0) {
+        fputs(help, stdout);
+        return printed(GOOD, "the help");
     }
-    if (read_file(argv[1], &reg) != 0) {
-        status = failed("cannot read the register", argv[1]);
-    } else if (read_file(argv[2], &sub) != 0) {
-        status = failed("cannot read the submission", argv[2]);
-    } else {
-        answers = room(sub.len); /* a record takes more than a byte, so this list is never too short */
-        status = submit(argv[1], &reg, &sub, answers, period);
-    }
-    free(answers);
-    free(sub.at);
-    free(reg.at);
-    return status;
+    for (size_t i = 0; argc >= 2 && i < sizeof commands / sizeof *commands; i++)
+        if (strcmp(argv[1], commands[i].name) == 0) return run(&commands[i], argv + 2);
+    if (argc < 2) fputs("gateway: no command", stderr);
+    else fprintf(stderr, "gateway: no command %s", argv[1]);
+    fputs("; there are empty, submit, sound, find, count and --help\n", stderr);
+    return FAILED;
 }

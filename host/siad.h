@@ -1,28 +1,101 @@
-/* The calls of the SIAD intake (crates/exports). A slice is a pointer and a length; buffers must not overlap, and a length must be that of the buffer.
-   What each call answers, and what every lent byte holds afterwards, is stated and proved in crates/exports/src/lib.rt. The archive is made by
-   `rt staticlib exports`, for x86-64. No call takes memory of its own but stack. Measured, not proved: siad_submit at most 15,736 bytes on the files that
-   bench/stack makes, hostile ones among them; siad_sound 9,932 and siad_find 10,188, each on a register for 4,096 rows that bench's two ordinary files filled.
-   Keep 16 KB free. */
+/* The calls of the SIAD intake (crates/exports), in C and C++. What each answers, and what every lent byte holds
+   afterwards, is stated and proved in crates/exports/src/lib.rt. `rt staticlib exports` makes the archive, for x86-64.
+
+   Lent: a slice is a pointer and a length, which must be that of the buffer. Buffers of one call must not overlap, and
+   nobody else may write to them while it runs. Pass no NULL: the proved code's references are never null. With length 0
+   NULL was tried for each slice (host/test.c), and was answered as an empty buffer is; nothing promises that.
+   Threads: no state is kept between calls (the archive has no writable data) and no memory is taken but stack, so calls
+   over buffers of their own may run at the same time.
+   Stack: measured, not proved: siad_submit at most 15,736 bytes on the files that bench/stack makes, hostile ones among
+   them; siad_sound 9,932 and siad_find 10,188, each on a register for 4,096 rows that bench's two ordinary files
+   filled. Keep 16 KB free. */
 #ifndef SIAD_H
 #define SIAD_H
 #include <stddef.h>
 #include <stdint.h>
 
-/* Empties a register: 0, every byte zero; or 3, nothing changed, under 4 bytes. */
+/* A register for n rows: its header, then rows of cases and of events. More than SIAD_MOST_ROWS are never used. */
+#define SIAD_HEADER_BYTES 4
+#define SIAD_ROW_BYTES 91
+#define SIAD_MOST_ROWS 4096
+#define SIAD_REGISTER_BYTES(n) (SIAD_HEADER_BYTES + (size_t)SIAD_ROW_BYTES * (n))
+
+/* The longest submission, and the events that a record may have. */
+#define SIAD_MOST_BYTES 1048576
+#define SIAD_MOST_EVENTS 128
+
+/* The texts that siad_find takes: their lengths, the date as AAAA-MM-GG. Any other length is answered 30. */
+#define SIAD_REGION_BYTES 3
+#define SIAD_ASL_BYTES 3
+#define SIAD_DATE_BYTES 10
+#define SIAD_ID_BYTES 88
+
+/* Answers for a file, in the order in which they are tested (docs/RULES.md, 6 Answers for a file). */
+enum siad_file_answer {
+    SIAD_TAKEN = 0,
+    SIAD_BAD_PERIOD = 1,  /* year outside 2009 to 2099, or quarter outside 1 to 4 */
+    SIAD_BAD_TRACK = 2,   /* track is neither 1 nor 2 */
+    SIAD_UNSOUND = 3,     /* the register is not sound; of siad_empty: it has fewer than 4 bytes */
+    SIAD_TOO_LONG = 4,    /* more than SIAD_MOST_BYTES */
+    SIAD_NOT_MARKUP = 5,  /* not in the markup */
+    SIAD_NOT_SHAPE = 6,   /* not of the shape; the record's number, or 0 for a fault outside every record */
+    SIAD_MANY_EVENTS = 7, /* a record has more than SIAD_MOST_EVENTS; the first one's number */
+    SIAD_SHORT_LIST = 8   /* the answer list has fewer bytes than there are records */
+};
+
+/* Answers for a record of a taken file, the first that holds (docs/RULES.md, 7 Anomalies of a record). */
+enum siad_record_answer {
+    SIAD_ACCEPTED = 0,
+    SIAD_OUTSIDE_QUARTER = 10,  /* a date outside the declared quarter */
+    SIAD_BIRTH_YEAR = 11,       /* before 1880, or after the year of taking in */
+    SIAD_RESIDENCE = 12,        /* StatoEstero and the codes 999 don't go together, or it is IT */
+    SIAD_NO_PATHOLOGY = 13,     /* a prevalente is 000 */
+    SIAD_STANDS = 14,           /* I, and its case or event stands */
+    SIAD_STANDS_NOT = 15,       /* V or C, and its case or event doesn't stand */
+    SIAD_HAS_EVENTS = 16,       /* C of a case with events */
+    SIAD_NO_ROOM = 17,          /* I, and there are too few rows */
+    SIAD_NO_EVENT = 20,         /* no event in the record */
+    SIAD_CONFIRMATION = 21,     /* confermaPrecedente 1 with a Valutazione, or 2 without */
+    SIAD_EVENT_TWICE = 22,      /* one event key twice in the record */
+    SIAD_ENDS_BEFORE = 23,      /* a suspension ends before it begins */
+    SIAD_NO_CASE = 24,          /* the case isn't standing */
+    SIAD_BEFORE_TAKING_IN = 25, /* an event before the taking in */
+    SIAD_SUSPENSIONS_MEET = 26, /* two suspensions share a day */
+    SIAD_TWO_CONCLUSIONS = 27,  /* two conclusions */
+    SIAD_AFTER_CONCLUSION = 28  /* an event or its end after the conclusion */
+};
+
+/* siad_find beside 0 and SIAD_UNSOUND: a text isn't allowed, or the case doesn't stand. */
+enum siad_find_answer { SIAD_NOT_FOUND = 30 };
+
+/* The places of a report's four numbers. */
+enum siad_report { SIAD_NUMBER, SIAD_RECORDS, SIAD_RECORDS_ACCEPTED, SIAD_RECORDS_DISCARDED, SIAD_REPORT };
+
+#ifdef __cplusplus
+extern "C" {
+#endif
+
+/* Empties a register: 0, every byte zero; or SIAD_UNSOUND, nothing changed, under 4 bytes. */
 uint64_t siad_empty(uint8_t *reg, size_t reg_len);
 
-/* 0 for a sound register, 3 for any other. */
+/* 0 for a sound register, SIAD_UNSOUND for any other. */
 uint64_t siad_sound(const uint8_t *reg, size_t reg_len);
 
-/* Finds a case by its texts: 0 with the place of its row's first byte, counted from 0; 3 for an unsound register; 30 where a text isn't allowed or the case
-   doesn't stand. With 3 and 30 the place is 0. */
-uint64_t siad_find(const uint8_t *reg, size_t reg_len, const uint8_t *region, size_t region_len, const uint8_t *asl, size_t asl_len, const uint8_t *date,
-                   size_t date_len, const uint8_t *id, size_t id_len, uint64_t *place);
+/* Finds a case by its texts: 0 with the place of its row's first byte, counted from 0; or SIAD_UNSOUND or
+   SIAD_NOT_FOUND, and the place is 0. */
+uint64_t siad_find(const uint8_t *reg, size_t reg_len, const uint8_t *region, size_t region_len, const uint8_t *asl,
+                   size_t asl_len, const uint8_t *date, size_t date_len, const uint8_t *id, size_t id_len,
+                   uint64_t *place);
 
-/* Takes a submission of a track, a year and a quarter into a register. Answers 0 to 8 as document 01's "Answers for a file"; `report` gets four numbers: the
-   record number, records, accepted, discarded. With 0, byte i - 1 of `answers` is record i's answer, later bytes stay, and the register holds what the accepted
-   records say; with any other answer all counts are 0 and no byte of register or answer list changes. An answer list as long as the submission never gets 8. */
-uint64_t siad_submit(const uint8_t *sub, size_t sub_len, uint64_t track, uint64_t year, uint64_t quarter, uint8_t *reg, size_t reg_len, uint8_t *answers,
-                     size_t answers_len, uint64_t *report);
+/* Takes a submission of a track, a year and a quarter into a register. `report` gets SIAD_REPORT numbers: the record
+   number, records, accepted, discarded. With SIAD_TAKEN byte i - 1 of `answers` is record i's answer, later bytes stay,
+   and the register holds what the accepted records say. With any other answer all counts are 0 and no byte of register
+   or answer list changes. An answer list as long as the submission never gets SIAD_SHORT_LIST. */
+uint64_t siad_submit(const uint8_t *sub, size_t sub_len, uint64_t track, uint64_t year, uint64_t quarter, uint8_t *reg,
+                     size_t reg_len, uint8_t *answers, size_t answers_len, uint64_t *report);
+
+#ifdef __cplusplus
+}
+#endif
 
 #endif

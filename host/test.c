@@ -1,6 +1,7 @@
-/* The calls of siad.h from C, over heap buffers of exactly the lent length, so that the address sanitizer sees a byte read or written past an end.
+/* The calls of siad.h from C, over heap buffers of exactly the lent length, so that a byte read or written past an end
+   is seen: by valgrind, and of the C code also by the sanitizers, which the archive itself is not built with.
    The argument is the folder of the program's cases (crates/siad_cases/data). host/run builds and runs it. */
-#include "siad.h"
+#include "answers.h"
 #include <stdio.h>
 #include <stdlib.h>
 #include <string.h>
@@ -49,76 +50,140 @@ static uint8_t *submission(const char *folder, const char *name, size_t *n) {
     return p;
 }
 
-/* One call over a register of zeros: its answer; a refusal must leave register and answer list as they were and every count 0. */
-static uint64_t refused(const uint8_t *sub, size_t n, uint64_t track, uint64_t year, uint64_t quarter, size_t reg_len, size_t answers_len) {
+/* One call over a register of zeros: its answer; a refusal must leave register and answer list as they were and every
+   count 0. */
+static uint64_t refused(const uint8_t *sub, size_t n, uint64_t track, uint64_t year, uint64_t quarter, size_t reg_len,
+                        size_t answers_len) {
     uint8_t *reg = filled(reg_len, 0), *answers = filled(answers_len, 9);
-    uint64_t *report = malloc(4 * sizeof *report);
-    for (int i = 0; i < 4; i++) report[i] = 77;
+    uint64_t *report = malloc(SIAD_REPORT * sizeof *report);
+    if (report == NULL) exit(2);
+    for (int i = 0; i < SIAD_REPORT; i++) report[i] = 77;
     uint64_t answer = siad_submit(sub, n, track, year, quarter, reg, reg_len, answers, answers_len, report);
     IS(all(reg, reg_len, 0), 1);
     IS(all(answers, answers_len, 9), 1);
-    for (int i = 1; i < 4; i++) IS(report[i], 0);
-    if (answer != 6 && answer != 7) IS(report[0], 0);
+    IS(report[SIAD_RECORDS] + report[SIAD_RECORDS_ACCEPTED] + report[SIAD_RECORDS_DISCARDED], 0);
+    if (answer != SIAD_NOT_SHAPE && answer != SIAD_MANY_EVENTS) IS(report[SIAD_NUMBER], 0);
     free(reg);
     free(answers);
     free(report);
     return answer;
 }
 
-static void refusals(const char *folder) {
-    size_t two, shape, most = 1048576;
-    uint8_t *sub = submission(folder, "case_twice", &two), *faulty = submission(folder, "wrong_shape", &shape);
-    uint8_t *blanks = filled(most, ' '), *over = filled(most + 1, ' '), *none = filled(0, 0);
-    IS(refused(sub, two, 1, 2008, 2, 95, 2), 1);
-    IS(refused(sub, two, 1, 2018, 5, 95, 2), 1);
-    IS(refused(sub, two, 3, 2018, 2, 95, 2), 2);
-    IS(refused(sub, two, ~0ull, ~0ull, ~0ull, 95, 2), 1);
-    IS(refused(sub, two, 1, 2018, 2, 3, 2), 3);
-    IS(refused(over, most + 1, 1, 2018, 2, 95, 2), 4);
-    IS(refused(blanks, most, 1, 2018, 2, 95, 2), 5);
-    IS(refused(none, 0, 1, 2018, 2, 4, 0), 5);
-    IS(refused(sub, two, 2, 2018, 2, 95, 2), 6);
-    IS(refused(faulty, shape, 2, 2018, 2, 95, 2), 6);
-    IS(refused(sub, two, 1, 2018, 2, 95, 1), 8);
-    for (size_t cut = 0; cut < two; cut++) { /* a file that ends early, in a buffer that ends with it */
+/* A file that ends early, in a buffer that ends with it. */
+static void cut_short(const uint8_t *sub, size_t n) {
+    for (size_t cut = 0; cut < n; cut++) {
         uint8_t *part = filled(cut, 0);
         memcpy(part, sub, cut);
-        IS(refused(part, cut, 1, 2018, 2, 95, 2), 5);
+        IS(refused(part, cut, 1, 2018, 2, SIAD_REGISTER_BYTES(1), 2), SIAD_NOT_MARKUP);
         free(part);
     }
+}
+
+static void refusals(const char *folder) {
+    size_t two, shape, many, most = SIAD_MOST_BYTES, one_row = SIAD_REGISTER_BYTES(1);
+    uint8_t *sub = submission(folder, "case_twice", &two), *faulty = submission(folder, "wrong_shape", &shape);
+    uint8_t *crowded = submission(folder, "events_129", &many), *none = filled(0, 0);
+    uint8_t *blanks = filled(most, ' '), *over = filled(most + 1, ' ');
+    IS(refused(sub, two, 1, 2008, 2, one_row, 2), SIAD_BAD_PERIOD);
+    IS(refused(sub, two, 1, 2018, 5, one_row, 2), SIAD_BAD_PERIOD);
+    IS(refused(sub, two, ~0ull, ~0ull, ~0ull, one_row, 2), SIAD_BAD_PERIOD);
+    IS(refused(sub, two, 3, 2018, 2, one_row, 2), SIAD_BAD_TRACK);
+    IS(refused(sub, two, 1, 2018, 2, SIAD_HEADER_BYTES - 1, 2), SIAD_UNSOUND);
+    IS(refused(over, most + 1, 1, 2018, 2, one_row, 2), SIAD_TOO_LONG);
+    IS(refused(blanks, most, 1, 2018, 2, one_row, 2), SIAD_NOT_MARKUP);
+    IS(refused(none, 0, 1, 2018, 2, SIAD_HEADER_BYTES, 0), SIAD_NOT_MARKUP);
+    IS(refused(sub, two, 2, 2018, 2, one_row, 2), SIAD_NOT_SHAPE);
+    IS(refused(faulty, shape, 2, 2018, 2, one_row, 2), SIAD_NOT_SHAPE);
+    IS(refused(crowded, many, 2, 2018, 2, one_row, 2), SIAD_MANY_EVENTS);
+    IS(refused(sub, two, 1, 2018, 2, one_row, 1), SIAD_SHORT_LIST);
+    cut_short(sub, two);
     free(sub);
     free(faulty);
+    free(crowded);
     free(blanks);
     free(over);
     free(none);
 }
 
-/* Two records with one key, over a register with room for `room` rows: the first is taken where there is room. */
+/* The case of case_twice. */
+static const char region[] = "010", asl[] = "101", date[] = "2018-05-01",
+                  id[] = "AAAAAAAAAAAAAAAAAAAAAAAAAAAAAAAAAAAAAAAAAAAAAAAAAAAAAAAAAAAAAAAAAAAAAAAAAAAAAAAAAAAAAAAA";
+
+static uint64_t find(const uint8_t *reg, size_t reg_len, size_t region_len, size_t asl_len, size_t date_len,
+                     size_t id_len, uint64_t *place) {
+    return siad_find(reg, reg_len, (const uint8_t *)region, region_len, (const uint8_t *)asl, asl_len,
+                     (const uint8_t *)date, date_len, (const uint8_t *)id, id_len, place);
+}
+
+/* Found, and with each text a byte short not found. */
+static void finding(const uint8_t *reg, size_t reg_len, int stands) {
+    enum { R = SIAD_REGION_BYTES, A = SIAD_ASL_BYTES, D = SIAD_DATE_BYTES, I = SIAD_ID_BYTES };
+    uint64_t place = 77;
+    IS(find(reg, reg_len, R, A, D, I, &place), stands ? 0 : SIAD_NOT_FOUND);
+    IS(place, stands ? SIAD_HEADER_BYTES : 0);
+    IS(find(reg, reg_len, R - 1, A, D, I, &place), SIAD_NOT_FOUND);
+    IS(find(reg, reg_len, R, A - 1, D, I, &place), SIAD_NOT_FOUND);
+    IS(find(reg, reg_len, R, A, D - 1, I, &place), SIAD_NOT_FOUND);
+    IS(find(reg, reg_len, R, A, D, I - 1, &place), SIAD_NOT_FOUND);
+    IS(place, 0);
+    IS(find(reg, SIAD_HEADER_BYTES - 1, R, A, D, I, &place), SIAD_UNSOUND);
+}
+
+/* Two records with one key, over a register of some rows: the first is taken where there is room. */
 static void taken(const char *folder, size_t reg_len, unsigned first, unsigned second) {
-    static const uint8_t id[88 + 1] = "AAAAAAAAAAAAAAAAAAAAAAAAAAAAAAAAAAAAAAAAAAAAAAAAAAAAAAAAAAAAAAAAAAAAAAAAAAAAAAAAAAAAAAAA";
-    static const uint8_t row[] = {0x0A, 0x62, 0xC1, 0x8A, 0xA3, 0x4E}; /* document 01's P case 6 */
-    size_t n, stands = first == 0;
+    static const uint8_t row[] = {0x0A, 0x62, 0xC1, 0x8A, 0xA3, 0x4E}; /* P6 */
+    size_t n, stands = first == SIAD_ACCEPTED;
     uint8_t *sub = submission(folder, "case_twice", &n), *reg = filled(reg_len, 9), *answers = filled(3, 9);
-    uint64_t report[4] = {77, 77, 77, 77}, place = 77;
+    uint64_t report[SIAD_REPORT] = {77, 77, 77, 77};
+    IS(siad_sound(reg, reg_len), SIAD_UNSOUND);
     IS(siad_empty(reg, reg_len), 0);
     IS(all(reg, reg_len, 0), 1);
-    IS(siad_submit(sub, n, 1, 2018, 2, reg, reg_len, answers, 3, report), 0);
-    IS(report[0], 0);
-    IS(report[1], 2);
-    IS(report[2], stands);
-    IS(report[3], 2 - stands);
+    IS(siad_submit(sub, n, 1, 2018, 2, reg, reg_len, answers, 3, report), SIAD_TAKEN);
+    IS(report[SIAD_NUMBER], 0);
+    IS(report[SIAD_RECORDS], 2);
+    IS(report[SIAD_RECORDS_ACCEPTED], stands);
+    IS(report[SIAD_RECORDS_DISCARDED], 2 - stands);
     IS(answers[0], first);
     IS(answers[1], second);
     IS(answers[2], 9);
     IS(reg[0] * 256u + reg[1], stands);
     IS(reg[2] * 256u + reg[3], 0);
-    if (stands) IS(memcmp(reg + 4, row, sizeof row) == 0, 1);
+    if (stands) IS(memcmp(reg + SIAD_HEADER_BYTES, row, sizeof row) == 0, 1);
     IS(siad_sound(reg, reg_len), 0);
-    IS(siad_find(reg, reg_len, (const uint8_t *)"010", 3, (const uint8_t *)"101", 3, (const uint8_t *)"2018-05-01", 10, id, 88, &place), stands ? 0 : 30);
-    IS(place, stands ? 4 : 0);
+    finding(reg, reg_len, (int)stands);
     free(sub);
     free(reg);
     free(answers);
+}
+
+/* NULL with length 0, as siad.h tells: answered as an empty buffer is. */
+static void nulls(const char *folder) {
+    size_t n, len = SIAD_REGISTER_BYTES(1);
+    uint8_t *sub = submission(folder, "case_twice", &n), *reg = filled(len, 0);
+    uint64_t report[SIAD_REPORT], place = 77;
+    IS(siad_empty(NULL, 0), SIAD_UNSOUND);
+    IS(siad_sound(NULL, 0), SIAD_UNSOUND);
+    IS(siad_find(NULL, 0, NULL, 0, NULL, 0, NULL, 0, NULL, 0, &place), SIAD_UNSOUND);
+    IS(siad_find(reg, len, NULL, 0, NULL, 0, NULL, 0, NULL, 0, &place), SIAD_NOT_FOUND);
+    IS(place, 0);
+    IS(siad_submit(NULL, 0, 1, 2018, 2, NULL, 0, NULL, 0, report), SIAD_UNSOUND);
+    IS(siad_submit(NULL, 0, 1, 2018, 2, reg, len, NULL, 0, report), SIAD_NOT_MARKUP);
+    IS(siad_submit(sub, n, 1, 2018, 2, reg, len, NULL, 0, report), SIAD_SHORT_LIST);
+    IS(all(reg, len, 0), 1);
+    free(sub);
+    free(reg);
+}
+
+/* Each answer has its words, and no other number has any. */
+static void words(void) {
+    for (uint64_t n = 1; n < 300; n++) {
+        int of_file = n >= SIAD_BAD_PERIOD && n <= SIAD_SHORT_LIST;
+        int of_record = (n >= SIAD_OUTSIDE_QUARTER && n <= SIAD_NO_ROOM) ||
+                        (n >= SIAD_NO_EVENT && n <= SIAD_AFTER_CONCLUSION);
+        int answer = of_file || of_record || n == SIAD_NOT_FOUND;
+        IS(words_of(n, NULL) != NULL, answer);
+    }
+    IS(SIAD_REGISTER_BYTES(160), 14564);
 }
 
 int main(int argc, char **argv) {
@@ -127,9 +192,11 @@ int main(int argc, char **argv) {
         return 2;
     }
     refusals(argv[1]);
-    taken(argv[1], 94, 17, 17);
-    taken(argv[1], 95, 0, 14);
-    taken(argv[1], 14564, 0, 14);
+    taken(argv[1], SIAD_REGISTER_BYTES(1) - 1, SIAD_NO_ROOM, SIAD_NO_ROOM);
+    taken(argv[1], SIAD_REGISTER_BYTES(1), SIAD_ACCEPTED, SIAD_STANDS);
+    taken(argv[1], SIAD_REGISTER_BYTES(160), SIAD_ACCEPTED, SIAD_STANDS);
+    nulls(argv[1]);
+    words();
     puts(bad ? "FAILED" : "ok");
     return bad;
 }

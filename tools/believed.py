@@ -14,6 +14,7 @@ import sys
 ROOT = os.path.dirname(os.path.dirname(os.path.abspath(__file__)))
 USE = re.compile(r"^\s*(?:ghost )?(?:pub )?use Rattle·([a-z_0-9]+)(?:·specs)?\.specs\.([A-Za-z_0-9.]+?)(?:\.\{.*\})?(?: as \S+)?;?$", re.M)
 BEGIN, END = "<!-- believed: begin -->", "<!-- believed: end -->"
+WIDTH = 120  # of a line in docs/
 
 
 def read(path):
@@ -52,6 +53,16 @@ def order():
     return [l.split(":")[0] for l in read(os.path.join(ROOT, "crates.txt")).split("\n") if l and not l.startswith("#")]
 
 
+def rows(first, words):
+    """A row of the table; where it would be too long, the rest of its words in another one."""
+    row = f"| {first} | {words[0]}"
+    for i, word in enumerate(words[1:], 1):
+        if len(row) + len(f", {word} |") > WIDTH:
+            return [row + " |"] + rows("", words[i:])
+        row += f", {word}"
+    return [row + " |"]
+
+
 def table():
     by = {}
     for file in sorted(reached()):
@@ -62,7 +73,7 @@ def table():
     out = [f"{files} files, {lines} lines.", "", "| crate | files under `specs/`, with their lines |", "|---|---|"]
     for crate in order():
         if crate in by:
-            out.append(f"| `{crate}` | " + ", ".join(f"`{name}` {n}" for name, n in by[crate]) + " |")
+            out += rows(f"`{crate}`", [f"`{name}` {n}" for name, n in by[crate]])
     return "\n".join(out)
 
 

@@ -1,30 +1,39 @@
-"""Calls the oracle and the library on the same bytes and compares everything.
+"""Calls the oracle and the library on the same bytes and compares everything. The library's calls are made by caller.c;
+   CALLER has the words that start it.
    usage: compare.py GENERATOR SEED COUNT   (prints counts as JSON on the last line; every difference goes to target/oracle_diffs/)"""
-import ctypes, json, os, pickle, random, sys, time
+import json, os, pickle, random, struct, subprocess, sys, time
 from collections import Counter
 from datetime import date
 import oracle as O
 
-LIB = ctypes.CDLL(os.path.join(os.path.dirname(os.path.abspath(__file__)), "../../target/libsiad.so"))
-P, U, S = ctypes.c_void_p, ctypes.c_uint64, ctypes.c_size_t
-LIB.siad_empty.argtypes, LIB.siad_empty.restype = [P, S], U
-LIB.siad_sound.argtypes, LIB.siad_sound.restype = [P, S], U
-LIB.siad_find.argtypes, LIB.siad_find.restype = [P, S] * 5 + [P], U
-LIB.siad_submit.argtypes, LIB.siad_submit.restype = [P, S, U, U, U, P, S, P, S, P], U
+CALLER = subprocess.Popen(os.environ["CALLER"].split(), stdin=subprocess.PIPE, stdout=subprocess.PIPE)
+EMPTY, SOUND, FIND, SUBMIT = range(4)
 GUARD = bytes((i * 37 + 11) & 255 for i in range(64))
 
 
 class Buf:
     """bytes between guards, in memory that the library gets a pointer into"""
     def __init__(self, data, guard=GUARD):
-        self.n, self.guard = len(data), guard
-        self.m = ctypes.create_string_buffer(guard + data + guard, len(data) + 2 * len(guard))
-        self.ptr = ctypes.addressof(self.m) + len(guard)
+        self.n, self.guard, self.raw = len(data), guard, guard + data + guard
+        self.side = len(guard)
 
     def get(self):
-        raw = self.m.raw
         g = len(self.guard)
-        return raw[g:g + self.n], raw[:g] == self.guard and raw[g + self.n:] == self.guard
+        return self.raw[g:g + self.n], self.raw[:g] == self.guard and self.raw[g + self.n:] == self.guard
+
+
+def call(which, bufs, numbers=()):
+    """the answer; the buffers then hold what the call left in them"""
+    CALLER.stdin.write(struct.pack("<%dQ" % (1 + len(numbers)), which, *numbers)
+                       + b"".join(struct.pack("<QQ", b.n, b.side) + b.raw for b in bufs))
+    CALLER.stdin.flush()
+    told = CALLER.stdout.read(8 + sum(len(b.raw) for b in bufs))
+    at = 8
+    for b in bufs:
+        b.raw, at = told[at:at + len(b.raw)], at + len(b.raw)
+    if at != len(told):
+        sys.exit("the caller ended early")
+    return int.from_bytes(told[:8], "little")
 
 
 C = Counter()
@@ -45,7 +54,7 @@ def diff(kind, case, mine, theirs):
 
 def lib_submit(sub, track, year, quarter, reg, answers):
     s, r, a, rep = Buf(sub, b"></a>" * 4), Buf(reg), Buf(answers), Buf(b"\xA5" * 32)
-    got = LIB.siad_submit(s.ptr, s.n, track, year, quarter, r.ptr, r.n, a.ptr, a.n, rep.ptr)
+    got = call(SUBMIT, (s, r, a, rep), (track, year, quarter))
     (s1, g1), (r1, g2), (a1, g3), (p1, g4) = s.get(), r.get(), a.get(), rep.get()
     nums = tuple(int.from_bytes(p1[i:i + 8], "little") for i in (0, 8, 16, 24))
     return (got, *nums, r1, a1), s1 == sub and g1 and g2 and g3 and g4
@@ -70,7 +79,7 @@ def check_submit(sub, track, year, quarter, reg, answers):
 def check_sound(reg):
     mine = O.sound(reg)
     b = Buf(reg)
-    theirs = LIB.siad_sound(b.ptr, b.n)
+    theirs = call(SOUND, (b,))
     C["sound %d" % mine] += 1
     if mine != theirs or b.get() != (reg, True):
         diff("sound", (reg,), (mine,), (theirs,))
@@ -80,7 +89,7 @@ def check_sound(reg):
 def check_find(reg, texts):
     mine = O.find(reg, *texts)
     b, ts, pl = Buf(reg), [Buf(t) for t in texts], Buf(b"\xA5" * 8)
-    got = LIB.siad_find(b.ptr, b.n, *[x for t in ts for x in (t.ptr, t.n)], pl.ptr)
+    got = call(FIND, (b, *ts, pl))
     p, g = pl.get()
     theirs = (got, int.from_bytes(p, "little"))
     C["find %d" % mine[0]] += 1
@@ -91,7 +100,7 @@ def check_find(reg, texts):
 def check_empty(reg):
     mine = O.empty(reg)
     b = Buf(reg)
-    theirs = (LIB.siad_empty(b.ptr, b.n), b.get()[0])
+    theirs = (call(EMPTY, (b,)), b.get()[0])
     C["empty %d" % mine[0]] += 1
     if mine != theirs or not b.get()[1]:
         diff("empty", (reg,), mine, theirs)
@@ -124,7 +133,7 @@ def some_space(rng, p):
 
 
 def ser(t, rng=None, p=0.0):
-    """bytes; with p, white space, comments, other quotes, other attribute orders wherever the paper allows them"""
+    """bytes; with p, white space, comments, other quotes, other attribute orders wherever the markup (M) allows them"""
     out = []
 
     def gap():

@@ -1,7 +1,7 @@
 """dense: records with many anomalies at once (which one is first), over registers with little room.
    edge: the same, with every buffer against an unmapped page (a read or write past an end would crash).
    usage: dense.py dense|edge SEED COUNT"""
-import ctypes, json, mmap, random, sys, time
+import json, random, sys, time
 import compare as K
 import oracle as O
 from compare import N, L, head, d2t, ser, root, C
@@ -94,29 +94,13 @@ def dense2(rng, w, parts, bad):
     return N(b"Assistenza", head(tipo, 2, k) + [N(b"Eventi", [N(b"PresaInCarico", [L(b"Id_Rec", k[3])], (b"data", d2t(k[2])))] + trees)])
 
 
-class EdgeBuf:
+class EdgeBuf(K.Buf):
     """bytes that end (or begin) exactly at an unmapped page"""
-    libc = ctypes.CDLL(None, use_errno=True)
-    libc.mmap.restype = ctypes.c_void_p
-    libc.mmap.argtypes = [ctypes.c_void_p, ctypes.c_size_t, ctypes.c_int, ctypes.c_int, ctypes.c_int, ctypes.c_long]
-    libc.mprotect.argtypes = [ctypes.c_void_p, ctypes.c_size_t, ctypes.c_int]
-    libc.munmap.argtypes = [ctypes.c_void_p, ctypes.c_size_t]
     at_end = True
 
     def __init__(self, data, guard=None):
-        self.n = len(data)
-        self.size = (self.n + 4095) // 4096 * 4096 or 4096
-        base = self.libc.mmap(None, self.size + 8192, 3, 0x22, -1, 0)
-        self.base = base
-        assert self.libc.mprotect(base, 4096, 0) == 0 and self.libc.mprotect(base + 4096 + self.size, 4096, 0) == 0
-        self.ptr = base + 4096 + (self.size - self.n if EdgeBuf.at_end else 0)
-        ctypes.memmove(self.ptr, data, self.n)
-
-    def get(self):
-        return ctypes.string_at(self.ptr, self.n), True
-
-    def __del__(self):
-        self.libc.munmap(self.base, self.size + 8192)
+        super().__init__(data, b"")
+        self.side = 2 ** 64 - (1 if EdgeBuf.at_end else 2)
 
 
 def g_dense(seed, count):

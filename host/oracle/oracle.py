@@ -1,16 +1,15 @@
-"""Document 01 in plain Python: an oracle written from the paper and the schemas 4.5.2 and 4.6.2 of document 000, without a look at the proved code or its
-   definitions. R and a number mark a point that the paper leaves to its reader; docs/DECISIONS.md settles them, without these numbers.
-   Quotes are the paper's words."""
+"""The rules (docs/RULES.md) in plain Python, with the schemas 4.5.2 and 4.6.2 of SIAD 6.4: an oracle written without a look at the proved code or its
+   definitions. A letter and a number name a rule; quotes are its words. docs/DECISIONS.md: the points that were open."""
 import re
 from datetime import date
 from functools import lru_cache
 
 # ------------------------------------------------------------------ markup
-WS = b" \t\r\n"                                              # "White space is 32, 9, 13, 10."
-ALLOWED = bytes([9, 10, 13]) + bytes(range(32, 127))         # "Bytes 9, 10, 13 and 32 to 126 only."
-NAME = re.compile(rb"[A-Za-z_][A-Za-z0-9_\-.:]*")            # "a letter or `_`, then letters, digits, `_`, `-`, `.`, `:`"
+WS = b" \t\r\n"                                              # M3: "White space is the bytes 32, 9, 13 and 10"
+ALLOWED = bytes([9, 10, 13]) + bytes(range(32, 127))         # M1: "Only the bytes 9, 10, 13 and 32 to 126 stand in a file"
+NAME = re.compile(rb"[A-Za-z_][A-Za-z0-9_\-.:]*")            # M9: "then letters, digits, `_`, `-`, `.`, `:`"
 SPACE = re.compile(rb"[ \t\r\n]*")
-MAX_DEPTH = 12                                               # "Depth is at most 12, the root being 1."
+MAX_DEPTH = 12                                               # M16: "The root is at depth 1; an element at 12 is read"
 
 
 class Refused(Exception):
@@ -50,7 +49,7 @@ class Parser:
         return m.group()
 
     def comment(self):
-        # "A comment runs from `<!--` to the next `--`, which `>` must follow." R29: opening and closing `--` don't overlap.
+        # M7: "A comment goes from `<!--` to the next `--`, which `>` must follow; the two pairs of dashes share none"
         self.expect(b"<!--")
         q = self.s.find(b"--", self.p)
         if q < 0:
@@ -67,7 +66,7 @@ class Parser:
             self.comment()
 
     def document(self):
-        # "At the very start, optionally `<?xml`, white space, any allowed bytes up to the first `?>`." R1: at least one white-space byte.
+        # M4: "A declaration may stand at place 0, and only there: `<?xml`, at least one byte of white space, then any bytes up to the first `?>`"
         if self.at(b"<?"):
             self.expect(b"<?xml")
             if not self.space():
@@ -78,7 +77,7 @@ class Parser:
                 raise Refused
             self.p = q + 2
             self.declared = 1
-        # "Then white space and comments, one root element, white space and comments."
+        # M6: "After the declaration come white space and comments, one root element, white space and comments, and the end"
         self.misc()
         root = self.element(MAX_DEPTH)
         self.misc()
@@ -87,7 +86,7 @@ class Parser:
         return root
 
     def element(self, left):
-        # "An element's children are read by the same rule with one level less left."
+        # an element's children are read by the same rule, with one level less left (M16)
         if left == 0:
             raise Refused
         self.expect(b"<")
@@ -97,26 +96,26 @@ class Parser:
             spaced = self.space()
             if self.at(b"/>"):
                 self.p += 2
-                return Elem(name, attrs, [])                 # "`<X/>` and `<X></X>` mean the same."
+                return Elem(name, attrs, [])                 # M17: "`<X/>` and `<X></X>` mean the same"
             if self.at(b">"):
                 self.p += 1
                 break
-            if not spaced:                                   # "White space is required before each attribute"
+            if not spaced:                                   # M11: "white space must precede it"
                 raise Refused
             a = self.name()
-            if a in attrs:                                   # "Attribute names differ within a tag."
+            if a in attrs:                                   # M13: "No two attributes of a tag have the same name"
                 raise Refused
-            self.space()                                     # "and may stand around `=`"
+            self.space()                                     # M11: "and may surround its `=`"
             self.expect(b"=")
             self.space()
             quote = self.s[self.p:self.p + 1]
-            if quote not in (b'"', b"'"):                    # "Values stand in `"` or `'`"
+            if quote not in (b'"', b"'"):                    # M12: "A value stands between two `"` or two `'`"
                 raise Refused
             q = self.s.find(quote, self.p + 1)
             if q < 0:
                 raise Refused
             value = self.s[self.p + 1:q]
-            if b"<" in value:                                # "and hold neither that quote nor `<`"
+            if b"<" in value:                                # M12: "and holds neither that quote nor `<`"
                 raise Refused
             attrs[a] = value
             self.p = q + 1
@@ -130,9 +129,9 @@ class Parser:
                 self.p = q
             if self.at(b"</"):
                 self.p += 2
-                if self.name() != name:                      # "End names match."
+                if self.name() != name:                      # M14: "at once its start tag's name"
                     raise Refused
-                self.space()                                 # R5
+                self.space()                                 # M14: "white space or none"
                 self.expect(b">")
                 return Elem(name, attrs, items)
             if self.at(b"<!--"):
@@ -148,21 +147,21 @@ def parse(src):
         raise Refused
     parser = Parser(src)
     root = parser.document()
-    # "No other `<?` or `<!` and no `&` stand anywhere, comments and declaration included."
+    # M2: "No `&` stands in a file"; M5: "No `<?` and no `<!` stands in the declaration or in a comment"; M8
     if src.count(b"<?") != parser.declared or src.count(b"<!") != parser.comments or b"&" in src:
         raise Refused
     return root
 
 
 # ------------------------------------------------------------------ texts
-DAY0 = date(1900, 1, 1).toordinal()                          # "1900-01-01 is day 0."
+DAY0 = date(1900, 1, 1).toordinal()                          # D2: "1900-01-01 is day 0"
 LAST_DAY = date(2099, 12, 31).toordinal() - DAY0
 REGIONS = b"010 020 030 041 042 050 060 070 080 090 100 110 120 121 130 140 150 160 170 180 190 200".split()
 REGION_NUMBERS = {int(r) for r in REGIONS}
-ID_SET = bytes(c for c in range(33, 127) if c not in b"&<>\"'")   # "88 characters from 33 to 126 other than `& < > " '`"
-TEXT_SET = bytes(c for c in ALLOWED if c not in b"<&")            # R4, R17
+ID_SET = bytes(c for c in range(33, 127) if c not in b"&<>\"'")   # S16: "88 characters from 33 to 126 but `&`, `<`, `>`, `"`, `'`"
+TEXT_SET = bytes(c for c in ALLOWED if c not in b"<&")            # M1, M2, M15
 ALNUM = b"0123456789ABCDEFGHIJKLMNOPQRSTUVWXYZabcdefghijklmnopqrstuvwxyz"
-NO_END = (1 << 17) - 1                                       # "all ones stands for none"
+NO_END = (1 << 17) - 1                                       # R25: "all ones for none"
 
 
 def only(text, chars):
@@ -171,7 +170,7 @@ def only(text, chars):
 
 @lru_cache(None)
 def day(text):
-    """"Dates are exactly AAAA-MM-GG, real Gregorian days from 1900-01-01 to 2099-12-31; no time zone". The day number, or None."""
+    """D3: "A date is exactly AAAA-MM-GG, ten bytes, a real day of those, without time zone". The day number, or None."""
     if not re.fullmatch(rb"[0-9]{4}-[0-9]{2}-[0-9]{2}", text):
         return None
     y, m, d = int(text[:4]), int(text[5:7]), int(text[8:])
@@ -193,7 +192,7 @@ def pattern(p):
 
 
 def number(values):
-    """R12: an optional sign, one or more digits, leading zeros allowed, its value in range."""
+    """S22: "a sign and any number of leading zeros may stand before it", "its value is one of the schema's"."""
     r = re.compile(rb"([+-]?)0*([0-9]+)")
 
     def test(t):
@@ -207,20 +206,20 @@ def number(values):
 
 is_date = lambda t: day(t) is not None
 is_region = lambda t: t in REGIONS
-is_residence_region = lambda t: t in REGIONS or t == b"999"  # "residence also allows 999"
-is_asl = pattern(rb"[A-Za-z0-9]{3}")                         # "ASL: three letters or digits."
-is_comune = pattern(rb"[A-Za-z0-9]{6}")                      # "Comune: six letters or digits."
-is_stato_estero = pattern(rb"[A-Za-z]{2}")                   # "StatoEstero: two letters"
-is_tipo = pattern(rb"[IVC]")                                 # "`tipo` is I, V or C."
+is_residence_region = lambda t: t in REGIONS or t == b"999"  # S12: "a residence's may also be 999"
+is_asl = pattern(rb"[A-Za-z0-9]{3}")                         # S13: "An ASL has three letters or digits"
+is_comune = pattern(rb"[A-Za-z0-9]{6}")                      # S13: "a Comune six"
+is_stato_estero = pattern(rb"[A-Za-z]{2}")                   # S14: "StatoEstero is two letters of any case"
+is_tipo = pattern(rb"[IVC]")                                 # S11: "`tipo` is I (insertion), V (variation) or C (cancellation)"
 is_id = lambda t: len(t) == 88 and only(t, ID_SET)
-is_cuni = lambda t: 1 <= len(t) <= 256 and only(t, ID_SET)   # "CUNI: 1 to 256 of the same set"
-is_prevalente = lambda t: 3 <= len(t) <= 5                   # "3 to 5 characters, any that a text may hold"
-is_concomitante = lambda t: len(t) == 3                      # "Concomitante: 3"
-is_anno = pattern(rb"[0-9]{4}")                              # "AnnoNascita: four digits."
-is_accessi = pattern(rb"[1-9][0-9]?")                        # "numAccessi: 1 to 99 without a leading zero"
+is_cuni = lambda t: 1 <= len(t) <= 256 and only(t, ID_SET)   # S17: "A CUNI has 1 to 256 characters of that set"
+is_prevalente = lambda t: 3 <= len(t) <= 5                   # S15: "A Prevalente has 3 to 5 bytes"
+is_concomitante = lambda t: len(t) == 3                      # S15: "a Concomitante 3"
+is_anno = pattern(rb"[0-9]{4}")                              # S19: "AnnoNascita has four digits, any"
+is_accessi = pattern(rb"[1-9][0-9]?")                        # S21: "`numAccessi` is 1 to 99 without leading zero or sign"
 one_two = pattern(rb"[12]")
 one_three = pattern(rb"[1-3]")
-OPERATOR_CODES = set(range(1, 14)) | {99}                    # R13
+OPERATOR_CODES = set(range(1, 14)) | {99}                    # S20: "TipoOperatore 1 to 13 or 99"
 END_CODES = set(range(1, 13)) | {97, 98, 99}
 STOP_CODES = {1, 2, 3, 9}
 MOTIVE_CODES = {1, 2}
@@ -253,7 +252,7 @@ def many(name, t):
 
 BISOGNO = Leaf(one_two)
 THREE = Leaf(one_three)
-TRASMISSIONE = Leaf(lambda t: t == b"", {b"tipo": (True, is_tipo)})      # R9
+TRASMISSIONE = Leaf(lambda t: t == b"", {b"tipo": (True, is_tipo)})      # S8: "`Trasmissione` is a leaf whose text is empty"
 EROGATORE = Node([one(b"CodiceRegione", Leaf(is_region)), one(b"CodiceASL", Leaf(is_asl))])
 PATOLOGIA = Node([one(b"Prevalente", Leaf(is_prevalente)), one(b"Concomitante", Leaf(is_concomitante))])
 DISTURBI = Node([opt(b"Cognitivi", THREE), opt(b"Comportamentali", THREE)])
@@ -265,7 +264,7 @@ def valutazione(track):
     b = lambda *names: [one(n, BISOGNO) for n in names]
     return Node(
         [one(b"Patologia", PATOLOGIA), opt(b"Autonomia", THREE), opt(b"GradoMobilita", THREE),
-         (b"Disturbi", 1 if track == 1 else 0, 1, DISTURBI),             # R10
+         (b"Disturbi", 1 if track == 1 else 0, 1, DISTURBI),             # S10: "also where the two differ (`Disturbi`, .."
          opt(b"SupportoSociale", THREE), opt(b"RischioInfettivo", BISOGNO)]
         + b(b"DrenaggioPosturale", b"OssigenoTerapia", b"Ventiloterapia", b"Tracheostomia")
         + [one(b"Alimentazione", ALIMENTAZIONE)]
@@ -312,7 +311,7 @@ RECORD2 = Node([
 
 
 def leaf_text(e):
-    """A leaf's text "exactly as written", or None: a comment or a child in it is a fault."""
+    """A leaf's text, M18: "used as written", or None: a comment (S8) or a child in it is a fault."""
     if not e.items:
         return b""
     if len(e.items) == 1 and isinstance(e.items[0], bytes):
@@ -321,7 +320,7 @@ def leaf_text(e):
 
 
 def children(e):
-    """The child elements, or None: "anything between the children but white space and comments is one [a fault]"."""
+    """The child elements, or None. S9: "only white space and comments stand beside the children"."""
     kids = []
     for i in e.items:
         if isinstance(i, Elem):
@@ -345,7 +344,7 @@ def fits(e, t):
     if kids is None:
         return False
     i = 0
-    for name, low, high, ct in t.children:                   # "Children come in the schema's order."
+    for name, low, high, ct in t.children:                   # S5: "Children come in the schema's order"
         n = 0
         while i < len(kids) and kids[i].name == name and (high is None or n < high):
             if not fits(kids[i], ct):
@@ -361,11 +360,11 @@ def shape(root, track):
     """(fault, number of the first bad record, records)"""
     if root.name != b"FlsAssDom_%d" % track:
         return True, 0, []
-    for a in root.attrs:                                     # R15
+    for a in root.attrs:                                     # S7: "begins with the bytes `xmlns` or `xsi:`"
         if not (a.startswith(b"xmlns") or a.startswith(b"xsi:")):
             return True, 0, []
     records = children(root)
-    if not records or any(r.name != b"Assistenza" for r in records):   # "no record at all included; tested first"; R16
+    if not records or any(r.name != b"Assistenza" for r in records):   # F6: "which is looked for first"; S24
         return True, 0, []
     for n, r in enumerate(records, 1):
         if not fits(r, RECORD1 if track == 1 else RECORD2):
@@ -388,7 +387,7 @@ def text_at(e, *path):
 
 
 def level(text):
-    return 0 if text is None else int(text)                  # "(0 = missing)"
+    return 0 if text is None else int(text)                  # R16: "0 is missing"
 
 
 def case_key(r):
@@ -396,7 +395,7 @@ def case_key(r):
             day(kid(r, b"Eventi", b"PresaInCarico").attrs[b"data"]), text_at(r, b"Eventi", b"PresaInCarico", b"Id_Rec"))
 
 
-RIV, ERO, SOS, CON = 0, 1, 2, 3                              # "kind 2 (0 Rivalutazione, 1 Erogazione, 2 Sospensione, 3 Conclusione)"
+RIV, ERO, SOS, CON = 0, 1, 2, 3                              # R23: "0 Rivalutazione, 1 Erogazione, 2 Sospensione, 3 Conclusione"
 
 
 def events_of(r):
@@ -422,7 +421,7 @@ ROW = 91
 
 
 def pack(fields):
-    """"Fields are bit-packed, most significant first" """
+    """R6: "packed in the order of the table from its first bit on, the most significant bit first" """
     n = bits = 0
     for v, w in fields:
         assert 0 <= v < 1 << w
@@ -468,7 +467,7 @@ def read_key(f):
 
 
 def anomaly11(birth, taken):
-    return birth < 1880 or birth > year_of(taken)            # "birth year before 1880 or after the year of taking in"
+    return birth < 1880 or birth > year_of(taken)            # A11: "the birth year is before 1880 or after the year of taking in"
 
 
 @lru_cache(100000)
@@ -479,12 +478,12 @@ def read_case(row):
     if k is None:
         return None
     birth, raw, levels, rest = f[93], bytes(f[94:99]), tuple(f[99:105]), f[105]
-    prevalente = raw.rstrip(b"\0")                           # "(unused last characters 0)"
+    prevalente = raw.rstrip(b"\0")                           # R15: "unused last characters are 0"
     if not (3 <= len(prevalente) <= 5 and only(prevalente, TEXT_SET)):
         return None
-    if anomaly11(birth, k[2]) or prevalente == b"000":       # "a case free of 11 and 13 below"
+    if anomaly11(birth, k[2]) or prevalente == b"000":       # V3: "the birth year is free of A11", "and is not `000`"
         return None
-    if levels[5] > 2 or rest != 0:                           # R23: RischioInfettivo 0 to 2; "7 zero bits"
+    if levels[5] > 2 or rest != 0:                           # V3: "RischioInfettivo is 0 to 2", "and the zero bits are zero"
         return None
     return k, (birth, prevalente, levels)
 
@@ -499,36 +498,36 @@ def read_event(row):
     if k is None:
         return None
     kind, when, end, code, accesses, conferma, rest = f[93:]
-    if when > LAST_DAY or rest != 0:                         # "14 zero bits"
+    if when > LAST_DAY or rest != 0:                         # V4: "the date is a day", "and the zero bits are zero"
         return None
-    if not (end == NO_END or kind == SOS and end <= LAST_DAY):   # "all ones stands for none, and for every other kind"
+    if not (end == NO_END or kind == SOS and end <= LAST_DAY):   # V4: "the end date a Sospensione's day or all ones"
         return None
-    if code not in CODES[kind]:                              # "the code from its kind's list"
+    if code not in CODES[kind]:                              # V4: "the code one of its kind's list"
         return None
-    if accesses > (99 if kind == ERO else 0):                # "accesses 0 unless Erogazione"
+    if accesses > (99 if kind == ERO else 0):                # V4: "accesses 0 to 99 for an Erogazione and else 0"
         return None
-    if conferma not in ((1, 2) if kind == RIV else (0,)):    # R23; "conferma 2 (0 unless Rivalutazione)"
+    if conferma not in ((1, 2) if kind == RIV else (0,)):    # V4: "conferma 1 or 2 for a Rivalutazione and else 0"
         return None
     return k, (kind, when, end, code, accesses, conferma)
 
 
 def anomaly23(ev):
-    return ev[0] == SOS and ev[2] < ev[1]                    # "a suspension ends before it begins"; none = all ones is never before
+    return ev[0] == SOS and ev[2] < ev[1]                    # A23: "ends before it begins"; none = all ones is never before
 
 
 def after_anomaly(taken, evs):
     """25 to 28 over the events a case has: the first that holds, or 0"""
-    if any(e[1] < taken for e in evs):                       # 25 "an event's date is before the taking in"
+    if any(e[1] < taken for e in evs):                       # A25: "an event's date (of a Sospensione: `dataInizio`) is before the taking in"
         return 25
     stops = [e for e in evs if e[0] == SOS]
-    for i, a in enumerate(stops):                            # 26 "two suspensions share a day; one without end runs on for ever"
+    for i, a in enumerate(stops):                            # A26: "two Sospensione share a day, first and last days included"; "for ever"
         for b in stops[i + 1:]:
             if a[1] <= b[2] and b[1] <= a[2]:
                 return 26
     ends = [e for e in evs if e[0] == CON]
-    if len(ends) >= 2:                                       # 27 "two conclusions"
+    if len(ends) >= 2:                                       # A27: "there are two Conclusione"
         return 27
-    for c in ends:                                           # 28 "an event's date or end date is after the conclusion (a missing end isn't)"
+    for c in ends:                                           # A28: "an event's date or end date is after a Conclusione's date; a missing end is not"
         for e in evs:
             if e[1] > c[1] or e[2] != NO_END and e[2] > c[1]:
                 return 28
@@ -540,36 +539,36 @@ class Register:
 
 
 def room(reg):
-    return min(4096, (len(reg) - 4) // ROW)                  # "the smaller of 4,096 and (length - 4) / 91 rounded down"
+    return min(4096, (len(reg) - 4) // ROW)                  # R4: "the smaller of 4,096 and (length - 4) / 91 rounded down"
 
 
 def load(reg):
     """The register taken apart, or None if it is not sound."""
-    if len(reg) < 4:                                         # "length at least 4"
+    if len(reg) < 4:                                         # V1: "It has at least 4 bytes"
         return None
     nc, ne = int.from_bytes(reg[0:2], "big"), int.from_bytes(reg[2:4], "big")
-    if nc + ne > room(reg):                                  # "cases and events together at most R"
+    if nc + ne > room(reg):                                  # V2: "are together at most R"
         return None
     rows = [reg[4 + ROW * i:4 + ROW * (i + 1)] for i in range(nc + ne)]
-    if reg[4 + ROW * (nc + ne):].strip(b"\0"):               # "zero tail"
+    if reg[4 + ROW * (nc + ne):].strip(b"\0"):               # V8: "Every byte past the last standing row is zero"
         return None
     cases = [read_case(r) for r in rows[:nc]]
     events = [read_event(r) for r in rows[nc:]]
-    if None in cases or None in events:                      # "every row the packing of field values allowed above"
+    if None in cases or None in events:                      # V3, V4
         return None
     ck = [k for k, _ in cases]
     ek = [(k, e[0], e[1]) for k, e in events]
-    if any(a >= b for a, b in zip(ck, ck[1:])) or any(a >= b for a, b in zip(ek, ek[1:])):   # "keys strictly ascending"
+    if any(a >= b for a, b in zip(ck, ck[1:])) or any(a >= b for a, b in zip(ek, ek[1:])):   # V5: "Keys ascend strictly"
         return None
     out = Register()
     out.room = room(reg)
     out.cases = dict(cases)
     out.events = {k: {} for k in out.cases}
     for k, e in events:
-        if k not in out.cases:                               # "every event's case standing"
+        if k not in out.cases:                               # V6: "The case of every event stands"
             return None
         out.events[k][e[0], e[1]] = e
-    for k, evs in out.events.items():                        # "each case's events free of 25 to 28 and 23 below"
+    for k, evs in out.events.items():                        # V7: "The events of each case are free of 23 and of 25 to 28"
         evs = list(evs.values())
         if any(map(anomaly23, evs)) or after_anomaly(k[2], evs):
             return None
@@ -581,7 +580,7 @@ def store(r, length):
     out = len(r.cases).to_bytes(2, "big") + len(evs).to_bytes(2, "big")
     out += b"".join(pack_case(k, r.cases[k]) for k in sorted(r.cases))
     out += b"".join(pack_event(k, e) for k, e in evs)
-    return out.ljust(length, b"\0")                          # "All bytes past the last standing row are zero."
+    return out.ljust(length, b"\0")                          # R5: "Every byte past the last standing row is zero"
 
 
 def empty(reg):
@@ -601,7 +600,7 @@ def find(reg, region, asl, when, ident):
     k = (int(region), asl, day(when), ident)
     if k not in r.cases:
         return 30, 0
-    return 0, 4 + ROW * sorted(r.cases).index(k)             # R24
+    return 0, 4 + ROW * sorted(r.cases).index(k)             # C11: "the first case's being 4"
 
 
 # ------------------------------------------------------------------ records judged and applied
@@ -618,24 +617,24 @@ def apply1(r, rec, in_quarter):
     prevalente = text_at(val, b"Patologia", b"Prevalente")
     levels = tuple(level(text_at(val, *p)) for p in [(b"Autonomia",), (b"GradoMobilita",), (b"Disturbi", b"Cognitivi"), (b"Disturbi", b"Comportamentali"),
                                                      (b"SupportoSociale",), (b"RischioInfettivo",)])
-    if not in_quarter(k[2]):                                 # 10 "a date outside the declared quarter: taking in (Track 1)"
+    if not in_quarter(k[2]):                                 # A10: "A date is outside the declared quarter (D6). Track 1: that of taking in, and no other"
         return 10
     if anomaly11(birth, k[2]):
         return 11
     stato = text_at(anag, b"Residenza", b"StatoEstero")
     abroad = [text_at(anag, b"Residenza", n) for n in (b"Regione", b"Comune", b"ASL")] == [b"999", b"999999", b"999"]
-    # 12 "StatoEstero present and not all of region 999, comune 999999, ASL 999; or missing and all three; or it is IT in any letter case"
+    # A12: "StatoEstero is there and region 999, Comune 999999 and ASL 999 are not all three; or it is missing and all three are; or it is IT"
     if stato is not None and not abroad or stato is None and abroad or stato is not None and stato.upper() == b"IT":
         return 12
-    if prevalente == b"000":                                 # 13 "a prevalente is `000`"
+    if prevalente == b"000":                                 # A13: "A Prevalente is `000`"
         return 13
-    if tipo == b"I" and k in r.cases:                        # 14
+    if tipo == b"I" and k in r.cases:                        # A14
         return 14
-    if tipo in b"VC" and k not in r.cases:                   # 15
+    if tipo in b"VC" and k not in r.cases:                   # A15
         return 15
-    if tipo == b"C" and r.events[k]:                         # 16 "Track 1, type C, and an event of the case stands"
+    if tipo == b"C" and r.events[k]:                         # A16: "Track 1: type C, and an event of the case stands"
         return 16
-    if tipo == b"I" and standing(r) + 1 > r.room:            # 17 "type I and the rows standing with the record's new rows exceed R"
+    if tipo == b"I" and standing(r) + 1 > r.room:            # A17: "Type I, and the rows standing with those of the record are more than R"
         return 17
     if tipo == b"C":
         del r.cases[k], r.events[k]
@@ -650,47 +649,47 @@ def apply2(r, rec, in_quarter):
     k = case_key(rec)
     pairs = events_of(rec)
     evs = [e for e, _ in pairs]
-    if not evs:                                              # 20 "no event in the record"
+    if not evs:                                              # A20: "the record has no event"
         return 20
-    for e in evs:                                            # 10 "a suspension's dataFine, or dataInizio where that is missing"
+    for e in evs:                                            # A10: "of a Sospensione `dataFine`, .. or `dataInizio` where it has no end"
         if not in_quarter(e[2] if e[0] == SOS and e[2] != NO_END else e[1]):
             return 10
-    for e, v in pairs:                                       # 21 "confermaPrecedente 1 with a Valutazione, or 2 without"
+    for e, v in pairs:                                       # A21: "a Rivalutazione has conferma 1 and a Valutazione, or 2 and none"
         if e[0] == RIV and (e[5] == 1) == (v is not None):
             return 21
-    for e, v in pairs:                                       # 13
+    for e, v in pairs:                                       # A13
         if v is not None and text_at(v, b"Patologia", b"Prevalente") == b"000":
             return 13
     keys = [(e[0], e[1]) for e in evs]
-    if len(set(keys)) < len(keys):                           # 22 "one event key twice in the record"
+    if len(set(keys)) < len(keys):                           # A22: "two events of the record have one key"
         return 22
     if any(map(anomaly23, evs)):
         return 23
-    if k not in r.cases:                                     # 24 "the case isn't standing"
+    if k not in r.cases:                                     # A24: "the case does not stand"
         return 24
     have = r.events[k]
-    if tipo == b"I" and any(x in have for x in keys):        # 14
+    if tipo == b"I" and any(x in have for x in keys):        # A14
         return 14
-    if tipo in b"VC" and any(x not in have for x in keys):   # 15
+    if tipo in b"VC" and any(x not in have for x in keys):   # A15
         return 15
-    after = dict(have)                                       # "25 to 28 look at the events which the case would have afterwards."
+    after = dict(have)                                       # J5: "25 to 28 look at the events that the case would have afterwards"
     for x, e in zip(keys, evs):
         if tipo == b"C":
             del after[x]
         else:
-            after[x] = e                                     # "Varying replaces whole rows."
+            after[x] = e                                     # W2: "whole rows in the place of those with their keys"
     a = after_anomaly(k[2], list(after.values()))
     if a:
         return a
-    if tipo == b"I" and standing(r) + len(evs) > r.room:     # 17
+    if tipo == b"I" and standing(r) + len(evs) > r.room:     # A17
         return 17
-    r.events[k] = after                                      # "A Track 2 record is taken whole or not at all."
+    r.events[k] = after                                      # J6: "one of Track 2 is taken whole or not at all"
     return 0
 
 
 def submit(sub, track, year, quarter, reg, answers):
     """-> (answer, record number, records, accepted, discarded, register after, answer list after)"""
-    refuse = lambda a, n=0: (a, n, 0, 0, 0, reg, answers)    # "Answers 1 to 8 report all counts 0 and change no lent byte."
+    refuse = lambda a, n=0: (a, n, 0, 0, 0, reg, answers)    # G4: "With 1 to 8 all three counts are 0, and no byte of register or answer list changes"
     if not 2009 <= year <= 2099 or not 1 <= quarter <= 4:
         return refuse(1)
     if track not in (1, 2):
@@ -717,12 +716,12 @@ def submit(sub, track, year, quarter, reg, answers):
     following = (date(year, 3 * quarter + 1, 1) if quarter < 4 else date(year + 1, 1, 1)).toordinal() - DAY0
     in_quarter = lambda d: first <= d < following
     judge = apply1 if track == 1 else apply2
-    got = bytes(judge(r, rec, in_quarter) for rec in records)   # "Records are applied in file order"
+    got = bytes(judge(r, rec, in_quarter) for rec in records)   # G7: "Records are taken in file order"
     accepted = got.count(0)
     return 0, 0, len(records), accepted, len(records) - accepted, store(r, len(reg)), got + answers[len(got):]
 
 
-if __name__ == "__main__":                                   # the paper's own cases
+if __name__ == "__main__":                                   # P1, P5 and P6
     assert LAST_DAY == 73048 and day(b"2000-02-29") == 36583 and day(b"1900-02-29") is None
     k = (10, b"101", day(b"2018-05-01"), b"A" * 88)
     assert pack_case(k, (1950, b"123", (0,) * 6))[:6].hex() == "0a62c18aa34e"

@@ -18,8 +18,8 @@ key-parts reg p =
     let e : n / 2 ^ 47 / 2 ^ ownBits ≡ n / 2 ^ 66 = shr-shr n 47 ownBits in
     (omega arith, omega arith)
 
-pub either : (i p : ℕ) → (i ≤ p) ⊎ (p < i)
-either i p = go (tri p i)
+pub from-or-before : (i p : ℕ) → (i ≤ p) ⊎ (p < i)
+from-or-before i p = go (tri p i)
   where
     go : Tri p i → (i ≤ p) ⊎ (p < i)
     go (below l a b) = inr l
@@ -45,7 +45,7 @@ module _ (k v : ℕ) (a : List ℕ) (f : ℕ → ℕ) (c lo t m r : ℕ) (rise :
         low = omega (arith, pl .low);
         high = omega (arith, pl .high);
         under = λ z p x y.
-            ⊎-elim (λ w. let u = pl .under own-rise p w y in let i = key-is p w (omega (arith, pl .high)) in omega arith) (λ w. early p x w) (either lo p);
+            ⊎-elim (λ w. let u = pl .under own-rise p w y in let i = key-is p w (omega (arith, pl .high)) in omega arith) (λ w. early p x w) (from-or-before lo p);
         over = λ z p x y.
-            ⊎-elim (λ w. late p w y) (λ w. let u = pl .over own-rise p x w in let i = key-is p (omega (arith, pl .low)) w in omega arith) (either t p);
+            ⊎-elim (λ w. late p w y) (λ w. let u = pl .over own-rise p x w in let i = key-is p (omega (arith, pl .low)) w in omega arith) (from-or-before t p);
       }

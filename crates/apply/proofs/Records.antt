@@ -14,18 +14,18 @@ use Rattle.model.specs.Checks.{first}
 use Rattle.model.specs.Flow.{State, applied}
 use Rattle.model.specs.Transmission.{Kind, insert, vary, cancel, isInsert, isCancel}
 use Rattle.model.proofs.MapLaws.{keep-true}
-use Rattle.register.specs.Layout.{room}
+use Rattle.register.specs.RoomAndEmptying.{room}
 use Rattle.register.specs.Search.{probeKey}
 use Rattle.register.specs.Stored.{Stored, cases, withRows}
 use Rattle.register.specs.Stored as group
-use Rattle.register.specs.Storing.{Dropped}
+use Rattle.register.specs.TakenOut.{Dropped}
 use Rattle.register.proofs.Storing.{key-number}
 use Rattle.home_care.specs.Row.{Case, rowBytes, keyBits, keyNumber, siad, eventRow}
 use Rattle.home_care.proofs.Laid.{laid-siad}
-use Rattle.home_care.specs.Record.{Head, Admission, Said, Record, admission, events, eventNumbers}
+use Rattle.home_care.specs.Record.{Head, Admission, Said, Record, admission, events, eventNumbers, typeOf}
 use Rattle.home_care.specs.Anomalies.{Context}
-use Rattle.checks.specs.Flow.{typeOf, next, caseRow, eventRows}
-use Rattle.checks.specs.Checks.{checksOf}
+use Rattle.checks.specs.Flow.{next, caseRow, eventRows}
+use Rattle.checks.specs.CheckOrder.{checksOf}
 use Rattle.checks.proofs.Accepted.{lawful, not17}
 use Rattle.apply.proofs.Merge.{map-length}
 use Rattle.apply.specs.Cases.{rowFor, CaseIn}

@@ -27,7 +27,7 @@ use Rattle.home_care.specs.Row.{eventBits, siad, rowBytes, eventKeyBits, ownBit
 use Rattle.home_care.proofs.Laid.{laid-siad}
 use Rattle.apply.specs.Events.{rowsFor, NextBelow}
 use Rattle.apply.proofs.Merge.{none-past}
-use Rattle.apply.proofs.OwnKey.{whole-placed, key-parts, either}
+use Rattle.apply.proofs.OwnKey.{whole-placed, key-parts, from-or-before}
 use Rattle.apply.proofs.Growing.{keepFrom}
 use Rattle.apply.proofs.Without.{all-shrunk, next-stands, next-shrunk}
 
@@ -113,7 +113,7 @@ module _ (k : ℕ) (evs : List ℕ) (s : State ℕ ℕ) (once : twice (rowsFor k
     in-case =
         let t = ltb-true r (length (s .cases) + length (now .events))
         (and-left (ltb r (length (s .cases) + length (now .events))) (eqb (keyAt rowBytes eventKeyBits a r) key) (found-row siad laid-siad events a now (g .stored) key r found there)) in
-        ⊎-elim (λ w. let v = g .late r w (omega (arith, g .total)) in absurd (omega (arith, below-bound, here))) (λ w. w) (either i r)
+        ⊎-elim (λ w. let v = g .late r w (omega (arith, g .total)) in absurd (omega (arith, below-bound, here))) (λ w. w) (from-or-before i r)
 
     next-is : del key (now .events) ≡ stateLess k evs s own .events
     next-is =

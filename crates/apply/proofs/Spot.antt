@@ -23,7 +23,7 @@ use Rattle.register.proofs.Storing.{put-done}
 use Rattle.home_care.specs.Row.{keyBits, eventBits, siad, eventRow, rowBytes, pastOwn, eventKeyBits, ownBits, eventZeros}
 use Rattle.home_care.proofs.Laid.{laid-siad}
 use Rattle.apply.specs.RowBytes.{eventBytes}
-use Rattle.apply.proofs.OwnKey.{whole-placed, key-parts, either}
+use Rattle.apply.proofs.OwnKey.{whole-placed, key-parts, from-or-before}
 use Rattle.apply.proofs.Growing.{row-key, row-split}
 
 module _ (k e : ℕ) (hk : k < 2 ^ keyBits) (he : e < 2 ^ eventBits) (a : List ℕ) (s : State ℕ ℕ) (st : Stored siad a s) (c n : ℕ) (ec : c ≡ length (s .cases))
@@ -65,7 +65,7 @@ module _ (k e : ℕ) (hk : k < 2 ^ keyBits) (he : e < 2 ^ eventBits) (a : List �
         let u = eqb (keyAt rowBytes eventKeyBits a r) (probeKey rowBytes eventKeyBits row) in
         let x : r < end = ltb-true r end (and-left t u stands) in
         let y : keyAt rowBytes eventKeyBits a r ≡ probeKey rowBytes eventKeyBits row = eqb-true (keyAt rowBytes eventKeyBits a r) (probeKey rowBytes eventKeyBits row) (and-right t u stands) in
-        ⊎-elim (λ w. let v = rg .after rise r w (omega arith) in let d = key-parts a r in absurd (omega (arith, key-is))) (λ w. w) (either hi r)
+        ⊎-elim (λ w. let v = rg .after rise r w (omega arith) in let d = key-parts a r in absurd (omega (arith, key-is))) (λ w. w) (from-or-before hi r)
 
     -- and the event over that row is the event put in
     pub written-over : (b : List ℕ) → length b ≡ length a → b ≡ replaced rowBytes r row a → Stored siad b (withRows events (put (eventRow k e) (s .events)) s)

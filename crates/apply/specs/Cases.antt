@@ -1,4 +1,4 @@
--- What a case put in does to a register's bytes (document 01, "The register": "Varying replaces whole rows").
+-- What a case put in does to a register's bytes (RULES.md, 8 What storing does).
 use Prim.Native.Nat.{ℕ, _+_, _*_, _^_, _<_}
 use mathlib.Core.Path.{_≡_}
 use mathlib.Core.Bool.{false}
@@ -6,7 +6,7 @@ use mathlib.Core.List.{List}
 use lib.ListN.{length}
 use Rattle.model.specs.Map.{Row, has, put}
 use Rattle.model.specs.Flow.{State}
-use Rattle.register.specs.Layout.{room}
+use Rattle.register.specs.RoomAndEmptying.{room}
 use Rattle.register.specs.Stored.{Stored, cases, withRows}
 use Rattle.home_care.specs.Row.{Case, caseNumber, siad}
 

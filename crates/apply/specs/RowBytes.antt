@@ -1,4 +1,4 @@
--- The rows that a record stores, in bytes (document 01, "The register", the table).
+-- The rows that a record stores, in bytes (RULES.md, R6 to R29).
 use Prim.Native.Nat.{ℕ, _+_, _*_, _^_, _<_}
 use mathlib.Core.Path.{_≡_}
 use mathlib.Core.List.{List}

@@ -21,9 +21,9 @@ use register::counts::count;
 use register::counts::set_count;
 use register::moving::close_rows;
 use register::moving::shift_right;
+use register::room::room_for;
 use register::search::case_range;
 use register::search::place_by;
-use register::store::room_for;
 
 // A gap of j rows in front of row i takes row r in: the rows between go on through the gap.
 fn widen(reg: &mut [u8], r: usize, i: usize, j: usize)

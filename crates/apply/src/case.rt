@@ -8,16 +8,16 @@ ghost use Rattle.home_care.specs.Row.{rowBytes, keyBits};
 ghost use Rattle.home_care.specs.Fits.{caseWith, CaseFits};
 ghost use Rattle.apply.specs.Cases.{CaseIn};
 ghost use Rattle.apply.specs.RowBytes.{caseBytes, Keyed};
-use crate::key::key_in;
+use crate::probe::key_in;
 use home_care::layout::CASE_KEY;
 use home_care::layout::ROW;
 use register::counts::count;
 use register::counts::set_count;
 use register::moving::put_row;
 use register::moving::shift_right;
+use register::room::room_for;
 use register::search::place;
 use register::search::stands;
-use register::store::room_for;
 use rows::writer::Bits;
 
 // A case's row over a row: the probe's key, then the fields.

@@ -1,10 +1,10 @@
-// What an accepted record does to a register's bytes (document 01, "The register"). A row is packed straight into its place: no copy of it stands elsewhere.
+// What an accepted record does to a register's bytes (RULES.md, 8 What storing does). A row is packed straight into its place: no copy of it stands elsewhere.
 pub mod cancel;
 pub mod case;
 pub mod event_row;
 pub mod insert;
-pub mod key;
 pub mod order;
+pub mod probe;
 pub mod vary;
 
 ghost use mathlib.Core.Path.{_≡_};
@@ -16,7 +16,7 @@ ghost use lib.ListN.{length};
 ghost use Rattle.laws.specs.Lists.{all};
 ghost use Rattle.model.specs.Checks.{first};
 ghost use Rattle.model.specs.Flow.{State};
-ghost use Rattle.register.specs.Layout.{room};
+ghost use Rattle.register.specs.RoomAndEmptying.{room};
 ghost use Rattle.register.specs.Search.{probeKey};
 ghost use Rattle.register.specs.Stored.{Stored};
 ghost use Rattle.home_care.specs.Row.{rowBytes, keyBits, eventBits, keyNumber, siad};
@@ -24,7 +24,7 @@ ghost use Rattle.home_care.specs.Fits.{caseWith, CaseFits};
 ghost use Rattle.home_care.specs.Record.{Head, Admission, Said, admission, events, eventNumbers};
 ghost use Rattle.home_care.specs.Anomalies.{Context};
 ghost use Rattle.checks.specs.Flow.{next};
-ghost use Rattle.checks.specs.Checks.{checksOf};
+ghost use Rattle.checks.specs.CheckOrder.{checksOf};
 use crate::cancel::cancel_events;
 use crate::case::put_case;
 use crate::insert::insert_events;
@@ -33,7 +33,7 @@ use checks::kinds::cancels;
 use checks::kinds::inserts;
 use home_care::layout::CASE_KEY;
 use home_care::layout::ROW;
-use register::store::Part;
+use register::remove::Part;
 
 // An accepted record of Track 1: its case's row, with the key that the probe holds.
 pub fn apply_case(
@@ -51,7 +51,7 @@ pub fn apply_case(
         × (length (now (reg .exit)) ≡ length (now (reg .entry))) ⌝ }
 {
     if cancels(tipo) {
-        register::store::remove(reg, Part::Cases, ROW, CASE_KEY, probe);
+        register::remove::remove(reg, Part::Cases, ROW, CASE_KEY, probe);
     } else {
         put_case(reg, probe, birth, prevalente, scales);
     }

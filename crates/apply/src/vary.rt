@@ -9,15 +9,15 @@ ghost use Rattle.register.specs.Search.{probeKey};
 ghost use Rattle.home_care.specs.Row.{rowBytes, keyBits, eventBits};
 ghost use Rattle.apply.specs.Events.{AllOver};
 use crate::event_row::set_row;
-use crate::key::key_in;
+use crate::probe::key_in;
 use home_care::layout::CASE_KEY;
 use home_care::layout::OWN_KEY;
 use home_care::layout::PAST_OWN;
 use home_care::layout::ROW;
 use register::counts::count;
+use register::room::room_for;
 use register::search::case_range;
 use register::search::place_by;
-use register::store::room_for;
 
 // The events of a record whose keys all stand (15): each is packed over the row with its key.
 pub fn vary_events(reg: &mut [u8], probe: &[u8], evs: &[u64])

@@ -9,14 +9,14 @@ ghost use Rattle.laws.specs.Lists.{all};
 ghost use Rattle.markup.specs.Document.{inMarkup};
 ghost use Rattle.model.specs.Checks.{first};
 ghost use Rattle.model.specs.Flow.{State};
-ghost use Rattle.register.specs.Layout.{room};
+ghost use Rattle.register.specs.RoomAndEmptying.{room};
 ghost use Rattle.register.specs.Search.{probeKey};
 ghost use Rattle.register.specs.Stored.{Stored};
 ghost use Rattle.home_care.specs.Row.{rowBytes, keyBits, eventBits, keyNumber, siad};
 ghost use Rattle.home_care.specs.Record.{Head, Said, events, eventNumbers};
 ghost use Rattle.home_care.specs.Anomalies.{Context};
 ghost use Rattle.checks.specs.Flow.{next};
-ghost use Rattle.checks.specs.Checks.{checksOf};
+ghost use Rattle.checks.specs.CheckOrder.{checksOf};
 use home_care::layout::ROW;
 
 // No event of 52 bits is so large.

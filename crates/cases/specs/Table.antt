@@ -1,26 +1,27 @@
--- Document 01, "Days and bytes on each side": the P cases as one table, each row a sentence of the paper and what it says of the definitions.
+-- RULES.md, 12 Days and bytes on each side: the P cases as one table, each row a side of a rule and what it says of the definitions.
 use Prim.Native.Nat.{ℕ}
 use Prim.Native.Char.{code}
 use Prim.Native.String as string
-use mathlib.Core.Bool.{Bool, not, _&&_}
+use mathlib.Core.Bool.{Bool, true, not, _&&_}
 use mathlib.Core.List.{List, [], _∷_}
 use lib.Dec.{eqb}
-use lib.ListN.{take, replicate}
+use lib.ListN.{take, drop, replicate}
 use Rattle.laws.specs.Decimal.{decimal}
-use Rattle.laws.specs.Lists.{same}
-use Rattle.laws.specs.Text.{bytes}
+use Rattle.laws.specs.Lists.{same, bytes}
 use Rattle.days.specs.Dates.{isDate, dayOf}
-use Rattle.days.specs.Quarters.{firstDay, lastDay, inQuarter}
+use Rattle.days.specs.Quarters.{firstDay, lastDay}
+use Rattle.codes.specs.CodesAndCharacters.{revaluation, suspension}
 use Rattle.model.specs.Checks.{first}
 use Rattle.model.specs.Flow.{empty}
-use Rattle.rows.specs.Packing.{digits, rowNumber}
-use Rattle.register.specs.Layout.{room}
-use Rattle.home_care.specs.Row.{rowBytes, Key, keyFields, eventNumber, siad}
+use Rattle.register.specs.RoomAndEmptying.{room}
+use Rattle.register.specs.State.{encode}
+use Rattle.home_care.specs.Row.{Key, never, eventNumber, siad}
 use Rattle.home_care.specs.Fits.{keyWith, eventWith}
-use Rattle.home_care.specs.Anomalies.{t26, Context}
-use Rattle.home_care.specs.Record.{Record, padded, admission}
+use Rattle.home_care.specs.Anomalies.{t26, Context, outOfQuarter}
+use Rattle.home_care.specs.Record.{Head, Record, padded, admission, events}
 use Rattle.soundness.specs.Sound.{isSound}
-use Rattle.checks.specs.Checks.{checksOf}
+use Rattle.checks.specs.CheckOrder.{checksOf}
+use Rattle.checks.specs.Flow.{next}
 
 pub data PCase : Type 0 where
   -- a date's number, a text that is no day, a day in a quarter and one out of it
@@ -29,18 +30,22 @@ pub data PCase : Type 0 where
   in-quarter out-of-quarter : ℕ → ℕ → string.String → PCase
   -- two suspensions, by their first and last days
   share apart : string.String → string.String → string.String → string.String → PCase
-  -- a prevalente, in a record of Track 1 in which nothing else is wrong
+  -- a prevalente, in a record of either track in which nothing else is wrong
   gives-13 gives-no-13 : string.String → PCase
   -- a zero register of so many bytes is sound, with room for so many rows
   zero-register : ℕ → ℕ → PCase
   -- region, ASL, day of taking in and Id_Rec, as they are written, and the bytes that the row begins with
   row-begins : string.String → string.String → string.String → List ℕ → List ℕ → PCase
 
-abbrev suspension : string.String → string.String → ℕ
-suspension a b = eventNumber (eventWith 2 (dayOf (bytes a)) (dayOf (bytes b)) 1 0 0)
+-- the quarter that a call declares, with room for two rows
+abbrev declared : ℕ → ℕ → Context
+declared year quarter = record { first = firstDay year quarter; last = lastDay year quarter; room = 2 }
+
+abbrev suspended : string.String → string.String → ℕ
+suspended a b = eventNumber (eventWith suspension (dayOf (bytes a)) (dayOf (bytes b)) 1 0 0)
 
 abbrev shared : string.String → string.String → string.String → string.String → Bool
-shared a b c d = t26 (suspension a b ∷ suspension c d ∷ [])
+shared a b c d = t26 (suspended a b ∷ suspended c d ∷ [])
 
 abbrev keyWritten : string.String → string.String → string.String → List ℕ → Key
 keyWritten region asl day id = keyWith (decimal (bytes region)) (bytes asl) (dayOf (bytes day)) id
@@ -49,53 +54,70 @@ keyWritten region asl day id = keyWith (decimal (bytes region)) (bytes asl) (day
 abbrev letters : List ℕ
 letters = replicate 88 (code "A")
 
--- an insertion in quarter 2 of 2018, of a person born in 1940
-abbrev admitted : string.String → Record
-admitted prevalente =
-    admission (record { tipo = code "I"; key = keyWritten "010" "101" "2018-05-01" letters })
+abbrev inserts : Key → Head
+inserts key = record { tipo = code "I"; key = key }
+
+-- Track 1: an insertion of a person born in 1940
+abbrev admitted : Key → string.String → Record
+admitted key prevalente =
+    admission (inserts key)
     (record {
       case = record { birth = 1940; prevalente = padded (bytes prevalente); scales = 1 ∷ 2 ∷ 3 ∷ 1 ∷ 2 ∷ 0 ∷ [] };
       residence = record { region = bytes "010"; asl = bytes "101"; comune = bytes "001001"; stato = [] };
     })
 
-abbrev context : Context
-context = record { first = firstDay 2018 2; last = lastDay 2018 2; room = 1 }
+-- Track 2: an insertion of a Rivalutazione with a new evaluation
+abbrev valuedAnew : Key → string.String → Record
+valuedAnew key prevalente =
+    events (inserts key)
+    (record { event = eventNumber (eventWith revaluation (dayOf (bytes "2018-05-10")) never 1 0 2); valued = true; prevalente = bytes prevalente } ∷ [])
 
-abbrev answered : string.String → ℕ
-answered prevalente = first (checksOf context (admitted prevalente)) empty
+abbrev person : Key
+person = keyWritten "010" "101" "2018-05-01" letters
+
+-- both tracks' answers in quarter 2 of 2018: of a case where nothing stands, of its event where the case stands
+abbrev answered : string.String → List ℕ
+answered prevalente =
+    first (checksOf (declared 2018 2) (admitted person prevalente)) empty ∷
+    first (checksOf (declared 2018 2) (valuedAnew person prevalente)) (next (admitted person "250") empty) ∷
+    []
+
+-- the first bytes of the row that an accepted insertion leaves behind the header
+abbrev rowOf : Key → List ℕ
+rowOf key = take 6 (drop 4 (encode siad 95 (next (admitted key "250") empty)))
 
 abbrev pub holds : PCase → Bool
 holds (is-day t n) = isDate (bytes t) && eqb (dayOf (bytes t)) n
 holds (no-day t) = not (isDate (bytes t))
-holds (in-quarter y q t) = isDate (bytes t) && inQuarter y q (dayOf (bytes t))
-holds (out-of-quarter y q t) = isDate (bytes t) && not (inQuarter y q (dayOf (bytes t)))
+holds (in-quarter y q t) = isDate (bytes t) && not (outOfQuarter (declared y q) (dayOf (bytes t)))
+holds (out-of-quarter y q t) = isDate (bytes t) && outOfQuarter (declared y q) (dayOf (bytes t))
 holds (share a b c d) = shared a b c d
 holds (apart a b c d) = not (shared a b c d)
-holds (gives-13 p) = eqb (answered p) 13
-holds (gives-no-13 p) = eqb (answered p) 0
+holds (gives-13 p) = same (answered p) (13 ∷ 13 ∷ [])
+holds (gives-no-13 p) = same (answered p) (0 ∷ 0 ∷ [])
 holds (zero-register n r) = isSound (replicate n 0) && eqb (room siad n) r
-holds (row-begins region asl day id bs) = same (take 6 (digits rowBytes (rowNumber rowBytes (keyFields (keyWritten region asl day id))))) bs
+holds (row-begins region asl day id bs) = same (rowOf (keyWritten region asl day id)) bs
 
 abbrev pub cases : List PCase
 cases =
-    -- 1: "1900-01-01 is 0. 2099-12-31 is 73,048. 2000-02-29 is 36,583. 1900-02-29 is no day."
+    -- P1: "1900-01-01 is 0, 2099-12-31 is 73,048, 2000-02-29 is 36,583", "1900-02-29 is no day"
     is-day "1900-01-01" 0 ∷
     is-day "2099-12-31" 73048 ∷
     is-day "2000-02-29" 36583 ∷
     no-day "1900-02-29" ∷
-    -- 2: "In quarter 2 of 2018: 2018-06-30 in, 2018-07-01 out."
+    -- P2: "2018-06-30 is in quarter 2 of 2018", "2018-07-01 is not"
     in-quarter 2018 2 "2018-06-30" ∷
     out-of-quarter 2018 2 "2018-07-01" ∷
-    -- 3: "Suspensions 05-03 to 05-05 and 05-05 to 05-09 share a day; beginning 05-06, they don't."
+    -- P3: "suspensions 05-03 to 05-05 and 05-05 to 05-09 share a day", "05-03 to 05-05 and 05-06 to 05-09 don't"
     share "2018-05-03" "2018-05-05" "2018-05-05" "2018-05-09" ∷
     apart "2018-05-03" "2018-05-05" "2018-05-06" "2018-05-09" ∷
-    -- 4: "Prevalente `000` gives 13, `0000` doesn't."
+    -- P4: "prevalente `000` gives 13", "`0000` doesn't: the same record of Track 1 gives 0"
     gives-13 "000" ∷
     gives-no-13 "0000" ∷
-    -- 5: "A zero register of 4 or 94 bytes is sound with room 0, of 95 with room 1."
+    -- P5: "a zero register of 4 or of 94 bytes is sound, with room 0", "one of 95 is, with room 1"
     zero-register 4 0 ∷
     zero-register 94 0 ∷
     zero-register 95 1 ∷
-    -- 6: "Region 010, ASL 101, 2018-05-01, Id_Rec beginning A: the row begins 0A 62 C1 8A A3 4E."
+    -- P6: "region 010, ASL 101, 2018-05-01, Id_Rec of letters A", "the row begins 0A 62 C1 8A A3 4E"
     row-begins "010" "101" "2018-05-01" letters (0x0A ∷ 0x62 ∷ 0xC1 ∷ 0x8A ∷ 0xA3 ∷ 0x4E ∷ []) ∷
     []

@@ -1,2 +1,2 @@
-// No code: document 01's P cases, which are proved of the definitions (specs/Table.antt).
+// No code: the P cases (RULES.md, 12), which are proved of the definitions (specs/Table.antt).
 fn nothing() {}

@@ -10,13 +10,14 @@ use Rattle.model.proofs.TransmissionLaws.{sequences}
 use Rattle.model.specs.Map.{find, twice}
 use Rattle.model.specs.Checks.{first}
 use Rattle.model.specs.Checks as model
-use Rattle.model.specs.Flow.{State, Good, t14, t15, t17, t22}
+use Rattle.model.specs.Flow.{State, Good}
+use Rattle.model.specs.Anomalies.{t14, t15, t17, t22}
 use Rattle.model.specs.Log.{Lawful}
 use Rattle.model.specs.Demands.{Demand2, Demand3, Discarded, OneOrMany, Sequences, Conserved}
 use Rattle.home_care.specs.Record.{Record, admission, events}
 use Rattle.home_care.specs.Anomalies.{Context}
 use Rattle.checks.specs.Flow.{flow}
-use Rattle.checks.specs.Checks.{checksOf, siadMachine}
+use Rattle.checks.specs.CheckOrder.{checksOf, siadMachine}
 
 module _ (c : Context) where
   -- no check has the number 0, which means accepted
@@ -46,7 +47,7 @@ module _ (c : Context) where
   not17 s (admission h a) e = clear 17 (checksOf c (admission h a)) s (numbered (admission h a)) e
   not17 s (events h es) e = clear 17 (checksOf c (events h es)) s (numbered (events h es)) e
 
-  -- "Answer 0 means accepted": a record is answered 0 exactly when none of its track's anomalies holds, else the first that holds
+  -- J1: "0 is acceptance": a record is answered 0 exactly when none of its track's anomalies holds, else the first that holds
   pub siad-demand2 : Demand2 (checksOf c) (siadMachine c)
   siad-demand2 = flow-demand2 flow (checksOf c) numbered
 
@@ -54,11 +55,11 @@ module _ (c : Context) where
   pub siad-discarded : Discarded (siadMachine c)
   siad-discarded = discarded (siadMachine c)
 
-  -- the records of one file or of many
+  -- the records of one file or of many (for E12)
   pub siad-oneOrMany : OneOrMany (siadMachine c)
   siad-oneOrMany = oneOrMany (siadMachine c)
 
-  -- "Conserved by each file"
+  -- K1 and K2, of each file
   pub siad-conserved : (s : State ℕ ℕ) (rs : List Record) → Good s → Conserved flow (siadMachine c) s rs
   siad-conserved s rs g = conserved flow (checksOf c) lawful s rs g
 
@@ -67,6 +68,6 @@ module _ (c : Context) where
     pub siad-demand3 : {B : Type 0} (encode : State ℕ ℕ → B) → Demand3 flow (siadMachine c) entries encode
     siad-demand3 encode = demand3 flow (checksOf c) lawful entries encode
 
-    -- document 003, section 4.3: 14 and 15 are exactly the table's refusals
+    -- FAR 6.3, section 4.3, and J7: 14 and 15 are exactly the table's refusals
     pub siad-sequences : Sequences flow (siadMachine c) entries
     siad-sequences = sequences flow (checksOf c) lawful entries

@@ -21,18 +21,19 @@ use Rattle.model.proofs.ChecksLaws.{clear}
 use Rattle.model.proofs.MapLaws.{find-keep, keep-true, asc-keep, ext, has-put, has-keep, keep-has, has-putAll, has-delAll, key-any}
 use Rattle.model.proofs.FlowLaws.{event-found, good-applied}
 use Rattle.model.proofs.FlowHistories.{fits-law}
-use Rattle.register.specs.Layout.{caseRest, eventRest, caseNamed, room}
+use Rattle.register.specs.Layout.{caseNamed}
+use Rattle.register.specs.RoomAndEmptying.{room}
 use Rattle.register.specs.Sound.{eventsOf, valid}
-use Rattle.register.specs.Stored.{Fits}
-use Rattle.home_care.specs.Row.{keyBits, eventKeyBits, eventBits, keyNumber, siad, takenIn, eventNumberIn, eventRow, dateOf, endOf, eventIn}
+use Rattle.register.specs.Stored.{Fits, cases as caseGroup, events as eventGroup}
+use Rattle.home_care.specs.Row.{eventBits, keyNumber, siad, takenIn, eventNumberIn, eventRow, dateOf, endOf, eventIn}
 use Rattle.home_care.proofs.Table.{key-lt}
 use Rattle.home_care.specs.Anomalies.{isSuspension, t23, t25, Context}
 use Rattle.home_care.specs.Allowed.{caseRowAllowed, eventAllowed, eventRowAllowed}
-use Rattle.home_care.specs.Record.{Head, Admission, Said, Record, admission, events, eventNumbers}
+use Rattle.home_care.specs.Record.{Head, Admission, Said, Record, admission, events, eventNumbers, typeOf}
 use Rattle.home_care.proofs.ReadBack.{taken-read, event-read}
 use Rattle.soundness.specs.Sound.{eventsFree, siadRules}
-use Rattle.checks.specs.Flow.{typeOf, caseRow, eventRows, flow, next}
-use Rattle.checks.specs.Checks.{checksOf, afterwards}
+use Rattle.checks.specs.Flow.{caseRow, eventRows, flow, next}
+use Rattle.checks.specs.CheckOrder.{checksOf, afterwards}
 use Rattle.checks.specs.Readable.{Readable, KeyReadable, CaseReadable, eventReadable}
 use Rattle.checks.proofs.Accepted.{numbered, lawful, not17}
 use Rattle.checks.proofs.RowTests.{all-cases, all-events, sized, sized-fits, fits-sized, kept-all}
@@ -175,11 +176,11 @@ module _ (c : Context) (n : ℕ) (r-is : c .room ≡ room siad n) (s : State ℕ
           free = λ k q. ap (freeOf k) se ∙ free-any n s p k;
         }
 
-    fits1 : Fits keyBits (caseRest siad) (s .cases) → Fits keyBits (caseRest siad) (next (admission h a) s .cases)
+    fits1 : Fits caseGroup siad (s .cases) → Fits caseGroup siad (next (admission h a) s .cases)
     fits1 f =
-        sized-fits keyBits (caseRest siad) (next (admission h a) s .cases)
-        (all-cases (x ∷ []) [] nothing s (sized keyBits (caseRest siad)) t1
-        (single (sized keyBits (caseRest siad)) (case-row-sized (h .key) (a .case) kr cr (passed1 11))) (fits-sized keyBits (caseRest siad) (s .cases) f))
+        sized-fits caseGroup (next (admission h a) s .cases)
+        (all-cases (x ∷ []) [] nothing s (sized caseGroup) t1
+        (single (sized caseGroup) (case-row-sized (h .key) (a .case) kr cr (passed1 11))) (fits-sized caseGroup (s .cases) f))
 
   module _ (h : Head) (es : List Said) (kr : KeyReadable (h .key)) (w : all eventReadable es ≡ true) (e : first (checksOf c (events h es)) s ≡ 0) where
     abbrev own : ℕ
@@ -219,12 +220,12 @@ module _ (c : Context) (n : ℕ) (r-is : c .room ≡ room siad n) (s : State ℕ
           free = λ k q. all-free k (ℕ-discrete k own);
         }
 
-    fits2 : Fits eventKeyBits (eventRest siad) (s .events) → Fits eventKeyBits (eventRest siad) (next (events h es) s .events)
+    fits2 : Fits eventGroup siad (s .events) → Fits eventGroup siad (next (events h es) s .events)
     fits2 f =
-        sized-fits eventKeyBits (eventRest siad) (next (events h es) s .events)
-        (all-events [] rows nothing s (sized eventKeyBits (eventRest siad)) t2
-        (each-row own (sized eventKeyBits (eventRest siad)) es w (event-row-sized own (key-lt (h .key) (kr .fits))))
-        (fits-sized eventKeyBits (eventRest siad) (s .events) f))
+        sized-fits eventGroup (next (events h es) s .events)
+        (all-events [] rows nothing s (sized eventGroup) t2
+        (each-row own (sized eventGroup) es w (event-row-sized own (key-lt (h .key) (kr .fits))))
+        (fits-sized eventGroup (s .events) f))
 
   -- an accepted record that was read leaves a valid state
   pub valid-kept : (r : Record) → Readable r → first (checksOf c r) s ≡ 0 → valid siad siadRules n (next r s) ≡ true
@@ -232,12 +233,12 @@ module _ (c : Context) (n : ℕ) (r-is : c .room ≡ room siad n) (s : State ℕ
   valid-kept (events h es) w e = valid-of n (next (events h es) s) (valid2 h es (w .0) (w .1) e)
 
   -- and rows that have their sizes
-  pub cases-fit-kept : (r : Record) → Readable r → first (checksOf c r) s ≡ 0 → Fits keyBits (caseRest siad) (s .cases) → Fits keyBits (caseRest siad) (next r s .cases)
+  pub cases-fit-kept : (r : Record) → Readable r → first (checksOf c r) s ≡ 0 → Fits caseGroup siad (s .cases) → Fits caseGroup siad (next r s .cases)
   cases-fit-kept (admission h a) w e f = fits1 h a (w .0) (w .1) e f
-  cases-fit-kept (events h es) w e f = subst (Fits keyBits (caseRest siad)) (sym (same-cases s (eventRows (keyNumber (h .key)) es) (typeOf (h .tipo)))) f
+  cases-fit-kept (events h es) w e f = subst (Fits caseGroup siad) (sym (same-cases s (eventRows (keyNumber (h .key)) es) (typeOf (h .tipo)))) f
 
-  pub events-fit-kept : (r : Record) → Readable r → first (checksOf c r) s ≡ 0 → Fits eventKeyBits (eventRest siad) (s .events) → Fits eventKeyBits (eventRest siad) (next r s .events)
-  events-fit-kept (admission h a) w e f = subst (Fits eventKeyBits (eventRest siad)) (sym (same-events s (caseRow (h .key) (a .case) ∷ []) (typeOf (h .tipo)))) f
+  pub events-fit-kept : (r : Record) → Readable r → first (checksOf c r) s ≡ 0 → Fits eventGroup siad (s .events) → Fits eventGroup siad (next r s .events)
+  events-fit-kept (admission h a) w e f = subst (Fits eventGroup siad) (sym (same-events s (caseRow (h .key) (a .case) ∷ []) (typeOf (h .tipo)))) f
   events-fit-kept (events h es) w e f = fits2 h es (w .0) (w .1) e f
 
 -- SOUNDNESS KEPT: an accepted record that was read leaves a sound state sound

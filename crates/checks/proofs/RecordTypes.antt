@@ -4,7 +4,7 @@ use mathlib.Core.Path.{_≡_, refl}
 use mathlib.Core.Bool.{Bool, true, false, cond, not, _&&_}
 use lib.Dec.{eqb}
 use Rattle.model.specs.Transmission.{insert, vary, cancel, isInsert, isCancel}
-use Rattle.checks.specs.Flow.{typeOf}
+use Rattle.home_care.specs.Record.{typeOf}
 
 pub insert-is : (t : ℕ) → eqb t 73 ≡ isInsert (typeOf t)
 insert-is t = go (eqb t 73) (eqb t 86)

@@ -1,5 +1,5 @@
 -- Tests of every row and of every key of a map, as rows are put in and taken out.
-use Prim.Native.Nat.{ℕ, _^_}
+use Prim.Native.Nat.{ℕ, _^_, _<_}
 use mathlib.Core.Path.{_≡_, refl, ap, _∙_}
 use mathlib.Core.Bool.{Bool, true, false, cond, not, _&&_, _||_, false≢true}
 use mathlib.Core.List.{[], _∷_}
@@ -12,7 +12,8 @@ use Rattle.laws.proofs.Every.{and-tell}
 use Rattle.model.specs.Map.{Row, Map, isSome, find, has, put, keep, putAll, delAll}
 use Rattle.model.specs.Transmission.{Kind, insert, vary, cancel}
 use Rattle.model.specs.Flow.{State, applied}
-use Rattle.register.specs.Stored.{Fits}
+use Rattle.register.specs.Stored.{Group, cases, events, keyBitsOf, restOf, Sized, Fits}
+use Rattle.home_care.specs.Row.{siad}
 
 -- a test of every row
 module _ {F : Type 0} (q : Row F → Bool) where
@@ -110,23 +111,30 @@ module _ {F : Type 0} (p : ℕ → Bool) where
       go true ih = ap (λ (c : Bool). q x && c) ih
       go false ih = ih
 
--- rows have their sizes: as a test of every row
-abbrev pub sized : ℕ → ℕ → Row ℕ → Bool
-sized k w r = ltb (r .key) (2 ^ k) && ltb (r .val) (2 ^ w)
+-- rows have their sizes, none of whose bits are spare: as a test of every row
+abbrev pub sized : Group → Row ℕ → Bool
+sized g r = ltb (r .key) (2 ^ keyBitsOf g siad) && ltb (r .val) (2 ^ restOf g siad)
 
-pub sized-fits : (k w : ℕ) (m : Map ℕ) → all (sized k w) m ≡ true → Fits k w m
-unfolding all Fits
-sized-fits k w [] a = tt
-sized-fits k w (r ∷ m) a =
-    let e : sized k w r ≡ true = and-left (sized k w r) (all (sized k w) m) a in (
-      (ltb-true (r .key) (2 ^ k) (and-left (ltb (r .key) (2 ^ k)) (ltb (r .val) (2 ^ w)) e), ltb-true (r .val) (2 ^ w) (and-right (ltb (r .key) (2 ^ k)) (ltb (r .val) (2 ^ w)) e)),
-      sized-fits k w m (and-right (sized k w r) (all (sized k w) m) a),
-    )
+both-sizes : (g : Group) (r : Row ℕ) → sized g r ≡ true → (r .key < 2 ^ keyBitsOf g siad) × (r .val < 2 ^ restOf g siad)
+both-sizes g r e =
+    let k : Bool = ltb (r .key) (2 ^ keyBitsOf g siad) in
+    let v : Bool = ltb (r .val) (2 ^ restOf g siad) in
+    (ltb-true (r .key) (2 ^ keyBitsOf g siad) (and-left k v e), ltb-true (r .val) (2 ^ restOf g siad) (and-right k v e))
 
-pub fits-sized : (k w : ℕ) (m : Map ℕ) → Fits k w m → all (sized k w) m ≡ true
+sized-row : (g : Group) (r : Row ℕ) → sized g r ≡ true → Sized g siad r
+sized-row cases r e = let b = both-sizes cases r e in (b .0, b .1, refl)
+sized-row events r e = let b = both-sizes events r e in (b .0, b .1, refl)
+
+row-sized : (g : Group) (r : Row ℕ) → Sized g siad r → sized g r ≡ true
+row-sized cases r f = and-tell _ _ (lt-ltb _ _ (f .0)) (lt-ltb _ _ (f .1))
+row-sized events r f = and-tell _ _ (lt-ltb _ _ (f .0)) (lt-ltb _ _ (f .1))
+
+pub sized-fits : (g : Group) (m : Map ℕ) → all (sized g) m ≡ true → Fits g siad m
 unfolding all Fits
-fits-sized k w [] f = refl
-fits-sized k w (r ∷ m) f =
-    and-tell (sized k w r) (all (sized k w) m)
-    (and-tell (ltb (r .key) (2 ^ k)) (ltb (r .val) (2 ^ w)) (lt-ltb (r .key) (2 ^ k) (f .0 .0)) (lt-ltb (r .val) (2 ^ w) (f .0 .1)))
-    (fits-sized k w m (f .1))
+sized-fits g [] a = tt
+sized-fits g (r ∷ m) a = (sized-row g r (and-left (sized g r) (all (sized g) m) a), sized-fits g m (and-right (sized g r) (all (sized g) m) a))
+
+pub fits-sized : (g : Group) (m : Map ℕ) → Fits g siad m → all (sized g) m ≡ true
+unfolding all Fits
+fits-sized g [] f = refl
+fits-sized g (r ∷ m) f = and-tell (sized g r) (all (sized g) m) (row-sized g r (f .0)) (fits-sized g m (f .1))

@@ -10,9 +10,10 @@ use borrow.Author.Tests.{eqb-true, ltb-true, ltb-false, lt-ltb, le-leb, eq-eqb}
 use Rattle.laws.specs.Lists.{all}
 use Rattle.laws.proofs.Truth.{and-left, and-right, or-left, or-right}
 use Rattle.laws.proofs.Every.{and-tell, not-tell}
-use Rattle.days.specs.Calendar.{yearOf, yearsTo, firstOf}
+use Rattle.days.specs.DayNumbers.{yearOf, yearsTo, firstOf}
 use Rattle.model.specs.Map.{Row, has}
 use Rattle.register.specs.Layout.{caseRest, eventRest, caseNamed}
+use Rattle.register.specs.Stored.{cases, events}
 use Rattle.home_care.specs.Row.{Key, Case, keyBits, eventKeyBits, eventBits, keyNumber, caseNumber, siad, casePad, eventNumberIn, eventPad, eventRow, eventIn}
 use Rattle.home_care.specs.Fits.{CaseFits}
 use Rattle.home_care.proofs.Table.{key-lt, case-lt}
@@ -54,7 +55,7 @@ module _ (k : Key) (c : Case) (kr : KeyReadable k) (cr : CaseReadable c) (no11 :
         scales-length = cr .scales-length;
       }
 
-  pub case-row-sized : sized keyBits (caseRest siad) (caseRow k c) ≡ true
+  pub case-row-sized : sized cases (caseRow k c) ≡ true
   case-row-sized =
       and-tell (ltb (keyNumber k) (2 ^ keyBits)) (ltb (caseRow k c .val) (2 ^ caseRest siad))
       (lt-ltb (keyNumber k) (2 ^ keyBits) (key-lt k (kr .fits)))
@@ -97,7 +98,7 @@ module _ (c : ℕ) where
       and-tell (eventAllowed (eventIn (eventNumberIn (eventRow c e)))) (eqb (eventPad (eventRow c e)) 0)
       (ap (λ (n : ℕ). eventAllowed (eventIn n)) (event-read c e l) ∙ a) (eq-eqb (eventPad (eventRow c e)) 0 (event-pad c e l))
 
-  pub event-row-sized : c < 2 ^ keyBits → (e : ℕ) → e < 2 ^ eventBits → eventAllowed (eventIn e) ≡ true → sized eventKeyBits (eventRest siad) (eventRow c e) ≡ true
+  pub event-row-sized : c < 2 ^ keyBits → (e : ℕ) → e < 2 ^ eventBits → eventAllowed (eventIn e) ≡ true → sized events (eventRow c e) ≡ true
   event-row-sized g e l a =
       and-tell (ltb (eventRow c e .key) (2 ^ eventKeyBits)) (ltb (eventRow c e .val) (2 ^ eventRest siad))
       (lt-ltb (eventRow c e .key) (2 ^ eventKeyBits) (event-key-lt c e l g)) (lt-ltb (eventRow c e .val) (2 ^ eventRest siad) (event-val-lt c e l))

@@ -1,4 +1,4 @@
--- "Sound means", taken apart: what stands, condition by condition, and put together again.
+-- What sound means (RULES.md, 5), taken apart: what stands, condition by condition, and put together again.
 use Prim.Native.Nat.{ℕ, _+_, _≤_}
 use mathlib.Core.Path.{_≡_, refl, sym, ap, _∙_}
 use mathlib.Core.Bool.{Bool, true, false, not, _&&_, _||_, true≢false, false≢true}
@@ -12,13 +12,14 @@ use Rattle.laws.proofs.Every.{or-tell, not-tell}
 use Rattle.model.specs.Map.{Row, Map, has}
 use Rattle.model.specs.Flow.{State, Good}
 use Rattle.rows.specs.Packing.{each, Fit}
-use Rattle.register.specs.Layout.{caseRest, eventRest, caseNamed, room}
+use Rattle.register.specs.Layout.{caseNamed}
+use Rattle.register.specs.RoomAndEmptying.{room}
 use Rattle.register.specs.State.{stateOf}
-use Rattle.register.specs.Stored.{Fits}
+use Rattle.register.specs.Stored.{Fits, cases, events}
 use Rattle.register.specs.Sound.{ascending, eventsOf, valid}
 use Rattle.register.proofs.Ascending.{asc-told, asc-tell}
 use Rattle.register.proofs.SoundLaws.{sound-valid}
-use Rattle.home_care.specs.Row.{keyBits, eventKeyBits, siad, takenIn, eventNumberIn, dateOf, endOf}
+use Rattle.home_care.specs.Row.{siad, takenIn, eventNumberIn, dateOf, endOf}
 use Rattle.home_care.specs.Anomalies.{isSuspension, t23, t25, t26, t27, t28}
 use Rattle.home_care.specs.Allowed.{caseRowAllowed, eventRowAllowed}
 use Rattle.home_care.proofs.Laid.{laid-siad}
@@ -29,8 +30,8 @@ use Rattle.checks.proofs.RowTests.{all-key, key-all, keep-no}
 -- what stands is valid in a register of n bytes, and its rows have their sizes
 pub record Sound (n : ℕ) (s : State ℕ ℕ) : Type 0 where
   pub is-valid : valid siad siadRules n s ≡ true
-  pub cases-fit : Fits keyBits (caseRest siad) (s .cases)
-  pub events-fit : Fits eventKeyBits (eventRest siad) (s .events)
+  pub cases-fit : Fits cases siad (s .cases)
+  pub events-fit : Fits events siad (s .events)
 
 -- the state of a sound register
 pub sound-state : (reg : List ℕ) → Fit (each 8 reg) → isSound reg ≡ true → Sound (length reg) (stateOf siad reg)

@@ -8,10 +8,8 @@ use lib.Dec.{ltb}
 use borrow.Author.Tests.{lt-ltb}
 use Rattle.laws.specs.Lists.{all}
 use Rattle.laws.proofs.Every.{and-tell}
-use Rattle.codes.specs.Ranges.{inRanges}
-use Rattle.codes.specs.Chars.{alnums, idChars}
-use Rattle.codes.specs.Codes.{regions}
-use Rattle.days.specs.Calendar.{dayCount}
+use Rattle.codes.specs.CodesAndCharacters.{inRanges, alnums, idChars, regions}
+use Rattle.days.specs.DayNumbers.{dayCount}
 use Rattle.home_care.specs.Row.{Key, Case, eventBits, eventNumber, eventIn}
 use Rattle.home_care.specs.Fits.{CaseFits}
 use Rattle.home_care.proofs.Table.{event-lt}

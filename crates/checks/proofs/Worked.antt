@@ -1,4 +1,4 @@
--- A history over one case's real 662-bit key, computed: the answers that document 01 gives, and what stands afterwards.
+-- A history over one case's real 662-bit key, computed: the answers that the rules give, and what stands afterwards.
 use Prim.Native.Nat.{ℕ}
 use Prim.Native.Char.{Char, code}
 use Prim.Native.String as string
@@ -6,9 +6,8 @@ use mathlib.Core.Path.{_≡_, refl}
 use mathlib.Core.Bool.{false}
 use mathlib.Core.List.{List, [], _∷_, map}
 use lib.ListN.{replicate}
-use Rattle.laws.specs.Lists.{all, any, same, somePair}
-use Rattle.laws.specs.Text.{bytes}
-use Rattle.days.specs.Calendar.{firstOf, dayNumber, yearsTo}
+use Rattle.laws.specs.Lists.{all, any, same, somePair, bytes}
+use Rattle.days.specs.DayNumbers.{firstOf, dayNumber, yearsTo}
 use Rattle.days.specs.Quarters.{firstDay, lastDay}
 use Rattle.model.specs.Map.{find, put, keep, putAll, delAll, anyIn, allIn, twice}
 use Rattle.model.specs.Checks.{first}
@@ -20,7 +19,7 @@ use Rattle.home_care.specs.Fits.{eventWith}
 use Rattle.home_care.specs.Record.{Head, Said, Record, padded, admission, events, eventNumbers}
 use Rattle.home_care.specs.Anomalies.{Context}
 use Rattle.checks.specs.Flow.{eventRows}
-use Rattle.checks.specs.Checks.{siadMachine}
+use Rattle.checks.specs.CheckOrder.{siadMachine}
 
 -- quarter 2 of 2018, and room for four rows
 abbrev context : Context

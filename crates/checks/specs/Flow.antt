@@ -1,19 +1,12 @@
--- The home-care flow: what a record inserts, varies or cancels (document 01, "The register", "Anomalies of a record").
+-- The home-care flow: what a record inserts, varies or cancels (RULES.md, 4 The register, 8 What storing does).
 use Prim.Native.Nat.{ℕ, _-_, _*_, _^_}
-use Prim.Native.Char.{code}
-use mathlib.Core.Bool.{false, cond}
+use mathlib.Core.Bool.{false}
 use mathlib.Core.List.{List, [], _∷_}
-use lib.Dec.{eqb}
 use Rattle.model.specs.Map.{Row, Map}
-use Rattle.model.specs.Transmission.{Kind, insert, vary, cancel}
 use Rattle.model.specs.Flow.{State, Flow, applied}
 use Rattle.register.specs.Layout.{caseRest}
 use Rattle.home_care.specs.Row.{Key, Case, caseBits, keyNumber, caseNumber, siad, eventRow}
-use Rattle.home_care.specs.Record.{Head, Said, Record, admission, events}
-
--- "`tipo` is I, V or C"
-abbrev pub typeOf : ℕ → Kind
-typeOf b = cond (eqb b (code "I")) insert (cond (eqb b (code "V")) vary cancel)
+use Rattle.home_care.specs.Record.{Head, Said, Record, admission, events, typeOf}
 
 abbrev pub headIn : Record → Head
 headIn (admission h a) = h

@@ -1,3 +1,3 @@
 pub mod Flow
-pub mod Checks
+pub mod CheckOrder
 pub mod Readable

@@ -1,4 +1,4 @@
--- What reading a record of the shape gives of the fields that are kept (document 01, "The shape of a record"), as the register asks it of its rows.
+-- What reading a record of the shape gives of the fields that are kept (RULES.md, 2 The shape of a record), as the register asks it of its rows.
 use Prim.Native.Nat.{_≤_, _^_}
 use mathlib.Core.Path.{_≡_}
 use mathlib.Core.Bool.{Bool, true, _&&_}
@@ -17,7 +17,7 @@ pub record KeyReadable (k : Key) : Type 0 where
   pub allowed : keyAllowed k ≡ true
   pub fits : KeyFits k
 
--- "3 to 5 characters, any that a text may hold", then zeros; six evaluation fields, RischioInfettivo 0 to 2. The birth year is left to 11
+-- V3: "3 to 5 characters that a text may hold, then zeros"; six evaluation fields, RischioInfettivo 0 to 2. The birth year is left to 11
 pub record CaseReadable (c : Case) : Type 0 where
   pub prevalente : prevalenteFilled (c .prevalente) ≡ true
   pub prevalente-fits : Fit (each 7 (c .prevalente))

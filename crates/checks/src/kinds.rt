@@ -1,7 +1,7 @@
 // The type of a record: I, V or C.
 ghost use mathlib.Core.Path.{_≡_};
 ghost use Rattle.model.specs.Transmission.{isInsert, isCancel};
-ghost use Rattle.checks.specs.Flow.{typeOf};
+ghost use Rattle.home_care.specs.Record.{typeOf};
 
 pub fn inserts(tipo: u8) -> bool
     ensures { λ r. ⌜ r ≡ isInsert (typeOf tipo) ⌝ }

@@ -8,12 +8,12 @@ use native.Mathlib.Omega.{arith}
 use native.Mathlib.Nat.{pow-suc, mul-le-mul-right, pow-le-pow-right}
 use lib.Dec.{leb}
 use lib.ListN.{length, drop, getD, drop-of-length-le}
-use borrow.Author.Tests.{le-leb, lt-leb, leb-true, leb-false}
+use borrow.Author.Tests.{le-leb, leb-true, leb-false}
 use Rattle.laws.specs.Decimal.{isDigit, decimalAfter, decimal}
 use Rattle.laws.specs.Lists.{all}
 use Rattle.laws.proofs.Places.{front}
 use Rattle.laws.proofs.Truth.{and-left, and-right}
-use Rattle.codes.specs.Digits.{upTo}
+use Rattle.codes.specs.Capped.{upTo}
 
 module _ (most : ℕ) where
   pub up-to-low : (n : ℕ) → n ≤ most → upTo most n ≡ n

@@ -9,7 +9,7 @@ use borrow.Author.Tests.{leb-true, le-leb, lt-leb}
 use Rattle.laws.specs.Lists.{all, any}
 use Rattle.laws.proofs.Order.{Tri, below, equal, above, tri, eqb-sym}
 use Rattle.laws.proofs.Truth.{and-left, and-right, and-false}
-use Rattle.codes.specs.Ranges.{Range, _to_, only, inRanges}
+use Rattle.codes.specs.CodesAndCharacters.{Range, _to_, only, inRanges}
 
 -- from a number to itself
 pub only-is : (k n : ℕ) → leb k n && leb n k ≡ eqb n k

@@ -1,4 +1,2 @@
-pub mod Ranges
-pub mod Chars
-pub mod Codes
-pub mod Digits
+pub mod Capped
+pub mod CodesAndCharacters

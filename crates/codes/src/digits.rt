@@ -3,7 +3,7 @@ ghost use mathlib.Core.Path.{_≡_};
 ghost use Prim.Native.Nat.{_-_, _<_, _≤_};
 ghost use Rattle.laws.specs.Decimal.{isDigit, decimal};
 ghost use Rattle.laws.specs.Lists.{all};
-ghost use Rattle.codes.specs.Digits.{upTo};
+ghost use Rattle.codes.specs.Capped.{upTo};
 
 // The number that a text writes, and whether each byte of it is a digit.
 pub struct Digits {

@@ -1,4 +1,4 @@
-// Sets of characters, digits and code lists (document 01, "The shape of a record").
-pub mod chars;
+// Sets of characters, digits and code lists (RULES.md, 2 The shape of a record).
+pub mod characters;
+pub mod code_lists;
 pub mod digits;
-pub mod lists;

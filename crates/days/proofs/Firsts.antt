@@ -6,7 +6,7 @@ use mathlib.Core.List.{List, [], _∷_}
 use native.Mathlib.Nat.{zero-add}
 use native.Mathlib.Omega.{arith}
 use lib.ListN.{length, getD}
-use Rattle.days.specs.Calendar.{monthOf, firstOf, lengthOf, dayNumber, dayCount}
+use Rattle.days.specs.DayNumbers.{monthOf, firstOf, lengthOf, dayNumber, dayCount}
 use Rattle.days.proofs.Follows.{follows, at-entry, at-end}
 use Rattle.days.proofs.Months.{first-next, first-mono, length-between, month-length, RealDay}
 

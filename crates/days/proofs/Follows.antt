@@ -8,7 +8,7 @@ use lib.Dec.{eqb}
 use lib.ListN.{length, getD}
 use borrow.Author.Tests.{eqb-true}
 use Rattle.laws.proofs.Truth.{and-left, and-right}
-use Rattle.days.specs.Calendar.{lengthOf, firstOf, dayCount}
+use Rattle.days.specs.DayNumbers.{lengthOf, firstOf, dayCount}
 
 -- the entries from month k on, the first of which is x; after the last comes the day after all days
 abbrev pub follows : ℕ → ℕ → List ℕ → Bool

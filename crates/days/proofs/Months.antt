@@ -11,7 +11,7 @@ use borrow.Author.Tests.{leb-true, le-leb}
 use Rattle.laws.specs.Lists.{all}
 use Rattle.laws.proofs.Lists.{all-at}
 use Rattle.laws.proofs.Truth.{and-left, and-right}
-use Rattle.days.specs.Calendar.{isLeap, monthLength, monthOf, lengthOf, firstOf, realDay}
+use Rattle.days.specs.DayNumbers.{isLeap, monthLength, monthOf, lengthOf, firstOf, realDay}
 
 pub first-next : (k : ℕ) → firstOf (k + 1) ≡ firstOf k + lengthOf k
 unfolding firstOf

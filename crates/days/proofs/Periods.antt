@@ -6,7 +6,7 @@ use lib.Dec.{leb}
 use native.Mathlib.Omega.{arith}
 use borrow.Author.Tests.{leb-true}
 use Rattle.laws.proofs.Truth.{and-left, and-right}
-use Rattle.days.specs.Calendar.{monthLength, realDay}
+use Rattle.days.specs.DayNumbers.{monthLength, realDay}
 use Rattle.days.specs.Quarters.{isPeriod}
 use Rattle.days.proofs.Months.{is-real, month-between}
 

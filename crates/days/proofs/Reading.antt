@@ -12,7 +12,7 @@ use borrow.Author.Tests.{eq-eqb, ne-eqb}
 use Rattle.laws.specs.Decimal.{isDigit, decimal}
 use Rattle.laws.specs.Lists.{all}
 use Rattle.laws.proofs.Truth.{and-false, and-right}
-use Rattle.days.specs.Calendar.{realDay, dayNumber}
+use Rattle.days.specs.DayNumbers.{realDay, dayNumber}
 use Rattle.days.specs.Dates.{yearText, monthText, dayText, hasDateForm, isDate, dayOf, undated, dated, dateAt}
 use Rattle.days.specs.View.{DateIs}
 

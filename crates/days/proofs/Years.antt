@@ -3,7 +3,7 @@ use Prim.Native.Nat.{ℕ, zero, suc, _+_, _-_, _*_, _/_, _≤_, _<_}
 use mathlib.Core.Path.{_≡_, refl, sym, ap, _∙_}
 use native.Mathlib.Omega.{arith}
 use borrow.Author.Tests.{le-leb, lt-leb}
-use Rattle.days.specs.Calendar.{monthLength, monthOf, lengthOf, firstOf, dayNumber, yearsTo, yearOf}
+use Rattle.days.specs.DayNumbers.{monthLength, monthOf, lengthOf, firstOf, dayNumber, yearsTo, yearOf}
 use Rattle.days.proofs.Months.{first-mono, first-next, month-length, years-long, RealDay}
 
 -- year j has begun on day n

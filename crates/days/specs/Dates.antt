@@ -1,4 +1,4 @@
--- Dates as text (document 01, "The shape of a record": "Dates are exactly AAAA-MM-GG, real Gregorian days .. no time zone").
+-- Dates as text (RULES.md, D3: "A date is exactly AAAA-MM-GG, ten bytes, a real day of those, without time zone").
 use Prim.Native.Nat.{ℕ}
 use Prim.Native.Char.{code}
 use mathlib.Core.Bool.{Bool, cond, _&&_}
@@ -7,7 +7,7 @@ use lib.Dec.{eqb}
 use lib.ListN.{length, take, drop, getD}
 use Rattle.laws.specs.Decimal.{isDigit, decimal}
 use Rattle.laws.specs.Lists.{all}
-use Rattle.days.specs.Calendar.{dayNumber, realDay}
+use Rattle.days.specs.DayNumbers.{dayNumber, realDay}
 
 -- the year, month and day of a text AAAA-MM-GG
 abbrev pub yearText : List ℕ → List ℕ
@@ -19,7 +19,7 @@ monthText t = take 2 (drop 5 t)
 abbrev pub dayText : List ℕ → List ℕ
 dayText t = take 2 (drop 8 t)
 
--- "exactly AAAA-MM-GG"
+-- D3: "exactly AAAA-MM-GG, ten bytes"
 abbrev pub hasDateForm : List ℕ → Bool
 hasDateForm t =
     eqb (length t) 10 && (all isDigit (yearText t) && (eqb (getD t 4 0) (code "-") && (all isDigit (monthText t) && (eqb (getD t 7 0) (code "-") && all isDigit (dayText t)))))

@@ -1,4 +1,4 @@
-pub mod Calendar
+pub mod DayNumbers
 pub mod Table
 pub mod Dates
 pub mod Quarters

@@ -1,9 +1,9 @@
--- The lent table of first-of-month day numbers (document 01, "Day numbers": "a table of 2,400 first-of-month day numbers").
+-- The lent table of first-of-month day numbers (RULES.md, D4: "a table of the numbers of 2,400 firsts of a month").
 use Prim.Native.Nat.{ℕ, _<_}
 use mathlib.Core.Path.{_≡_}
 use mathlib.Core.List.{List}
 use lib.ListN.{getD}
-use Rattle.days.specs.Calendar.{firstOf}
+use Rattle.days.specs.DayNumbers.{firstOf}
 
 -- it holds the first day of each month
 unfoldable pub Firsts : List ℕ → Type 0

@@ -5,7 +5,7 @@ use mathlib.Core.Bool.{true, false, cond}
 use mathlib.Core.List.{List}
 use lib.ListN.{length, take, drop}
 use Rattle.laws.specs.Decimal.{decimal}
-use Rattle.days.specs.Calendar.{dayCount}
+use Rattle.days.specs.DayNumbers.{dayCount}
 use Rattle.days.specs.Dates.{yearText, monthText, dayText, isDate, Dated, undated, dated}
 use Rattle.days.specs.Quarters.{isPeriod, firstDay, lastDay}
 use Rattle.days.specs.declared.dates.Date.{Date}
@@ -36,6 +36,11 @@ pub record DateIs (text : List ℕ) (y m d : ℕ) : Type 0 where
 abbrev pub PartsAt : List ℕ → ℕ → Parts → Type 0
 PartsAt s at (parts.Is y m d) = DateIs (take 10 (drop at s)) y m d × (at + 10 ≤ length s)
 PartsAt s at parts.Refused = isDate (take 10 (drop at s)) ≡ false
+
+-- F1: the number for each answer
+abbrev pub quarterAnswer : Quarter → ℕ
+quarterAnswer (quarter.Days first last) = 0
+quarterAnswer quarter.Refused = 1
 
 -- the first and the last day of an allowed period
 abbrev pub quarterOf : ℕ → ℕ → Quarter

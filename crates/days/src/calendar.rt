@@ -2,7 +2,7 @@
 ghost use mathlib.Core.Path.{_≡_};
 ghost use mathlib.Core.Bool.{true};
 ghost use Prim.Native.Nat.{_<_};
-ghost use Rattle.days.specs.Calendar.{isLeap, monthLength, dayNumber, realDay, dayCount, yearOf};
+ghost use Rattle.days.specs.DayNumbers.{isLeap, monthLength, dayNumber, realDay, dayCount, yearOf};
 ghost use Rattle.days.specs.Table.{Firsts};
 use crate::table::first_of;
 

@@ -1,4 +1,4 @@
-// Day numbers, dates as text, quarters (document 01, "Day numbers").
+// Day numbers, dates as text, quarters (RULES.md, 3 Day numbers).
 pub mod calendar;
 pub mod dates;
 pub mod quarters;

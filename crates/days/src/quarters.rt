@@ -1,11 +1,11 @@
 // The declared quarter.
 ghost use mathlib.Core.Path.{_≡_};
-ghost use mathlib.Core.Bool.{true, _&&_};
+ghost use mathlib.Core.Bool.{true, cond, _&&_};
 ghost use Prim.Native.Nat.{_<_};
 ghost use lib.Dec.{leb};
-ghost use Rattle.days.specs.Calendar.{dayNumber, realDay, dayCount};
+ghost use Rattle.days.specs.DayNumbers.{dayNumber, realDay, dayCount};
 ghost use Rattle.days.specs.Quarters.{isPeriod};
-ghost use Rattle.days.specs.View.{quarterOf};
+ghost use Rattle.days.specs.View.{quarterOf, quarterAnswer};
 use crate::calendar::day_number;
 use crate::calendar::month_length;
 use crate::table::make;
@@ -33,7 +33,7 @@ fn numbered(y: u32, m: u32, d: u32) -> u32
 
 // The quarter's first and last day, or the refusal of a year or a quarter that is not allowed.
 pub fn quarter_days(year: u64, quarter: u64) -> Quarter
-    ensures { λ r. ⌜ r ≡ quarterOf year quarter ⌝ }
+    ensures { λ r. ⌜ (r ≡ quarterOf year quarter) × (quarterAnswer r ≡ cond (isPeriod year quarter) 0 1) ⌝ }
 {
     if !is_period(year, quarter) {
         return Quarter::Refused;

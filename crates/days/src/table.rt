@@ -2,7 +2,7 @@
 // wherever it is named).
 ghost use mathlib.Core.Path.{_≡_};
 ghost use Prim.Native.Nat.{_<_};
-ghost use Rattle.days.specs.Calendar.{firstOf, dayCount};
+ghost use Rattle.days.specs.DayNumbers.{firstOf, dayCount};
 ghost use Rattle.days.specs.Table.{Firsts};
 
 const FIRSTS: [u32; 2400] = [

@@ -1,8 +1,9 @@
 // The calls for a host in C, one body each, over numbers and byte slices: no caller is trusted, and every lent byte is stated (host/siad.h declares them).
 ghost use mathlib.Core.Path.{_≡_};
-ghost use Rattle.register.specs.State.{emptied};
-ghost use Rattle.soundness.specs.Sound.{soundness, found};
-ghost use Rattle.intake.specs.Submitted.{callOf, submitted};
+ghost use Rattle.register.specs.RoomAndEmptying.{emptied};
+ghost use Rattle.soundness.specs.Sound.{soundness};
+ghost use Rattle.soundness.specs.Finding.{found};
+ghost use Rattle.intake.specs.FileAnswers.{callOf, submitted};
 ghost use Rattle.exports.specs.Told.{Told};
 use soundness::find::Lookup;
 
@@ -29,7 +30,7 @@ pub extern "C" fn siad_submit(
 pub extern "C" fn siad_empty(reg: &mut [u8]) -> u64
     ensures { λ r. ⌜ (r ≡ emptied (now (reg .entry)) .answer) × (now (reg .exit) ≡ emptied (now (reg .entry)) .register) ⌝ }
 {
-    register::store::empty(reg)
+    register::emptying::empty(reg)
 }
 
 // 0 for a sound register, else 3.

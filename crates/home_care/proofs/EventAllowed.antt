@@ -1,18 +1,17 @@
 -- What an event that is allowed fits, and its fields read back out of its number: one test serves the reader, the register and the checks.
 use Prim.Native.Nat.{ℕ, zero, suc, _^_, _≤_, _<_}
 use mathlib.Core.Path.{_≡_, refl, ap, _∙_}
-use mathlib.Core.Bool.{Bool, true, false, cond, _&&_, _||_, false≢true}
+use mathlib.Core.Bool.{Bool, true, false, cond, _&&_, false≢true}
 use mathlib.Core.Logic.{_⊎_, inl, inr, ⊎-elim}
 use native.Mathlib.Omega.{arith}
 use lib.Dec.{eqb, ltb, leb}
 use borrow.Author.Tests.{leb-true, eqb-true, ltb-true, lt-ltb}
 use Rattle.laws.specs.Lists.{all, any}
-use Rattle.laws.proofs.Truth.{and-left, and-right}
+use Rattle.laws.proofs.Truth.{and-left, and-right, either}
 use Rattle.laws.proofs.Every.{and-tell}
-use Rattle.codes.specs.Ranges.{inRanges}
-use Rattle.codes.specs.Codes.{revaluation, service, suspension, codesOf, confirmations}
+use Rattle.codes.specs.CodesAndCharacters.{inRanges, revaluation, service, suspension, codesOf, confirmations}
 use Rattle.codes.proofs.Ranges.{ranges-below}
-use Rattle.days.specs.Calendar.{dayCount}
+use Rattle.days.specs.DayNumbers.{dayCount}
 use Rattle.rows.specs.Packing.{packs}
 use Rattle.home_care.specs.Row.{Event, never, eventNumber, eventIn}
 use Rattle.home_care.specs.Fits.{EventFits}
@@ -43,10 +42,6 @@ module _ (e : Event) where
 cond-either : (t a b : Bool) → cond t a b ≡ true → (a ≡ true) ⊎ (b ≡ true)
 cond-either true a b e = inl e
 cond-either false a b e = inr e
-
-either : (a b : Bool) → a || b ≡ true → (a ≡ true) ⊎ (b ≡ true)
-either true b e = inl refl
-either false b e = inr e
 
 -- no kind above the four has a code
 listed-kind : (k c : ℕ) → inRanges (codesOf k) c ≡ true → k < 4

@@ -3,10 +3,9 @@ use Prim.Native.Nat.{ℕ}
 use mathlib.Core.Path.{_≡_, refl}
 use mathlib.Core.Bool.{Bool, true, false, cond, not, _&&_, _||_}
 use lib.Dec.{eqb, ltb, leb}
-use Rattle.codes.specs.Ranges.{inRanges}
-use Rattle.codes.specs.Codes.{codesOf, confirmations}
+use Rattle.codes.specs.CodesAndCharacters.{inRanges, codesOf, confirmations}
 use Rattle.codes.proofs.Ranges.{last-range}
-use Rattle.days.specs.Calendar.{dayCount}
+use Rattle.days.specs.DayNumbers.{dayCount}
 use Rattle.home_care.specs.Row.{never, kindOf, dateOf, endOf, codeOf, accessesOf, confermaOf, eventIn}
 use Rattle.home_care.specs.Allowed.{eventAllowed}
 use Rattle.home_care.specs.Anomalies.{shareDay}

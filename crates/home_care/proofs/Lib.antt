@@ -3,7 +3,6 @@ pub mod Laid
 pub mod Packed
 pub mod ReadBack
 pub mod RowFields
-pub mod RowPlace
 pub mod Table
 pub mod TextTests
 pub mod EventAllowed

@@ -1,18 +1,18 @@
 -- A record's key, case and events read back out of the rows that they make.
 use Prim.Native.Nat.{ℕ, _+_, _-_, _*_, _/_, _^_, _<_}
-use mathlib.Core.Path.{_≡_, refl, sym, ap, ap₂, _∙_}
-use mathlib.Core.List.{List, [], _∷_, _++_, append-assoc}
+use mathlib.Core.Path.{_≡_, refl, sym, ap, _∙_}
+use mathlib.Core.List.{List, [], _∷_, _++_}
 use native.Mathlib.Omega.{arith}
-use lib.ListN.{length, take, drop, getD, replicate}
-use lib.Seq.{take-at, drop-at}
-use Rattle.rows.specs.Packing.{Field, bits, each, packs, widths, values, unpacks}
-use Rattle.rows.proofs.Packing.{values-append, widths-append, fit-append, packs-append, unpacks-packs}
-use Rattle.rows.proofs.Bytes.{each-widths, each-values}
+use lib.ListN.{length, take, drop, getD}
+use lib.Pow.{shl-shr}
+use lib.Seq.{take-at, drop-at, take-all}
+use Rattle.rows.specs.Packing.{unpacks}
+use Rattle.rows.proofs.Packing.{unpacks-packs}
 use Rattle.register.proofs.RowBytes.{number-lt}
 use Rattle.register.specs.Layout.{caseRest, eventRest, caseNamed}
-use Rattle.home_care.specs.Row.{Key, Case, keyFields, caseFields, keyNumber, caseNumber, caseBits, eventBits, keyBits, eventKeyBits, siad, keyIn, caseIn, casePad, takenIn, eventNumberIn, eventPad, eventRow}
+use Rattle.home_care.specs.Row.{Key, Case, keyFields, caseFields, keyNumber, caseNumber, caseBits, eventBits, keyBits, eventKeyBits, siad, keyIn, caseOf, caseIn, casePad, takenIn, eventNumberIn, eventPad, eventRow}
 use Rattle.home_care.specs.Fits.{KeyFits, CaseFits}
-use Rattle.home_care.proofs.Table.{key-fit, case-fit, key-values, key-widths}
+use Rattle.home_care.proofs.Table.{key-fit, case-fit, key-values, key-widths, case-values, case-widths}
 
 abbrev keyFrom : List ℕ → Key
 keyFrom vs = record { region = getD vs 0 0; asl = take 3 (drop 1 vs); taken = getD vs 4 0; id = drop 5 vs }
@@ -33,43 +33,23 @@ key-read k h =
 pub taken-read : (k : Key) → KeyFits k → takenIn (keyNumber k) ≡ k .taken
 taken-read k h = ap (λ (j : Key). j .taken) (key-read k h)
 
--- a case's fields, and the zero bits behind them
-abbrev padded : Case → List Field
-padded c = caseFields c ++ (bits 7 0 ∷ [])
-
-case-values : (c : Case) → values (padded c) ≡ c .birth ∷ (c .prevalente ++ (c .scales ++ (0 ∷ [])))
-case-values c =
-    values-append (caseFields c) (bits 7 0 ∷ [])
-    ∙ ap (λ (l : List ℕ). c .birth ∷ (l ++ (0 ∷ [])))
-    (values-append (each 7 (c .prevalente)) (each 2 (c .scales)) ∙ ap₂ (λ (x y : List ℕ). x ++ y) (each-values 7 (c .prevalente)) (each-values 2 (c .scales)))
-    ∙ ap (λ (l : List ℕ). c .birth ∷ l) (append-assoc (c .prevalente) (c .scales) (0 ∷ []))
-
-case-widths : (c : Case) → CaseFits c → widths (padded c) ≡ 12 ∷ (replicate 5 7 ++ (replicate 6 2 ++ (7 ∷ [])))
-case-widths c h =
-    widths-append (caseFields c) (bits 7 0 ∷ [])
-    ∙ ap (λ (l : List ℕ). 12 ∷ (l ++ (7 ∷ [])))
-    (widths-append (each 7 (c .prevalente)) (each 2 (c .scales))
-    ∙ ap₂ (λ (x y : List ℕ). x ++ y) (each-widths 7 (c .prevalente) ∙ ap (λ (n : ℕ). replicate n 7) (h .prevalente-length)) (each-widths 2 (c .scales) ∙ ap (λ (n : ℕ). replicate n 2) (h .scales-length)))
-
 abbrev caseFrom : List ℕ → Case
 caseFrom vs = record { birth = getD vs 0 0; prevalente = take 5 (drop 1 vs); scales = take 6 (drop 6 vs) }
 
-case-parts : (b : ℕ) (p s : List ℕ) → length p ≡ 5 → length s ≡ 6 →
-    caseFrom (b ∷ (p ++ (s ++ (0 ∷ [])))) ≡ record { birth = b; prevalente = p; scales = s }
+case-parts : (b : ℕ) (p s : List ℕ) → length p ≡ 5 → length s ≡ 6 → caseFrom (b ∷ (p ++ s)) ≡ record { birth = b; prevalente = p; scales = s }
 case-parts b p s e f =
-    let x : take 5 (p ++ (s ++ (0 ∷ []))) ≡ p = take-at p (s ++ (0 ∷ [])) 5 e in
-    let y : take 6 (drop 5 (p ++ (s ++ (0 ∷ [])))) ≡ s = ap (take 6) (drop-at p (s ++ (0 ∷ [])) 5 e) ∙ take-at s (0 ∷ []) 6 f in
+    let x : take 5 (p ++ s) ≡ p = take-at p s 5 e in
+    let y : take 6 (drop 5 (p ++ s)) ≡ s = ap (take 6) (drop-at p s 5 e) ∙ take-all 6 s (omega arith) in
     λ i. record { birth = b; prevalente = x i; scales = y i }
 
-pub case-read : (c : Case) → CaseFits c → caseIn (caseNumber c * 2 ^ (caseRest siad - caseBits)) ≡ c
-unfolding packs
-case-read c h =
-    let e : caseNumber c * 2 ^ (caseRest siad - caseBits) ≡ caseNumber c * 2 ^ 7 + 0 = omega arith in
-    let v : caseNumber c * 2 ^ (caseRest siad - caseBits) ≡ packs (padded c) 0 = e ∙ sym (packs-append (caseFields c) (bits 7 0 ∷ []) 0) in
-    ap caseIn v
-    ∙ ap (λ (ws : List ℕ). caseFrom (unpacks ws (packs (padded c) 0))) (sym (case-widths c h))
-    ∙ ap caseFrom (unpacks-packs (padded c) 0 (fit-append (caseFields c) (bits 7 0 ∷ []) (case-fit c h) (omega arith, tt)) ∙ case-values c)
+case-back : (c : Case) → CaseFits c → caseOf (caseNumber c) ≡ c
+case-back c h =
+    ap (λ (ws : List ℕ). caseFrom (unpacks ws (caseNumber c))) (sym (case-widths c h))
+    ∙ ap caseFrom (unpacks-packs (caseFields c) 0 (case-fit c h) ∙ case-values c)
     ∙ case-parts (c .birth) (c .prevalente) (c .scales) (h .prevalente-length) (h .scales-length)
+
+pub case-read : (c : Case) → CaseFits c → caseIn (caseNumber c * 2 ^ (caseRest siad - caseBits)) ≡ c
+case-read c h = ap caseOf (shl-shr (caseNumber c) (caseRest siad - caseBits)) ∙ case-back c h
 
 pub case-pad : (n : ℕ) → casePad (n * 2 ^ (caseRest siad - caseBits)) ≡ 0
 case-pad n = omega arith

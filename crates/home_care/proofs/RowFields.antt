@@ -1,26 +1,25 @@
 -- The fields of a row where `get` and `read_run` find them.
-use Prim.Native.Nat.{ℕ, _+_, _-_, _*_, _/_, _%_, _^_, _<_}
+use Prim.Native.Nat.{ℕ, _+_, _-_, _*_, _/_, _%_, _^_, _≤_, _<_}
 use mathlib.Core.Path.{_≡_, refl, sym, ap, ap₂, _∙_}
 use mathlib.Core.Bool.{Bool, true, false, not, _&&_, _||_}
 use mathlib.Core.List.{List, [], _∷_, _++_}
+use native.Mathlib.Nat.{div-one}
 use native.Mathlib.Omega.{arith}
 use lib.Dec.{eqb, ltb, leb}
-use lib.ListN.{length, take, getD, replicate}
+use lib.ListN.{length, take, drop, getD, replicate}
 use lib.Pow.{field, mod-mod-pow, shr-shr}
 use lib.Seq.{take-at}
 use borrow.Author.Tests.{ltb-true}
 use Rattle.laws.specs.Lists.{all}
 use Rattle.laws.proofs.Truth.{and-left, and-right}
-use Rattle.codes.specs.Ranges.{inRanges}
-use Rattle.codes.specs.Chars.{alnums, idChars}
-use Rattle.codes.specs.Codes.{regions}
-use Rattle.days.specs.Calendar.{dayCount, yearOf}
+use Rattle.codes.specs.CodesAndCharacters.{inRanges, alnums, idChars, regions}
+use Rattle.days.specs.DayNumbers.{dayCount, yearOf}
 use Rattle.rows.specs.Packing.{fieldAt, unpacks, total, num, eachAt}
 use Rattle.rows.proofs.Fields.{field-up}
-use Rattle.register.specs.Layout.{caseRest, eventRest}
-use Rattle.register.specs.State.{split}
-use Rattle.home_care.specs.Row.{Key, siad, keyIn, caseIn, casePad, eventNumberIn, eventIn, eventPad}
-use Rattle.home_care.specs.Allowed.{keyAllowed, prevalenteAllowed, caseAllowed, caseRowAllowed, eventAllowed, eventRowAllowed}
+use Rattle.home_care.specs.Row.{Key, charBits, dayBits, keyWidths, caseWidths, keyBits, caseBits, eventBits, ownBits, pastOwn, caseZerosWide, eventZerosWide, keyIn, caseOf, caseInWide, casePadWide, eventNumberInWide, eventIn, eventPadWide}
+use Rattle.home_care.specs.Fits.{RowWidth, asCase, asEvent}
+use Rattle.home_care.specs.Anomalies.{firstBirth}
+use Rattle.home_care.specs.Allowed.{keyAllowed, prevalenteAllowed, caseRestAllowed, caseRowAllowedWide, eventAllowed, eventRowAllowedWide}
 
 total-append : (xs ys : List ℕ) → total (xs ++ ys) ≡ total xs + total ys
 total-append [] ys = omega arith
@@ -41,74 +40,143 @@ unpacks-low (w ∷ ws) e n =
     (ap (λ (z : ℕ). fieldAt (total ws) w (n % 2 ^ z)) q ∙ ap (λ (z : ℕ). z % 2 ^ w) (field n (e + w) (total ws)) ∙ mod-mod-pow (n / 2 ^ total ws) e w)
     (ap (λ (z : ℕ). unpacks ws (n % 2 ^ z)) q ∙ unpacks-low ws (e + w) n)
 
+-- ---- bits counted from the front: with z bits less below a number, the field stands z bits lower
+
+pub field-down : (x y z w n : ℕ) → x ≡ y + z → fieldAt x w n ≡ fieldAt y w (n / 2 ^ z)
+field-down x y z w n e = ap (λ (k : ℕ). fieldAt k w n) e ∙ sym (field-up y z w n)
+
+pub run-down : (x y z k w n : ℕ) → x ≡ z + y → eachAt x k w n ≡ eachAt y k w (n / 2 ^ z)
+run-down x y z k w n e = ap (unpacks (replicate k w)) (ap (λ (j : ℕ). n / 2 ^ j) e ∙ sym (shr-shr n z y))
+
+-- a number cut above its last k + z bits, and its part below the cut, over the number without its last z
+pub cut-high : (x k z n : ℕ) → x ≡ z + k → n / 2 ^ x ≡ n / 2 ^ z / 2 ^ k
+cut-high x k z n e = ap (λ (j : ℕ). n / 2 ^ j) e ∙ sym (shr-shr n z k)
+
+pub cut-low : (x k z n : ℕ) → x ≡ k + z → n % 2 ^ x / 2 ^ z ≡ n / 2 ^ z % 2 ^ k
+cut-low x k z n e = ap (λ (j : ℕ). n % 2 ^ j / 2 ^ z) e ∙ field n k z
+
+-- the last z bits, read as a field
+pub last-bits : (size at x k z n : ℕ) → z ≡ size - at → at ≤ size → x ≡ k + z → fieldAt (size - (at + z)) z n ≡ n % 2 ^ x % 2 ^ z
+last-bits size at x k z n d l e =
+    let f : size - (at + z) ≡ 0 = omega arith in
+    ap (λ (j : ℕ). fieldAt j z n) f ∙ ap (λ (j : ℕ). j % 2 ^ z) (div-one n) ∙ sym (ap (λ (j : ℕ). n % 2 ^ j % 2 ^ z) e ∙ mod-mod-pow n k z)
+
+-- ---- where the fields begin, and the first and the last bits of a case
+
+abbrev aslAt : ℕ
+aslAt = total (take 1 keyWidths)
+
+abbrev pub takenAt : ℕ
+takenAt = total (take 4 keyWidths)
+
+abbrev idAt : ℕ
+idAt = total (take 5 keyWidths)
+
+abbrev birthBits : ℕ
+birthBits = total (take 1 caseWidths)
+
+abbrev scalesBits : ℕ
+scalesBits = total (drop 6 caseWidths)
+
+abbrev prevalenteAt : ℕ
+prevalenteAt = keyBits + birthBits
+
+abbrev infectionAt : ℕ
+infectionAt = keyBits + total (take 11 caseWidths)
+
 -- ---- a key
 
-pub asl-in : (n : ℕ) → keyIn n .asl ≡ eachAt 633 3 7 n
+pub asl-in : (n : ℕ) → keyIn n .asl ≡ eachAt (keyBits - takenAt) 3 charBits n
 asl-in n =
-    ap (λ (l : List ℕ). take 3 l) (unpacks-append (replicate 3 7) (17 ∷ replicate 88 7) n)
-    ∙ take-at (unpacks (replicate 3 7) (n / 2 ^ 633)) (unpacks (17 ∷ replicate 88 7) n) 3 refl
+    ap (λ (l : List ℕ). take 3 l) (unpacks-append (replicate 3 charBits) (drop 4 keyWidths) n)
+    ∙ take-at (unpacks (replicate 3 charBits) (n / 2 ^ (keyBits - takenAt))) (unpacks (drop 4 keyWidths) n) 3 refl
 
-pub prevalente-in : (v : ℕ) → caseIn v .prevalente ≡ eachAt 19 5 7 v
-prevalente-in v =
-    ap (λ (l : List ℕ). take 5 l) (unpacks-append (replicate 5 7) (replicate 6 2 ++ (7 ∷ [])) v)
-    ∙ take-at (unpacks (replicate 5 7) (v / 2 ^ 19)) (unpacks (replicate 6 2 ++ (7 ∷ [])) v) 5 refl
+pub prevalente-in : (n : ℕ) → caseOf n .prevalente ≡ eachAt scalesBits 5 charBits n
+prevalente-in n =
+    ap (λ (l : List ℕ). take 5 l) (unpacks-append (replicate 5 charBits) (drop 6 caseWidths) n)
+    ∙ take-at (unpacks (replicate 5 charBits) (n / 2 ^ scalesBits)) (unpacks (drop 6 caseWidths) n) 5 refl
 
-module _ (row : List ℕ) (l : length row ≡ 91) where
-  -- what stands in 91 bytes
-  at91 : (at w : ℕ) → fieldAt (8 * length row - (at + w)) w (num row) ≡ fieldAt (8 * 91 - (at + w)) w (num row)
-  at91 at w = ap (λ (z : ℕ). fieldAt (8 * z - (at + w)) w (num row)) l
+-- an event's number in the first bits of its row, by its own key and what follows it
+own-first : (f : ℕ) → f % 2 ^ eventBits ≡ f / 2 ^ pastOwn % 2 ^ ownBits * 2 ^ pastOwn + f % 2 ^ pastOwn
+own-first f = omega arith
 
-  run91 : (at k : ℕ) → eachAt (8 * length row - (at + 7 * k)) k 7 (num row) ≡ eachAt (8 * 91 - (at + 7 * k)) k 7 (num row)
-  run91 at k = ap (λ (z : ℕ). eachAt (8 * z - (at + 7 * k)) k 7 (num row)) l
+birth-first : (f : ℕ) → fieldAt (caseBits - birthBits) birthBits f ≡ caseOf (f % 2 ^ caseBits) .birth
+birth-first f = omega arith
 
-  pub event-of : (r : ℕ) → r ≡ fieldAt (8 * length row - (662 + 52)) 52 (num row) → r ≡ eventNumberIn (split (eventRest siad) (num row))
-  event-of r e = e ∙ at91 662 52 ∙ omega arith
+infection-first : (f : ℕ) → f % 2 ^ 2 ≡ getD (caseOf (f % 2 ^ caseBits) .scales) 5 0
+infection-first f = omega arith
 
-  pub event-row : (pad e : ℕ) (good : Bool) → pad ≡ fieldAt (8 * length row - (714 + 14)) 14 (num row) → e ≡ eventNumberIn (split (eventRest siad) (num row)) → good ≡ eventAllowed (eventIn e) →
-      good && eqb pad 0 ≡ eventRowAllowed (split (eventRest siad) (num row))
-  event-row pad e good p q g =
-      let z : pad ≡ eventPad (split (eventRest siad) (num row)) = p ∙ at91 714 14 ∙ omega arith in
-      ap₂ (λ (b : Bool) (k : ℕ). b && eqb k 0) (g ∙ ap (λ (n : ℕ). eventAllowed (eventIn n)) q) z
+prevalente-first : (f : ℕ) → eachAt scalesBits 5 charBits f ≡ caseOf (f % 2 ^ caseBits) .prevalente
+prevalente-first f =
+    sym (unpacks-low (replicate 5 charBits) birthBits (f / 2 ^ scalesBits)) ∙ ap (unpacks (replicate 5 charBits)) (sym (field f (caseBits - scalesBits) scalesBits)) ∙ sym (prevalente-in (f % 2 ^ caseBits))
+
+module _ (row : List ℕ) (h : RowWidth (length row)) where
+  abbrev size : ℕ
+  size = 8 * length row
+
+  -- the zero bits behind an event and behind a case, and the bits before them
+  abbrev ez : ℕ
+  ez = eventZerosWide (length row)
+
+  abbrev cz : ℕ
+  cz = caseZerosWide (length row)
 
   abbrev key : ℕ
-  key = num row / 2 ^ caseRest siad
+  key = asCase row .key
 
   abbrev val : ℕ
-  val = num row % 2 ^ caseRest siad
+  val = asCase row .val
 
-  pub taken-is : (r : ℕ) → r ≡ fieldAt (8 * length row - (29 + 17)) 17 (num row) → r ≡ keyIn key .taken
-  taken-is r e = e ∙ at91 29 17 ∙ sym (field-up 616 66 17 (num row))
+  pub event-of : (r : ℕ) → r ≡ fieldAt (size - (keyBits + eventBits)) eventBits (num row) → r ≡ eventNumberInWide (length row) (asEvent row)
+  event-of r e =
+      let up : size - (keyBits + ownBits) ≡ ez + pastOwn = omega arith in
+      let down : size - (keyBits + ownBits) ≡ pastOwn + ez = omega arith in
+      e ∙ own-first (num row / 2 ^ ez)
+      ∙ ap₂ (λ (a b : ℕ). a % 2 ^ ownBits * 2 ^ pastOwn + b) (sym (cut-high _ pastOwn ez (num row) up)) (sym (cut-low _ pastOwn ez (num row) down))
+
+  pub event-row : (pad e : ℕ) (good : Bool) → pad ≡ fieldAt (size - (keyBits + eventBits + (size - (keyBits + eventBits)))) (size - (keyBits + eventBits)) (num row) →
+      e ≡ eventNumberInWide (length row) (asEvent row) → good ≡ eventAllowed (eventIn e) → good && eqb pad 0 ≡ eventRowAllowedWide (length row) (asEvent row)
+  event-row pad e good p q g =
+      let down : size - (keyBits + ownBits) ≡ pastOwn + ez = omega arith in
+      let z : pad ≡ eventPadWide (length row) (asEvent row) = p ∙ last-bits size (keyBits + eventBits) _ pastOwn ez (num row) refl (omega arith) down in
+      ap₂ (λ (b : Bool) (k : ℕ). b && eqb k 0) (g ∙ ap (λ (n : ℕ). eventAllowed (eventIn n)) q) z
+
+  pub taken-is : (r : ℕ) → r ≡ fieldAt (size - (takenAt + dayBits)) dayBits (num row) → r ≡ keyIn key .taken
+  taken-is r e = e ∙ field-down _ (keyBits - idAt) (size - keyBits) dayBits (num row) (omega arith)
 
   pub key-told : (asl id : List ℕ) (region taken : ℕ) (listed good chars : Bool) →
-      asl ≡ eachAt (8 * length row - (8 + 7 * 3)) 3 7 (num row) → id ≡ eachAt (8 * length row - (46 + 7 * 88)) 88 7 (num row) →
-      region ≡ fieldAt (8 * length row - (0 + 8)) 8 (num row) → taken ≡ fieldAt (8 * length row - (29 + 17)) 17 (num row) →
+      asl ≡ eachAt (size - (aslAt + charBits * 3)) 3 charBits (num row) → id ≡ eachAt (size - (idAt + charBits * 88)) 88 charBits (num row) →
+      region ≡ fieldAt (size - (0 + aslAt)) aslAt (num row) → taken ≡ fieldAt (size - (takenAt + dayBits)) dayBits (num row) →
       listed ≡ inRanges regions region → good ≡ all (inRanges alnums) asl → chars ≡ all (inRanges idChars) id →
       listed && (good && (ltb taken dayCount && chars)) ≡ keyAllowed (keyIn key)
   key-told asl id region taken listed good chars a i r t l g c =
-      let ra : region ≡ keyIn key .region = r ∙ at91 0 8 ∙ sym (field-up 654 66 8 (num row)) in
-      let aa : asl ≡ keyIn key .asl = a ∙ run91 8 3 ∙ ap (unpacks (replicate 3 7)) (sym (shr-shr (num row) 66 633)) ∙ sym (asl-in key) in
-      let ia : id ≡ keyIn key .id = i ∙ run91 46 88 in
+      let ra : region ≡ keyIn key .region = r ∙ field-down _ (keyBits - aslAt) (size - keyBits) aslAt (num row) (omega arith) in
+      let aa : asl ≡ keyIn key .asl = a ∙ run-down _ (keyBits - takenAt) (size - keyBits) 3 charBits (num row) (omega arith) ∙ sym (asl-in key) in
+      let ia : id ≡ keyIn key .id = i in
       rw (l, g, c, ra, aa, ia, taken-is taken t)
 
   pub rest-told : (k : Key) (year : ℕ) (prevalente : List ℕ) (birth infection pad : ℕ) (good : Bool) →
-      prevalente ≡ eachAt (8 * length row - (674 + 7 * 5)) 5 7 (num row) → birth ≡ fieldAt (8 * length row - (662 + 12)) 12 (num row) →
-      infection ≡ fieldAt (8 * length row - (719 + 2)) 2 (num row) → pad ≡ fieldAt (8 * length row - (721 + 7)) 7 (num row) →
+      prevalente ≡ eachAt (size - (prevalenteAt + charBits * 5)) 5 charBits (num row) → birth ≡ fieldAt (size - (keyBits + birthBits)) birthBits (num row) →
+      infection ≡ fieldAt (size - (infectionAt + 2)) 2 (num row) →
+      pad ≡ fieldAt (size - (keyBits + caseBits + (size - (keyBits + caseBits)))) (size - (keyBits + caseBits)) (num row) →
       good ≡ prevalenteAllowed prevalente → year ≡ yearOf (k .taken) →
-      (not (ltb birth 1880 || ltb year birth) && (good && leb infection 2)) && eqb pad 0 ≡ caseAllowed k (caseIn val) && eqb (casePad val) 0
+      (not (ltb birth firstBirth || ltb year birth) && (good && leb infection 2)) && eqb pad 0 ≡ caseRestAllowed (length row) k val
   rest-told k year prevalente birth infection pad good p b f z g y =
-      let pa : prevalente ≡ caseIn val .prevalente =
-      p ∙ run91 674 5 ∙ sym (unpacks-low (replicate 5 7) 12 (num row / 2 ^ 19)) ∙ ap (unpacks (replicate 5 7)) (sym (field (num row) 47 19)) ∙ sym (prevalente-in val) in
-      let ba : birth ≡ caseIn val .birth = b ∙ at91 662 12 ∙ omega arith in
-      let fa : infection ≡ getD (caseIn val .scales) 5 0 = f ∙ at91 719 2 ∙ omega arith in
-      let za : pad ≡ casePad val = z ∙ at91 721 7 ∙ omega arith in
+      let first = num row / 2 ^ cz in
+      let down : size - keyBits ≡ caseBits + cz = omega arith in
+      let low : val / 2 ^ cz ≡ first % 2 ^ caseBits = cut-low _ caseBits cz (num row) down in
+      let pa : prevalente ≡ caseInWide (length row) val .prevalente =
+      p ∙ run-down _ scalesBits cz 5 charBits (num row) (omega arith) ∙ prevalente-first first ∙ ap (λ (n : ℕ). caseOf n .prevalente) (sym low) in
+      let ba : birth ≡ caseInWide (length row) val .birth = b ∙ field-down _ (caseBits - birthBits) cz birthBits (num row) (omega arith) ∙ birth-first first ∙ ap (λ (n : ℕ). caseOf n .birth) (sym low) in
+      let fa : infection ≡ getD (caseInWide (length row) val .scales) 5 0 = f ∙ infection-first first ∙ ap (λ (n : ℕ). getD (caseOf n .scales) 5 0) (sym low) in
+      let za : pad ≡ casePadWide (length row) val = z ∙ last-bits size (keyBits + caseBits) _ caseBits cz (num row) refl (omega arith) down in
       rw (g, pa, ba, fa, za, y)
 
   -- a case's row, by its key and the rest
-  pub case-bad : (good : Bool) → good ≡ keyAllowed (keyIn key) → good ≡ false → false ≡ caseRowAllowed (split (caseRest siad) (num row))
+  pub case-bad : (good : Bool) → good ≡ keyAllowed (keyIn key) → good ≡ false → false ≡ caseRowAllowedWide (length row) (asCase row)
   case-bad good g e = rw (sym g ∙ e)
 
-  pub case-good : (good rest : Bool) → good ≡ keyAllowed (keyIn key) → good ≡ true → rest ≡ caseAllowed (keyIn key) (caseIn val) && eqb (casePad val) 0 →
-      rest ≡ caseRowAllowed (split (caseRest siad) (num row))
+  pub case-good : (good rest : Bool) → good ≡ keyAllowed (keyIn key) → good ≡ true → rest ≡ caseRestAllowed (length row) (keyIn key) val → rest ≡ caseRowAllowedWide (length row) (asCase row)
   case-good good rest g e r = rw (sym g ∙ e) r
 
   -- a taking in that is allowed is a day

@@ -75,12 +75,12 @@ key-injective k l h g e =
     let id : k .id ≡ l .id = cc in
     λ i. record { region = region i; asl = parts .0 i; taken = taken i; id = id i }
 
-case-values : (c : Case) → values (caseFields c) ≡ c .birth ∷ (c .prevalente ++ c .scales)
+pub case-values : (c : Case) → values (caseFields c) ≡ c .birth ∷ (c .prevalente ++ c .scales)
 case-values c =
     ap (λ (l : List ℕ). c .birth ∷ l)
     (values-append (each 7 (c .prevalente)) (each 2 (c .scales)) ∙ ap₂ (λ (x y : List ℕ). x ++ y) (each-values 7 (c .prevalente)) (each-values 2 (c .scales)))
 
-case-widths : (c : Case) → CaseFits c → widths (caseFields c) ≡ 12 ∷ (replicate 5 7 ++ replicate 6 2)
+pub case-widths : (c : Case) → CaseFits c → widths (caseFields c) ≡ 12 ∷ (replicate 5 7 ++ replicate 6 2)
 case-widths c h =
     ap (λ (l : List ℕ). 12 ∷ l)
     (widths-append (each 7 (c .prevalente)) (each 2 (c .scales))

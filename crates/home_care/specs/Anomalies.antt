@@ -1,17 +1,20 @@
--- The anomalies that are about a record's fields, each as document 01's table words it ("Anomalies of a record"). The others: 14, 15, 17 and 22 are any flow's
--- (model/specs/Flow); 16 and 24, which ask what stands, are beside their list (checks/specs/Checks). An event is its 52 bits.
+-- The anomalies of a home-care record (RULES.md, 7 Anomalies of a record), each in its rule's words; 14, 15, 17 and 22 are any flow's (model/specs/Anomalies).
+-- Their order is in checks/specs/CheckOrder. An event is its 52 bits.
 use Prim.Native.Nat.{ℕ}
 use Prim.Native.Char.{code}
 use mathlib.Core.Bool.{Bool, cond, not, _&&_, _||_}
 use mathlib.Core.List.{List}
 use lib.Dec.{eqb, ltb, leb}
 use lib.ListN.{length, getD}
-use Rattle.laws.specs.Lists.{any, same, somePair}
-use Rattle.laws.specs.Text.{bytes}
-use Rattle.codes.specs.Codes.{revaluation, suspension, conclusion}
-use Rattle.days.specs.Calendar.{yearOf}
-use Rattle.home_care.specs.Row.{Key, Case, never, kindOf, dateOf, endOf, confermaOf}
-use Rattle.home_care.specs.Record.{padded, Residence, Said}
+use Rattle.laws.specs.Lists.{any, same, somePair, bytes}
+use Rattle.codes.specs.CodesAndCharacters.{revaluation, suspension, conclusion}
+use Rattle.days.specs.DayNumbers.{yearOf}
+use Rattle.home_care.specs.Row.{Key, Case, never, kindOf, dateOf, endOf, confermaOf, keyNumber, siad}
+use Rattle.home_care.specs.Record.{padded, Residence, Said, Head, events, typeOf}
+use Rattle.model.specs.Map.{has}
+use Rattle.model.specs.Transmission.{isCancel}
+use Rattle.model.specs.Flow.{State}
+use Rattle.register.specs.Layout.{caseNamed}
 
 -- the declared quarter's first and last day, and the register's room
 pub record Context : Type 0 where
@@ -19,11 +22,11 @@ pub record Context : Type 0 where
   pub last : ℕ
   pub room : ℕ
 
--- 10: "a date outside the declared quarter"
+-- A10: "A date is outside the declared quarter"
 abbrev pub outOfQuarter : Context → ℕ → Bool
 outOfQuarter c day = not (leb (c .first) day && leb day (c .last))
 
--- 10: "a suspension's dataFine, or dataInizio where that is missing"; else the event's date
+-- A10: "of a Sospensione `dataFine`, even one before `dataInizio`, or `dataInizio` where it has no end"; else the event's date
 abbrev pub dayFor : ℕ → ℕ
 dayFor e = cond (eqb (kindOf e) suspension && not (eqb (endOf e) never)) (endOf e) (dateOf e)
 
@@ -34,11 +37,11 @@ t10 c es = any (λ e. outOfQuarter c (dayFor e)) es
 abbrev pub firstBirth : ℕ
 firstBirth = 1880
 
--- 11: "birth year before 1880 or after the year of taking in"
+-- A11: "the birth year is before 1880 or after the year of taking in"
 abbrev pub t11 : Key → Case → Bool
 t11 k c = ltb (c .birth) firstBirth || ltb (yearOf (k .taken)) (c .birth)
 
--- 12: "StatoEstero present and not all of region 999, comune 999999, ASL 999; or missing and all three; or it is IT in any letter case"
+-- A12: "StatoEstero is there and region 999, Comune 999999 and ASL 999 are not all three; or it is missing and all three are; or it is IT in any letter case"
 abbrev pub allAbroad : Residence → Bool
 allAbroad r = same (r .region) (bytes "999") && (same (r .comune) (bytes "999999") && same (r .asl) (bytes "999"))
 
@@ -53,7 +56,7 @@ abbrev pub t12 : Residence → Bool
 t12 r =
     (isPresent (r .stato) && not (allAbroad r)) || ((not (isPresent (r .stato)) && allAbroad r) || isItaly (r .stato))
 
--- 13: "a prevalente is `000`", as it is kept (padded), and as it is written
+-- A13: "A Prevalente is `000`", as it is kept (padded), and as it is written
 abbrev pub zeroKept : List ℕ → Bool
 zeroKept p = same p (padded (bytes "000"))
 
@@ -63,11 +66,17 @@ zeroWritten e = same (e .prevalente) (bytes "000")
 abbrev pub t13 : List Said → Bool
 t13 es = any zeroWritten es
 
--- 20: "no event in the record"
+-- 14, 15 (and 17, 22): `t14`, `t15`, `t17`, `t22` in model/specs/Anomalies, of any flow
+
+-- A16: "type C, and an event of the case stands"
+abbrev pub t16 : Head → State ℕ ℕ → Bool
+t16 h s = isCancel (typeOf (h .tipo)) && any (λ e. eqb (caseNamed siad (e .key)) (keyNumber (h .key))) (s .events)
+
+-- A20: "the record has no event"
 abbrev pub t20 : List Said → Bool
 t20 es = eqb (length es) 0
 
--- 21: "confermaPrecedente 1 with a Valutazione, or 2 without"
+-- A21: "a Rivalutazione has conferma 1 and a Valutazione, or 2 and none"
 abbrev pub badConferma : Said → Bool
 badConferma e =
     eqb (kindOf (e .event)) revaluation && ((eqb (confermaOf (e .event)) 1 && e .valued) || (eqb (confermaOf (e .event)) 2 && not (e .valued)))
@@ -81,26 +90,30 @@ isSuspension e = eqb (kindOf e) suspension
 abbrev pub isConclusion : ℕ → Bool
 isConclusion e = eqb (kindOf e) conclusion
 
--- 23: "a suspension ends before it begins"
+-- A23: "a Sospensione of the record ends before it begins"
 abbrev pub t23 : List ℕ → Bool
 t23 es = any (λ e. isSuspension e && ltb (endOf e) (dateOf e)) es
 
--- 25: "an event's date is before the taking in"
+-- A24: "the case does not stand"
+abbrev pub t24 : Head → State ℕ ℕ → Bool
+t24 h s = not (has (keyNumber (h .key)) (s .cases))
+
+-- A25: "an event's date (of a Sospensione: `dataInizio`) is before the taking in"
 abbrev pub t25 : ℕ → List ℕ → Bool
 t25 taken es = any (λ e. ltb (dateOf e) taken) es
 
--- 26: "two suspensions share a day; one without end runs on for ever"
+-- A26: "two Sospensione share a day, first and last days included; one without end goes on for ever"
 abbrev pub shareDay : ℕ → ℕ → Bool
 shareDay a b = (isSuspension a && isSuspension b) && (leb (dateOf a) (endOf b) && leb (dateOf b) (endOf a))
 
 abbrev pub t26 : List ℕ → Bool
 t26 es = somePair shareDay es
 
--- 27: "two conclusions"
+-- A27: "there are two Conclusione"
 abbrev pub t27 : List ℕ → Bool
 t27 es = somePair (λ a b. isConclusion a && isConclusion b) es
 
--- 28: "an event's date or end date is after the conclusion (a missing end isn't)"
+-- A28: "an event's date or end date is after a Conclusione's date; a missing end is not"
 abbrev pub afterConclusion : ℕ → ℕ → Bool
 afterConclusion c e = isConclusion c && (ltb (dateOf c) (dateOf e) || (not (eqb (endOf e) never) && ltb (dateOf c) (endOf e)))
 

@@ -1,10 +1,14 @@
--- Values that have their fields' sizes, and keys, cases and events of the values that the code holds: what the contracts of packing ask.
-use Prim.Native.Nat.{ℕ, _^_, _<_}
+-- Values that have their fields' sizes, and keys, cases and events of the values that the code holds: what the contracts of packing ask. Rows that have the
+-- fields, as bytes: what the contracts of reading ask.
+use Prim.Native.Nat.{ℕ, _+_, _*_, _^_, _≤_, _<_}
 use mathlib.Core.Path.{_≡_}
 use mathlib.Core.List.{List}
 use lib.ListN.{length}
-use Rattle.rows.specs.Packing.{each, Fit}
-use Rattle.home_care.specs.Row.{Key, Case, Event}
+use Rattle.model.specs.Map.{Row}
+use Rattle.rows.specs.Packing.{each, num, Fit}
+use Rattle.register.specs.Layout.{caseRest, eventRest}
+use Rattle.register.specs.State.{split}
+use Rattle.home_care.specs.Row.{Key, Case, Event, keyBits, caseBits, homeCare, eventZerosWide}
 
 -- a key's values have their fields' sizes
 pub record KeyFits (k : Key) : Type 0 where
@@ -44,3 +48,19 @@ caseWith birth prevalente scales = record { birth = birth; prevalente = prevalen
 abbrev pub eventWith : ℕ → ℕ → ℕ → ℕ → ℕ → ℕ → Event
 eventWith kind date end code accesses conferma =
     record { kind = kind; date = date; end = end; code = code; accesses = accesses; conferma = conferma }
+
+-- the bits that are read at once (rows/src/reader.rt)
+abbrev pub readBits : ℕ
+readBits = 56
+
+-- w bytes have room for a row's fields, a case's being the longer ones, and for no more zero bits behind them than are read at once
+pub record RowWidth (w : ℕ) : Type 0 where
+  pub least : keyBits + caseBits ≤ 8 * w
+  pub most : eventZerosWide w ≤ readBits
+
+-- the bytes of a row, as a case's and as an event's
+abbrev pub asCase : List ℕ → Row ℕ
+asCase row = split (caseRest (homeCare (length row))) (num row)
+
+abbrev pub asEvent : List ℕ → Row ℕ
+asEvent row = split (eventRest (homeCare (length row))) (num row)

@@ -1,16 +1,19 @@
--- What a record says: the fields that are kept or judged (document 01, "The shape of a record", "The register").
+-- What a record says: the fields that are kept or judged (RULES.md, 2 The shape of a record, 4 The register).
 use Prim.Native.Nat.{ℕ}
-use mathlib.Core.Bool.{Bool}
+use mathlib.Core.Bool.{Bool, cond}
 use mathlib.Core.List.{List, [], _∷_, _++_}
 use lib.ListN.{take, replicate}
 use Rattle.home_care.specs.Row.{Key, Case}
+use Prim.Native.Char.{code}
+use lib.Dec.{eqb}
+use Rattle.model.specs.Transmission.{Kind, insert, vary, cancel}
 
 -- what both tracks have: the type I, V or C as its character, and the case's key
 pub record Head : Type 0 where
   pub tipo : ℕ
   pub key : Key
 
--- "prevalente 5 x 7 (unused last characters 0)"
+-- R15: "unused last characters are 0"
 abbrev pub padded : List ℕ → List ℕ
 padded t = take 5 (t ++ replicate 5 0)
 
@@ -21,7 +24,7 @@ pub record Residence : Type 0 where
   pub comune : List ℕ
   pub stato : List ℕ
 
--- Track 1: "birth year, prevalente, the six evaluation fields (0 = missing)", and the residence
+-- Track 1: birth year, prevalente and the six evaluation fields (R14 to R21), and the residence (A12)
 pub record Admission : Type 0 where
   pub case : Case
   pub residence : Residence
@@ -40,3 +43,7 @@ pub data Record : Type 0 where
 unfoldable pub eventNumbers : List Said → List ℕ
 eventNumbers [] = []
 eventNumbers (e ∷ es) = e .event ∷ eventNumbers es
+
+-- S11: "`tipo` is I (insertion), V (variation) or C (cancellation)"
+abbrev pub typeOf : ℕ → Kind
+typeOf b = cond (eqb b (code "I")) insert (cond (eqb b (code "V")) vary cancel)

@@ -1,4 +1,4 @@
--- The rows of the register (document 01, "The register", the table): their fields with the widths from the front of the row, packed, and read back by the
+-- The rows of the register (RULES.md, 4 The register, R6 to R29): their fields with the widths from the front of the row, packed, and read back by the
 -- same widths.
 use Prim.Native.Nat.{ℕ, suc, _+_, _-_, _*_, _/_, _%_, _^_}
 use mathlib.Core.List.{List, [], _∷_, _++_}
@@ -9,20 +9,20 @@ use Rattle.register.specs.Layout.{Layout}
 
 -- ---- what the rows say
 
--- "region as a number, ASL, date of taking in, Id_Rec"
+-- R10 to R13: region ("CodiceRegione as a number"), ASL, date of taking in, Id_Rec
 pub record Key : Type 0 where
   pub region : ℕ
   pub asl : List ℕ
   pub taken : ℕ
   pub id : List ℕ
 
--- "birth year, prevalente (unused last characters 0), then Autonomia, GradoMobilita, Cognitivi, Comportamenti, SupportoSociale, RischioInfettivo (0 = missing)"
+-- R14 to R21: birth year, prevalente, then Autonomia, GradoMobilita, Cognitivi, Comportamenti, SupportoSociale, RischioInfettivo, 0 being missing
 pub record Case : Type 0 where
   pub birth : ℕ
   pub prevalente : List ℕ
   pub scales : List ℕ
 
--- "kind (0 Rivalutazione, 1 Erogazione, 2 Sospensione, 3 Conclusione), date, end date, code, accesses (0 = missing), conferma (0 unless Rivalutazione)"
+-- R23 to R28: kind ("0 Rivalutazione, 1 Erogazione, 2 Sospensione, 3 Conclusione"), date, end date, code, accesses, conferma
 pub record Event : Type 0 where
   pub kind : ℕ
   pub date : ℕ
@@ -33,7 +33,7 @@ pub record Event : Type 0 where
 
 -- ---- how wide the fields are
 
--- "rows of 91 bytes"
+-- R2: "rows of 91 bytes"
 abbrev pub rowBytes : ℕ
 rowBytes = 91
 
@@ -44,19 +44,19 @@ dayBits = 17
 abbrev pub charBits : ℕ
 charBits = 7
 
--- "region as a number 8, ASL 3 x 7, date of taking in 17, Id_Rec 88 x 7"
+-- R10 to R13, in bits: region 8, ASL 3 x 7, date of taking in 17, Id_Rec 88 x 7
 abbrev pub keyWidths : List ℕ
 keyWidths = 8 ∷ (replicate 3 charBits ++ (dayBits ∷ replicate 88 charBits))
 
--- "birth year 12, prevalente 5 x 7, then [six fields] 2 each"
+-- R14 to R21, in bits: birth year 12, prevalente 5 x 7, then six fields of 2 each
 abbrev pub caseWidths : List ℕ
 caseWidths = 12 ∷ (replicate 5 charBits ++ replicate 6 2)
 
--- "kind 2, date 17, end date 17, code 7, accesses 7, conferma 2"
+-- R23 to R28, in bits: kind 2, date 17, end date 17, code 7, accesses 7, conferma 2
 abbrev pub eventWidths : List ℕ
 eventWidths = 2 ∷ dayBits ∷ dayBits ∷ 7 ∷ 7 ∷ 2 ∷ []
 
--- the sums of these widths (`widths-sum`): "key of a case, 662"; a case and an event after the case's key
+-- the sums of these widths (`widths-sum`). R8: "A case's key is its row's first 662 bits"; a case and an event after the case's key
 abbrev pub keyBits : ℕ
 keyBits = 662
 
@@ -66,7 +66,7 @@ caseBits = 59
 abbrev pub eventBits : ℕ
 eventBits = 52
 
--- "An event's key is case key, kind and date": what it has after the case's, and what the event has after that
+-- R9: "An event's key is its case's key, its kind and its date": what it has after the case's, and what the event has after that
 abbrev pub ownBits : ℕ
 ownBits = 19
 
@@ -76,17 +76,24 @@ pastOwn = eventBits - ownBits
 abbrev pub eventKeyBits : ℕ
 eventKeyBits = keyBits + ownBits
 
--- the zero bits at the end of a row
-abbrev pub caseZeros : ℕ
-caseZeros = 8 * rowBytes - (keyBits + caseBits)
-
-abbrev pub eventZeros : ℕ
-eventZeros = 8 * rowBytes - (keyBits + eventBits)
+-- the rows of home care in w bytes, and in the register's own; so with every name in Wide: it is of rows of w bytes, and without the Wide of `rowBytes`
+abbrev pub homeCare : ℕ → Layout
+homeCare w = record { bytes = w; caseKey = keyBits; eventKey = eventKeyBits; spare = λ _. 0 }
 
 abbrev pub siad : Layout
-siad = record { bytes = rowBytes; caseKey = keyBits; eventKey = eventKeyBits }
+siad = homeCare rowBytes
 
--- "all ones stands for none" (the end date)
+-- the zero bits at the end of a row
+abbrev pub caseZerosWide : ℕ → ℕ
+caseZerosWide w = 8 * w - (keyBits + caseBits)
+
+abbrev pub eventZerosWide : ℕ → ℕ
+eventZerosWide w = 8 * w - (keyBits + eventBits)
+
+abbrev pub eventZeros : ℕ
+eventZeros = eventZerosWide rowBytes
+
+-- R25, of the end date: "all ones for none and in other kinds"
 abbrev pub never : ℕ
 never = 2 ^ dayBits - 1
 
@@ -114,8 +121,11 @@ abbrev pub eventNumber : Event → ℕ
 eventNumber e = packs (eventFields e) 0
 
 -- the row of the event of that number, of the case c
+abbrev pub eventRowWide : ℕ → ℕ → ℕ → Row ℕ
+eventRowWide w c e = record { key = c * 2 ^ ownBits + e / 2 ^ pastOwn; val = e % 2 ^ pastOwn * 2 ^ eventZerosWide w }
+
 abbrev pub eventRow : ℕ → ℕ → Row ℕ
-eventRow c e = record { key = c * 2 ^ ownBits + e / 2 ^ pastOwn; val = e % 2 ^ pastOwn * 2 ^ eventZeros }
+eventRow c e = eventRowWide rowBytes c e
 
 -- ---- read back
 
@@ -129,21 +139,37 @@ keyIn n =
 abbrev pub takenIn : ℕ → ℕ
 takenIn n = keyIn n .taken
 
--- what a case's row has after it, and the zero bits behind that
-abbrev pub caseIn : ℕ → Case
-caseIn v =
-    let vs = unpacks (caseWidths ++ (caseZeros ∷ [])) v in
+-- a case, from its number
+abbrev pub caseOf : ℕ → Case
+caseOf n =
+    let vs = unpacks caseWidths n in
     record { birth = getD vs 0 0; prevalente = take 5 (drop 1 vs); scales = take 6 (drop 6 vs) }
 
+-- what a case's row has after its key: the case, and the zero bits behind it
+abbrev pub caseInWide : ℕ → ℕ → Case
+caseInWide w v = caseOf (v / 2 ^ caseZerosWide w)
+
+abbrev pub casePadWide : ℕ → ℕ → ℕ
+casePadWide w v = v % 2 ^ caseZerosWide w
+
+abbrev pub caseIn : ℕ → Case
+caseIn v = caseInWide rowBytes v
+
 abbrev pub casePad : ℕ → ℕ
-casePad v = v % 2 ^ caseZeros
+casePad v = casePadWide rowBytes v
 
 -- the event's number in its row, and the zero bits behind it
+abbrev pub eventNumberInWide : ℕ → Row ℕ → ℕ
+eventNumberInWide w r = r .key % 2 ^ ownBits * 2 ^ pastOwn + r .val / 2 ^ eventZerosWide w
+
+abbrev pub eventPadWide : ℕ → Row ℕ → ℕ
+eventPadWide w r = r .val % 2 ^ eventZerosWide w
+
 abbrev pub eventNumberIn : Row ℕ → ℕ
-eventNumberIn r = r .key % 2 ^ ownBits * 2 ^ pastOwn + r .val / 2 ^ eventZeros
+eventNumberIn r = eventNumberInWide rowBytes r
 
 abbrev pub eventPad : Row ℕ → ℕ
-eventPad r = r .val % 2 ^ eventZeros
+eventPad r = eventPadWide rowBytes r
 
 -- the first field of an event's number is all that stands above the others; a field after it, counted from the front
 abbrev pub kindOf : ℕ → ℕ

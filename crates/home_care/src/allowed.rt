@@ -1,31 +1,24 @@
-// A row is the packing of field values allowed (document 01, "Sound means").
+// A row is the packing of field values allowed (RULES.md, V3 and V4).
 ghost use mathlib.Core.Path.{_≡_};
-ghost use mathlib.Core.Bool.{_&&_};
-ghost use Prim.Native.Nat.{_/_, _%_, _<_, _^_};
-ghost use lib.Dec.{eqb};
 ghost use lib.ListN.{length};
-ghost use Rattle.days.specs.Calendar.{yearOf};
+ghost use Rattle.days.specs.DayNumbers.{yearOf};
 ghost use Rattle.days.specs.Table.{Firsts};
-ghost use Rattle.rows.specs.Packing.{num};
-ghost use Rattle.register.specs.Layout.{caseRest, eventRest};
-ghost use Rattle.register.specs.State.{split};
-ghost use Rattle.home_care.specs.Row.{Key, rowBytes, siad, keyIn, caseIn, casePad, eventNumberIn, eventIn};
-ghost use Rattle.home_care.specs.Allowed.{eventAllowed, keyAllowed, caseAllowed, caseRowAllowed, eventRowAllowed};
-use crate::event::accesses_of;
-use crate::event::code_of;
-use crate::event::conferma_of;
-use crate::event::date_of;
-use crate::event::end_of;
-use crate::event::kind_of;
+ghost use Rattle.home_care.specs.Row.{Key, keyIn, eventNumberInWide, eventIn};
+ghost use Rattle.home_care.specs.Fits.{RowWidth, asCase, asEvent};
+ghost use Rattle.home_care.specs.Allowed.{eventAllowed, keyAllowed, caseRestAllowed, caseRowAllowedWide, eventRowAllowedWide};
+use crate::event_bits::accesses_of;
+use crate::event_bits::code_of;
+use crate::event_bits::conferma_of;
+use crate::event_bits::date_of;
+use crate::event_bits::end_of;
+use crate::event_bits::kind_of;
 use crate::layout::AFTER_CASE;
 use crate::layout::AFTER_EVENT;
 use crate::layout::ASL;
 use crate::layout::BIRTH;
 use crate::layout::BIRTH_BITS;
-use crate::layout::CASE_ZEROS;
 use crate::layout::DAY_BITS;
 use crate::layout::DAYS;
-use crate::layout::EVENT_ZEROS;
 use crate::layout::FIRST_BIRTH;
 use crate::layout::ID;
 use crate::layout::INFECTION;
@@ -36,9 +29,9 @@ use crate::layout::REGION_BITS;
 use crate::layout::SCALE_BITS;
 use crate::layout::TAKEN;
 use crate::texts::prevalente_allowed;
-use codes::lists::REVALUATION;
-use codes::lists::SERVICE;
-use codes::lists::SUSPENSION;
+use codes::code_lists::REVALUATION;
+use codes::code_lists::SERVICE;
+use codes::code_lists::SUSPENSION;
 use rows::reader::read_run;
 
 // An event's fields; the code is one of its kind's list.
@@ -53,22 +46,23 @@ pub fn event_allowed(e: u64) -> bool
     let counts = ((kind == SERVICE) & (accesses <= 99)) | ((kind != SERVICE) & (accesses == 0));
     let confirms = ((kind == REVALUATION) & ((1 <= conferma) & (conferma <= 2)))
         | ((kind != REVALUATION) & (conferma == 0));
-    (date_of(e) < DAYS) & (ends & (codes::lists::is_code(kind, code_of(e)) & (counts & confirms)))
+    (date_of(e) < DAYS)
+        & (ends & (codes::code_lists::is_code(kind, code_of(e)) & (counts & confirms)))
 }
 
 // An event's row, whose 52 bits are e.
 pub fn event_row_allowed(row: &[u8], e: u64) -> bool
-    requires { ⌜ (length (now row) ≡ rowBytes) × (e ≡ eventNumberIn (split (eventRest siad) (num (now row)))) ⌝ }
-    ensures { λ r. ⌜ r ≡ eventRowAllowed (split (eventRest siad) (num (now (row .entry)))) ⌝ }
+    requires { ⌜ RowWidth (length (now row)) × (e ≡ eventNumberInWide (length (now row)) (asEvent (now row))) ⌝ }
+    ensures { λ r. ⌜ r ≡ eventRowAllowedWide (length (now (row .entry))) (asEvent (now (row .entry))) ⌝ }
 {
-    let pad = rows::reader::get(row, AFTER_EVENT, EVENT_ZEROS);
+    let pad = rows::reader::get(row, AFTER_EVENT, 8 * row.len() - AFTER_EVENT);
     event_allowed(e) & (pad == 0)
 }
 
 // A case's key.
 pub fn key_allowed(row: &[u8]) -> bool
-    requires { ⌜ length (now row) ≡ rowBytes ⌝ }
-    ensures { λ r. ⌜ r ≡ keyAllowed (keyIn (num (now (row .entry)) / 2 ^ caseRest siad)) ⌝ }
+    requires { ⌜ RowWidth (length (now row)) ⌝ }
+    ensures { λ r. ⌜ r ≡ keyAllowed (keyIn (asCase (now (row .entry)) .key)) ⌝ }
 {
     let mut asl = [0u8; 3];
     let mut id = [0u8; 88];
@@ -76,20 +70,20 @@ pub fn key_allowed(row: &[u8]) -> bool
     read_run(row, ID, &mut id);
     let region = rows::reader::get(row, REGION, REGION_BITS);
     let taken = rows::reader::get(row, TAKEN, DAY_BITS);
-    codes::lists::is_region(region)
-        & (codes::chars::all_alnum(&asl) & ((taken < DAYS) & codes::chars::all_id(&id)))
+    codes::code_lists::is_region(region)
+        & (codes::characters::all_alnum(&asl) & ((taken < DAYS) & codes::characters::all_id(&id)))
 }
 
 // What a case's row has after its key, taken in in that year.
 fn rest_allowed(row: &[u8], year: u64) -> bool
-    requires { ⌜ length (now row) ≡ rowBytes ⌝ }
-    ensures { λ r. ⌜ ((k : Key) → year ≡ yearOf (k .taken) → r ≡ caseAllowed k (caseIn (num (now (row .entry)) % 2 ^ caseRest siad)) && eqb (casePad (num (now (row .entry)) % 2 ^ caseRest siad)) 0) ⌝ }
+    requires { ⌜ RowWidth (length (now row)) ⌝ }
+    ensures { λ r. ⌜ ((k : Key) → year ≡ yearOf (k .taken) → r ≡ caseRestAllowed (length (now (row .entry))) k (asCase (now (row .entry)) .val)) ⌝ }
 {
     let mut prevalente = [0u8; 5];
     read_run(row, PREVALENTE, &mut prevalente);
     let birth = rows::reader::get(row, BIRTH, BIRTH_BITS);
     let infection = rows::reader::get(row, INFECTION, SCALE_BITS);
-    let pad = rows::reader::get(row, AFTER_CASE, CASE_ZEROS);
+    let pad = rows::reader::get(row, AFTER_CASE, 8 * row.len() - AFTER_CASE);
     (!((birth < FIRST_BIRTH) | (year < birth))
         & (prevalente_allowed(&prevalente) & (infection <= 2)))
         & (pad == 0)
@@ -97,8 +91,8 @@ fn rest_allowed(row: &[u8], year: u64) -> bool
 
 // A case's row.
 pub fn case_row_allowed(t: &[u32; 2400], row: &[u8]) -> bool
-    requires { ⌜ Firsts (now t) × (length (now row) ≡ rowBytes) ⌝ }
-    ensures { λ r. ⌜ r ≡ caseRowAllowed (split (caseRest siad) (num (now (row .entry)))) ⌝ }
+    requires { ⌜ Firsts (now t) × RowWidth (length (now row)) ⌝ }
+    ensures { λ r. ⌜ r ≡ caseRowAllowedWide (length (now (row .entry))) (asCase (now (row .entry))) ⌝ }
 {
     if !key_allowed(row) {
         return false;

@@ -1,6 +1,6 @@
-// The home-care register's rows (document 01, the table): where each field begins, counted from the front of the row, and how many bits it has.
+// The home-care register's rows (RULES.md, R10 to R29): where each field begins, counted from the front of the row, and how many bits it has.
 
-// The bytes of a row.
+// The bytes of a row. Behind the fields that are named below zero bits stand, to the row's end.
 pub const ROW: usize = 91;
 
 // A region, a character, a day number, a birth year, a scale.
@@ -36,9 +36,6 @@ pub const INFECTION: usize = 719;
 
 pub const AFTER_CASE: usize = 721;
 
-// The zero bits at the end.
-pub const CASE_ZEROS: usize = 7;
-
 // ---- behind it in an event's row
 
 pub const KIND: usize = 662;
@@ -62,9 +59,6 @@ pub const ACCESSES_BITS: usize = 7;
 pub const CONFERMA_BITS: usize = 2;
 
 pub const EVENT_BITS: usize = 52;
-
-// The zero bits at the end.
-pub const EVENT_ZEROS: usize = 14;
 
 // An event's key: what it has after its case's, kind and date; the event's bits after that; no own key is so large.
 pub const EVENT_KEY: usize = 681;

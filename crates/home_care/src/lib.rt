@@ -1,7 +1,6 @@
-// Home care's fields (document 01, "The register", "Anomalies of a record"): the row's table, fields in its bits, what is allowed.
+// Home care's fields (RULES.md, 4 The register, 5 Sound means): the row's table, fields in its bits, what is allowed.
 pub mod allowed;
-pub mod event;
+pub mod event_bits;
 pub mod layout;
 pub mod pack;
-pub mod row;
 pub mod texts;

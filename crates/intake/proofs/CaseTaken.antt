@@ -6,14 +6,12 @@ use mathlib.Core.List.{List}
 use lib.ListN.{length}
 use Rattle.markup.specs.Elements.{Tree}
 use Rattle.markup.specs.View.{part}
-use Rattle.schema.specs.Shape.{faultOf}
 use Rattle.nodes.specs.declared.Six.{Six}
-use Rattle.schemas.specs.Track1.{track1}
 use Rattle.model.specs.Checks.{first}
 use Rattle.model.specs.Flow.{State}
 use Rattle.model.proofs.ChecksLaws.{clear}
 use Rattle.rows.specs.Packing.{each, Fit}
-use Rattle.register.specs.Layout.{room}
+use Rattle.register.specs.RoomAndEmptying.{room}
 use Rattle.register.specs.State.{stateOf}
 use Rattle.register.specs.Search.{probeKey}
 use Rattle.register.specs.Stored.{Stored}
@@ -21,14 +19,14 @@ use Rattle.home_care.specs.Row.{keyNumber, siad, rowBytes, keyBits}
 use Rattle.home_care.specs.Fits.{caseWith, CaseFits}
 use Rattle.home_care.specs.Record.{Head, Admission, Record, admission}
 use Rattle.home_care.specs.Anomalies.{Context}
-use Rattle.tracks.specs.Record.{headOf, admissionOf}
+use Rattle.tracks.specs.RecordFields.{headOf, admissionOf}
 use Rattle.tracks.specs.View.{IsAdmission}
-use Rattle.tracks.specs.Top.{TopOf}
+use Rattle.tracks.specs.Top.{OfShape}
 use Rattle.tracks.specs.declared.record.HeadRead.{HeadRead}
 use Rattle.tracks.specs.declared.record.AdmissionRead.{AdmissionRead}
 use Rattle.soundness.specs.Sound.{isSound}
 use Rattle.checks.specs.Flow.{next}
-use Rattle.checks.specs.Checks.{checksOf}
+use Rattle.checks.specs.CheckOrder.{checksOf}
 use Rattle.checks.specs.Readable.{Readable}
 use Rattle.checks.proofs.Accepted.{numbered}
 use Rattle.checks.proofs.RowsAllowed.{case-fits}
@@ -37,7 +35,7 @@ use Rattle.judge.specs.View.{IsOf, IsAdmitted}
 use Rattle.intake.specs.Driving.{Took}
 use Rattle.intake.specs.Taking.{Here, siadDriver}
 use Rattle.intake.proofs.SoundBytes.{sound-stored}
-use Rattle.intake.proofs.RecordRead.{record-1}
+use Rattle.intake.proofs.RecordRead.{of-shape, record-1}
 use Rattle.intake.proofs.RecordTaken.{discarded, accepted}
 
 -- judged with the answer n: where that is 0 the case fits its row, and the two ways out
@@ -51,10 +49,10 @@ pub record CaseWays (r : AdmissionRead) (h : HeadRead) (probe reg : List ℕ) (c
       length later ≡ length reg → Took (siadDriver 1 c) reg a n later
 
 module _ (s : List ℕ) (top : Six) (r : AdmissionRead)
-    (told : (at : ℕ) (a : Tree) → TopOf s at a top → faultOf (track1 .each) a ≡ 0 → IsAdmission s r (admissionOf a))
+    (told : (a : Tree) → OfShape 1 s top a → IsAdmission s r (admissionOf a))
     (a : Tree) (x : Here 1 s top a) where
   is-admission : IsAdmission s r (admissionOf a)
-  is-admission = told (x .at) a (x .tops) (x .good .clean)
+  is-admission = told a (of-shape x)
 
   readable-1 : Readable (admission (headOf a) (admissionOf a))
   readable-1 = readable (admission (headOf a) (admissionOf a)) (rw (record-1 a) at (x .good .well))

@@ -11,34 +11,32 @@ use Rattle.laws.specs.Lists.{all}
 use Rattle.laws.proofs.Truth.{and-left, and-right}
 use Rattle.laws.proofs.Every.{and-tell}
 use Rattle.markup.specs.Elements.{Tree}
-use Rattle.schema.specs.Shape.{faultOf}
 use Rattle.nodes.specs.declared.Six.{Six}
-use Rattle.schemas.specs.Track2.{track2}
 use Rattle.model.specs.Checks.{first}
 use Rattle.model.specs.Flow.{State}
 use Rattle.rows.specs.Packing.{each, Fit}
-use Rattle.register.specs.Layout.{room}
+use Rattle.register.specs.RoomAndEmptying.{room}
 use Rattle.register.specs.State.{stateOf}
 use Rattle.register.specs.Search.{probeKey}
 use Rattle.register.specs.Stored.{Stored}
 use Rattle.home_care.specs.Row.{eventBits, keyNumber, siad, rowBytes, keyBits}
 use Rattle.home_care.specs.Record.{Head, Said, events, eventNumbers}
 use Rattle.home_care.specs.Anomalies.{Context}
-use Rattle.tracks.specs.Record.{headOf, allSaid}
+use Rattle.tracks.specs.RecordFields.{headOf, allSaid}
 use Rattle.tracks.specs.View.{laid, IsEvents}
-use Rattle.tracks.specs.Top.{TopOf}
+use Rattle.tracks.specs.Top.{OfShape}
 use Rattle.tracks.specs.declared.events.EventsRead.{EventsRead}
 use Rattle.tracks.specs.declared.record.HeadRead.{HeadRead}
 use Rattle.soundness.specs.Sound.{isSound}
 use Rattle.checks.specs.Flow.{next}
-use Rattle.checks.specs.Checks.{checksOf}
+use Rattle.checks.specs.CheckOrder.{checksOf}
 use Rattle.checks.specs.Readable.{eventReadable, Readable}
 use Rattle.checks.proofs.WellReadable.{readable}
 use Rattle.judge.specs.View.{IsOf, IsSaid}
 use Rattle.intake.specs.Driving.{Took}
 use Rattle.intake.specs.Taking.{Here, siadDriver}
 use Rattle.intake.proofs.SoundBytes.{sound-stored}
-use Rattle.intake.proofs.RecordRead.{record-2}
+use Rattle.intake.proofs.RecordRead.{of-shape, record-2}
 use Rattle.intake.proofs.RecordTaken.{discarded, accepted}
 
 events-map : (es : List Said) → map (λ e. e .event) es ≡ eventNumbers es
@@ -76,10 +74,10 @@ pub record EventsWays (r : EventsRead) (evs : List ℕ) (h : HeadRead) (probe re
       length later ≡ length reg → Took (siadDriver 2 c) reg a n later
 
 module _ (s : List ℕ) (top : Six) (r : EventsRead) (buffer evs : List ℕ) (wide : length buffer ≡ 128)
-    (told : (at : ℕ) (a : Tree) → TopOf s at a top → faultOf (track2 .each) a ≡ 0 → IsEvents r buffer evs (allSaid a))
+    (told : (a : Tree) → OfShape 2 s top a → IsEvents r buffer evs (allSaid a))
     (a : Tree) (x : Here 2 s top a) where
   is-events : IsEvents r buffer evs (allSaid a)
-  is-events = told (x .at) a (x .tops) (x .good .clean)
+  is-events = told a (of-shape x)
 
   readable-2 : Readable (events (headOf a) (allSaid a))
   readable-2 = readable (events (headOf a) (allSaid a)) (rw (record-2 a) at (x .good .well))

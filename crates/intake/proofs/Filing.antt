@@ -8,9 +8,9 @@ use native.Mathlib.Omega.{arith}
 use lib.Dec.{eqb, ltb}
 use lib.ListN.{length, drop, length-map}
 use borrow.Author.Tests.{eqb-true, ltb-false}
-use Rattle.markup.specs.Reading.Read.{refused, read}
-use Rattle.markup.specs.Reading.{then}
-use Rattle.markup.specs.Names.{byte, name}
+use Rattle.laws.proofs.Truth.{either}
+use Rattle.markup.specs.NamesAndValues.Read.{refused, read}
+use Rattle.markup.specs.NamesAndValues.{then, byte, name}
 use Rattle.markup.specs.Tags.{attributes}
 use Rattle.markup.specs.View.{endingOf}
 use Rattle.markup.specs.Elements.{Tree, depth, kids}
@@ -33,19 +33,19 @@ use Rattle.register.specs.State.{stateOf, encode}
 use Rattle.home_care.specs.Row.{siad}
 use Rattle.home_care.specs.Record.{Record}
 use Rattle.home_care.specs.Anomalies.{Context}
-use Rattle.tracks.specs.Record.{allSaid, recordOf, tooMany, crowdedIn}
+use Rattle.tracks.specs.RecordFields.{allSaid, recordOf}
+use Rattle.tracks.specs.TooMany.{tooMany, crowdedIn}
 use Rattle.tracks.specs.View.{eachOf}
 use Rattle.tracks.specs.WellRead.{WellRead}
 use Rattle.tracks.proofs.WellRead.{file-read-1, file-read-2}
 use Rattle.soundness.specs.Sound.{isSound}
-use Rattle.checks.specs.Checks.{siadMachine}
-use Rattle.intake.specs.Submitted.{Call, entriesOf, contextOf, takenFile}
+use Rattle.checks.specs.CheckOrder.{siadMachine}
+use Rattle.intake.specs.FileAnswers.{Call, entriesOf, contextOf, takenFile}
 use Rattle.intake.specs.Driving.{TookAll, Stretch}
 use Rattle.intake.specs.Taking.{GoodRecord, assistenza, siadDriver}
-use Rattle.intake.specs.Kids.{Whole, callWith}
+use Rattle.intake.specs.Steps.{Whole, callWith}
 use Rattle.intake.specs.View.{Says}
 use Rattle.intake.proofs.Along.{tallied, ends-end, ends-all}
-use Rattle.intake.proofs.Sound.{either}
 use Rattle.intake.proofs.SoundBytes.{sound-stored}
 
 -- ---- the records of a file without a fault are good

@@ -7,7 +7,7 @@ use native.Mathlib.Omega.{arith}
 use lib.Dec.{eqb}
 use lib.ListN.{length, length-set}
 use Rattle.laws.specs.Lists.{same}
-use Rattle.markup.specs.Reading.Read.{refused, read}
+use Rattle.markup.specs.NamesAndValues.Read.{refused, read}
 use Rattle.markup.specs.Elements.{Inside, Tree, element, kids}
 use Rattle.markup.specs.View.{left}
 use Rattle.reading.specs.Many.{belowRoot}

@@ -1,27 +1,28 @@
 -- Any history of calls on an emptied register: its bytes are those of what the accepted records left, and DEMAND 3 holds of them.
 use Prim.Native.Nat.{ℕ, _≤_}
 use mathlib.Core.Path.{_≡_, refl, sym, ap, ap₂, _∙_}
+use mathlib.Core.Bool.{Bool, true, false, cond}
 use mathlib.Core.List.{List, [], _∷_, map}
 use lib.ListN.{replicate}
 use borrow.Author.Tests.{ne-eqb}
-use Rattle.model.specs.Machine.{Machine, step, run, answers}
-use Rattle.model.specs.Log.{runAll, calls, Lawful}
+use Rattle.model.specs.Machine.{Machine, accepts, step, run}
+use Rattle.model.specs.Log.{acceptedBy, runAll, calls, Lawful}
 use Rattle.model.specs.Flow.{State, empty, machine}
 use Rattle.model.specs.Demands.{Demand3, Sequences}
 use Rattle.model.proofs.MachineLaws.{Every, run-keeps-ok, runAll-keeps-ok}
 use Rattle.model.proofs.Demands.{demand3}
 use Rattle.model.proofs.TransmissionLaws.{sequences}
-use Rattle.register.specs.Layout.{room}
+use Rattle.register.specs.RoomAndEmptying.{room}
 use Rattle.register.specs.State.{encode}
 use Rattle.home_care.specs.Row.{siad}
 use Rattle.home_care.specs.Record.{Record}
 use Rattle.home_care.specs.Anomalies.{Context}
-use Rattle.checks.specs.Checks.{siadMachine}
+use Rattle.checks.specs.CheckOrder.{siadMachine}
 use Rattle.checks.specs.Readable.{Readable}
 use Rattle.checks.proofs.Accepted.{lawful}
 use Rattle.checks.proofs.Valid.{Sound}
-use Rattle.intake.specs.Submitted.{Call, Submitted, contextOf}
-use Rattle.intake.specs.Order.{recordsIn}
+use Rattle.intake.specs.FileAnswers.{Call, Submitted, contextOf}
+use Rattle.intake.specs.RecordsIn.{recordsIn}
 use Rattle.intake.specs.Histories.{call, Entry, entry, entryFlow, entryChecks, entryMachine, entriesFor, stateAfter}
 use Rattle.intake.proofs.Outcome.{Outcome, stopped, passed, outcome}
 use Rattle.intake.proofs.SoundBytes.{state-long, state-back, sound-empty, empty-bytes}
@@ -54,10 +55,18 @@ unfolding run machine
 run-entries c s [] = refl
 run-entries c s (r ∷ rs) = run-entries c (step (siadMachine c) s r) rs
 
-pub answers-entries : (c : Context) (s : State ℕ ℕ) (rs : List Record) → answers entryMachine s (map (entry c) rs) ≡ answers (siadMachine c) s rs
-unfolding answers machine
-answers-entries c s [] = refl
-answers-entries c s (r ∷ rs) = ap (λ (l : List ℕ). siadMachine c .judge s r ∷ l) (answers-entries c (step (siadMachine c) s r) rs)
+-- and are accepted alike
+pub taken-entries : (c : Context) (s : State ℕ ℕ) (rs : List Record) →
+    acceptedBy entryMachine s (map (entry c) rs) ≡ map (entry c) (acceptedBy (siadMachine c) s rs)
+unfolding acceptedBy machine
+taken-entries c s [] = refl
+taken-entries c s (r ∷ rs) =
+    let t : State ℕ ℕ = step (siadMachine c) s r in
+    go (accepts (siadMachine c) s r) (acceptedBy entryMachine t (map (entry c) rs)) (acceptedBy (siadMachine c) t rs) (taken-entries c t rs)
+  where
+    go : (b : Bool) (l : List Entry) (k : List Record) → l ≡ map (entry c) k → cond b (entry c r ∷ l) l ≡ map (entry c) (cond b (r ∷ k) k)
+    go true l k e = ap (λ (t : List Entry). entry c r ∷ t) e
+    go false l k e = e
 
 each-entry : (c : Context) (n : ℕ) → c .room ≡ room siad n → (rs : List Record) → Every Readable rs →
     Every (λ e. Readable (e .said) × (e .context .room ≡ room siad n)) (map (entry c) rs)
@@ -69,7 +78,7 @@ module _ (n : ℕ) where
   pub history-demand3 : Demand3 entryFlow entryMachine (entriesFor n) (encode siad n)
   history-demand3 = demand3 entryFlow entryChecks entry-lawful (entriesFor n) (encode siad n)
 
-  -- document 003, section 4.3, over any history
+  -- FAR 6.3, section 4.3, and J7, over any history
   pub history-sequences : Sequences entryFlow entryMachine (entriesFor n)
   history-sequences = sequences entryFlow entryChecks entry-lawful (entriesFor n)
 

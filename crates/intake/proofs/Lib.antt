@@ -3,7 +3,11 @@ pub mod SoundBytes
 pub mod Files
 pub mod Sound
 pub mod History
+pub mod Shown
 pub mod OnBytes
+pub mod Samples
+pub mod Excluded
+pub mod SampleHistory
 pub mod RecordRead
 pub mod RecordTaken
 pub mod EventsTaken

@@ -10,18 +10,19 @@ use lib.ListN.{length, drop}
 use borrow.Author.Tests.{ltb-false, eqb-true}
 use Rattle.laws.specs.Lists.{all, any}
 use Rattle.days.specs.Quarters.{isPeriod}
-use Rattle.markup.specs.Reading.{Read}
-use Rattle.markup.specs.Reading.Read.{refused, read}
+use Rattle.markup.specs.NamesAndValues.{Read}
+use Rattle.markup.specs.NamesAndValues.Read.{refused, read}
 use Rattle.markup.specs.Elements.{Tree}
 use Rattle.markup.specs.Document.{document}
 use Rattle.schema.specs.Shape.{Shape, fine, faulty, shapeOf}
 use Rattle.schemas.specs.Schemas.{schemaOf}
 use Rattle.model.specs.Checks.{Check, first, NoneHolds, FirstIs, numbered}
 use Rattle.model.proofs.ChecksLaws.{accepted-iff, refused-iff, only}
-use Rattle.tracks.specs.Record.{crowdedIn}
+use Rattle.tracks.specs.TooMany.{crowdedIn}
 use Rattle.soundness.specs.Sound.{isSound}
-use Rattle.intake.specs.Submitted.{Call, Submitted, longest, entriesOf, refusal, takenFile, byShape, byMarkup, submitted}
-use Rattle.intake.specs.Order.{isRefused, ofTree, isFaulty, recordsRead, recordsIn, fileChecks}
+use Rattle.intake.specs.FileAnswers.{Call, Submitted, longest, entriesOf, refusal, takenFile, byShape, byMarkup, submitted}
+use Rattle.intake.specs.RecordsIn.{isRefused, ofTree, recordsRead, recordsIn, fileChecks}
+use Rattle.schema.specs.CountedElements.{isFaulty}
 
 module _ (x : Call) (reg : List ℕ) where
   abbrev refuse : ℕ → ℕ → Submitted
@@ -126,6 +127,14 @@ module _ (x : Call) (reg : List ℕ) where
   pub outcome : Outcome
   unfolding submitted
   outcome = at-first (isPeriod (x .year) (x .quarter)) refl refl
+
+  -- a file that is answered 0 passed the eight tests
+  pub taken-passed : call .answer ≡ 0 → Passed
+  taken-passed z = go outcome
+    where
+      go : Outcome → Passed
+      go (stopped a n e w k) = absurd (w (sym (ap (λ (r : Submitted). r .answer) e) ∙ z))
+      go (passed p) = p
 
   -- ---- the table's order: the answer is the number of the first test that holds, else 0
 

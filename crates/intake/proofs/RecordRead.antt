@@ -20,9 +20,9 @@ use Rattle.home_care.specs.Fits.{keyWith, KeyFits}
 use Rattle.home_care.proofs.Table.{key-of}
 use Rattle.home_care.specs.Record.{Record, admission, events}
 use Rattle.home_care.specs.Anomalies.{Context}
-use Rattle.tracks.specs.Record.{headOf, admissionOf, allSaid, recordOf}
-use Rattle.tracks.specs.View.{eachOf, IsHead}
-use Rattle.tracks.specs.Top.{TopOf}
+use Rattle.tracks.specs.RecordFields.{headOf, admissionOf, allSaid, recordOf}
+use Rattle.tracks.specs.View.{IsHead}
+use Rattle.tracks.specs.Top.{OfShape}
 use Rattle.tracks.specs.WellRead.{WellRead}
 use Rattle.tracks.specs.declared.record.HeadRead.{HeadRead}
 use Rattle.checks.specs.Flow.{headIn}
@@ -33,6 +33,9 @@ use Rattle.intake.specs.Driving.{Took}
 use Rattle.intake.specs.Taking.{Here, siadDriver}
 
 -- ---- a record of either track
+
+pub of-shape : {k : ℕ} {s : List ℕ} {top : Six} {a : Tree} → Here k s top a → OfShape k s top a
+of-shape x = record { at = x .at; tops = x .tops; clean = x .good .clean }
 
 -- tracks that are both 1, or both not
 module _ (j k : ℕ) (e : eqb j 1 ≡ eqb k 1) (a : Tree) where
@@ -54,7 +57,7 @@ module _ (j k : ℕ) (e : eqb j 1 ≡ eqb k 1) (a : Tree) where
       }
 
   pub same-took : (c : Context) {before later : List ℕ} {r : ℕ} → Took (siadDriver k c) before a r later → Took (siadDriver j c) before a r later
-  same-took c t = record { answer = rw same-record (t .answer); register = rw same-record (t .register) }
+  same-took c t = record { answer = rw same-record (t .answer); register = rw same-record (t .register); discarded = t .discarded }
 
 pub record-1 : (a : Tree) → recordOf 1 a ≡ admission (headOf a) (admissionOf a)
 unfolding recordOf
@@ -85,10 +88,10 @@ within : (s : List ℕ) (at n : ℕ) → 0 < n → length (part s at (at + n)) �
 within s at n p e = omega (arith, simp (length-take, length-drop) at e)
 
 module _ (s : List ℕ) (top : Six) (r : HeadRead)
-    (told : (track at : ℕ) (a : Tree) → TopOf s at a top → faultOf (eachOf track) a ≡ 0 → IsHead s r (headOf a))
+    (told : (track : ℕ) (a : Tree) → OfShape track s top a → IsHead s r (headOf a))
     (k : ℕ) (a : Tree) (x : Here k s top a) where
   is-head : IsHead s r (headOf a)
-  is-head = told k (x .at) a (x .tops) (x .good .clean)
+  is-head = told k a (of-shape x)
 
   fits : KeyFits (headOf a .key)
   fits = rw (head-is k a) at (key-readable (recordOf k a) (readable (recordOf k a) (x .good .well)))

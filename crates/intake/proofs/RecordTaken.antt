@@ -1,6 +1,6 @@
 -- The two ways out of taking a record: discarded, and the register stays; accepted, and its rows are stored.
 use Prim.Native.Nat.{ℕ, _+_, _≤_}
-use mathlib.Core.Path.{_≡_, sym, ap, _∙_}
+use mathlib.Core.Path.{_≡_, refl, sym, ap, _∙_}
 use mathlib.Core.Bool.{true}
 use mathlib.Core.List.{List}
 use native.Mathlib.Omega.{arith}
@@ -16,11 +16,11 @@ use Rattle.register.specs.Stored.{Stored}
 use Rattle.home_care.specs.Row.{siad}
 use Rattle.home_care.specs.Record.{Record}
 use Rattle.home_care.specs.Anomalies.{Context}
-use Rattle.tracks.specs.Record.{recordOf}
+use Rattle.tracks.specs.RecordFields.{recordOf}
 use Rattle.soundness.specs.Sound.{isSound}
 use Rattle.soundness.proofs.Deciding.{sound-told}
 use Rattle.checks.specs.Flow.{next}
-use Rattle.checks.specs.Checks.{checksOf, siadMachine}
+use Rattle.checks.specs.CheckOrder.{checksOf, siadMachine}
 use Rattle.intake.specs.Driving.{Took}
 use Rattle.intake.specs.Taking.{siadDriver}
 use Rattle.intake.proofs.SoundBytes.{sound-stored}
@@ -44,6 +44,7 @@ module _ (k : ℕ) (a : Tree) (r : Record) (is : recordOf k a ≡ r) (c : Contex
       record {
         answer = answer-is;
         register = rw (is, ne-eqb (first (checksOf c r) s) 0 (λ q. z (judged ∙ q))) (sound-stored before f sound .bytes);
+        discarded = λ _. refl;
       }
 
   pub accepted : (later : List ℕ) → n ≡ 0 → Stored siad later (next r s) → length later ≡ length before → Took (siadDriver k c) before a n later
@@ -52,4 +53,5 @@ module _ (k : ℕ) (a : Tree) (r : Record) (is : recordOf k a ≡ r) (c : Contex
       record {
         answer = answer-is;
         register = rw (is, eq-eqb (first (checksOf c r) s) 0 (sym judged ∙ z)) (t .bytes ∙ ap (λ (m : ℕ). encode siad m (next r s)) l);
+        discarded = λ y. absurd (y z);
       }

@@ -12,17 +12,17 @@ use Rattle.nodes.specs.declared.Six.{Six}
 use Rattle.model.specs.Machine.{run}
 use Rattle.model.specs.Flow.{State}
 use Rattle.rows.specs.Packing.{each, Fit}
-use Rattle.register.specs.Layout.{room}
+use Rattle.register.specs.RoomAndEmptying.{room}
 use Rattle.register.specs.State.{stateOf, encode}
 use Rattle.home_care.specs.Row.{siad}
 use Rattle.home_care.specs.Anomalies.{Context}
-use Rattle.tracks.specs.Record.{recordOf}
+use Rattle.tracks.specs.RecordFields.{recordOf}
 use Rattle.tracks.specs.Top.{TopOf}
 use Rattle.soundness.specs.Sound.{isSound}
 use Rattle.checks.proofs.Valid.{Sound, sound-state}
 use Rattle.checks.proofs.WellReadable.{readable}
 use Rattle.intake.specs.Taking.{GoodRecord, Here, assistenza, siadDriver}
-use Rattle.intake.specs.Kids.{Next}
+use Rattle.intake.specs.Steps.{Next}
 use Rattle.intake.specs.declared.records.Tally.{Tally}
 use Rattle.intake.proofs.Along.{End, stepped}
 use Rattle.intake.proofs.Going.{Keeps, Going, going-good, going-fits}

@@ -1,14 +1,15 @@
 -- A call leaves a sound register sound, and its counts are conserved.
 use Prim.Native.Nat.{ℕ}
 use mathlib.Core.Path.{_≡_, refl, sym, ap, _∙_, subst}
-use mathlib.Core.Logic.{_⊎_, inl, inr, ⊎-elim, _≢_}
-use mathlib.Core.Bool.{Bool, true, false, _||_}
+use mathlib.Core.Logic.{⊎-elim, _≢_}
+use mathlib.Core.Bool.{true, _||_}
 use mathlib.Core.List.{List, [], _∷_, map}
 use native.Mathlib.Omega.{arith}
 use lib.Dec.{eqb}
 use lib.ListN.{length}
 use borrow.Author.Tests.{eqb-true}
-use Rattle.markup.specs.Reading.Read.{read}
+use Rattle.laws.proofs.Truth.{either}
+use Rattle.markup.specs.NamesAndValues.Read.{read}
 use Rattle.markup.specs.Elements.{Tree}
 use Rattle.markup.specs.Document.{document}
 use Rattle.reading.specs.Everywhere as within
@@ -16,13 +17,12 @@ use Rattle.schema.specs.Shape.{recordsOf, fine, shapeOf}
 use Rattle.schemas.specs.Track1.{track1}
 use Rattle.schemas.specs.Track2.{track2}
 use Rattle.schemas.specs.Schemas.{schemaOf}
-use Rattle.model.specs.Log as machine
 use Rattle.model.specs.Machine.{Machine, run}
 use Rattle.model.specs.Flow as flows
 use Rattle.model.specs.Flow.{State}
-use Rattle.model.proofs.MachineLaws.{Every, run-keeps-ok, taken-zeros}
+use Rattle.model.proofs.MachineLaws.{Every, run-keeps-ok}
 use Rattle.rows.specs.Packing.{each, Fit}
-use Rattle.register.specs.Layout.{room}
+use Rattle.register.specs.RoomAndEmptying.{room}
 use Rattle.register.specs.State.{stateOf, encode}
 use Rattle.register.specs.Stored.{Stored}
 use Rattle.register.proofs.States.{cases-held, events-held}
@@ -30,47 +30,50 @@ use Rattle.home_care.specs.Row.{siad}
 use Rattle.home_care.proofs.Laid.{laid-siad}
 use Rattle.home_care.specs.Record.{Record}
 use Rattle.home_care.specs.Anomalies.{Context}
-use Rattle.tracks.specs.Record.{recordOf}
+use Rattle.tracks.specs.RecordFields.{recordOf}
 use Rattle.tracks.specs.WellRead.{WellRead}
 use Rattle.tracks.proofs.WellRead.{file-read-1, file-read-2}
 use Rattle.soundness.specs.Sound.{isSound}
-use Rattle.checks.specs.Checks.{siadMachine}
+use Rattle.checks.specs.CheckOrder.{siadMachine}
 use Rattle.checks.specs.Readable.{Readable}
 use Rattle.checks.proofs.Accepted.{siad-discarded, siad-conserved}
 use Rattle.checks.proofs.Valid.{Sound, sound-state}
 use Rattle.checks.proofs.Kept.{kept}
 use Rattle.checks.proofs.WellReadable.{readable}
-use Rattle.intake.specs.Submitted.{Call, Submitted, entriesOf, contextOf, submitted}
-use Rattle.intake.specs.Order.{recordsIn}
+use Rattle.intake.specs.FileAnswers.{Call, Submitted, entriesOf, contextOf, submitted}
+use Rattle.intake.specs.RecordsIn.{recordsIn}
 use Rattle.intake.specs.Demands.{Conserved}
-use Rattle.intake.proofs.Outcome.{Passed, Outcome, stopped, passed, outcome}
+use Rattle.intake.proofs.Outcome.{Passed, Outcome, stopped, passed, outcome, taken-passed}
 use Rattle.intake.proofs.SoundBytes.{sound-long, sound-stored, encode-fit, state-long, state-stored, state-sound}
-use Rattle.intake.proofs.Files.{taken-passed}
 
 -- ---- the records of a file that is of the shape are readable
 
-each-record : (k : ℕ) (ts : List Tree) → within.Every (λ t. WellRead (recordOf k t)) ts → Every Readable (map (recordOf k) ts)
+each-record : (k : ℕ) (ts : List Tree) → within.Every (λ t. WellRead (recordOf k t)) ts → Every WellRead (map (recordOf k) ts)
 each-record k [] h = tt
-each-record k (t ∷ ts) h = (readable (recordOf k t) (h .0), each-record k ts (h .1))
+each-record k (t ∷ ts) h = (h .0, each-record k ts (h .1))
 
-pub either : (a b : Bool) → a || b ≡ true → (a ≡ true) ⊎ (b ≡ true)
-either true b h = inl refl
-either false b h = inr h
+each-readable : (rs : List Record) → Every WellRead rs → Every Readable rs
+each-readable [] h = tt
+each-readable (r ∷ rs) h = (readable r (h .0), each-readable rs (h .1))
+
+pub all-well : (x : Call) (t : Tree) (l : List ℕ) (n : ℕ) → eqb (x .track) 1 || eqb (x .track) 2 ≡ true →
+    document (x .file) ≡ read t l → shapeOf (schemaOf (x .track)) t ≡ fine n → Every WellRead (recordsIn x)
+all-well x t l n k d f =
+    rw d (⊎-elim (λ e. first-track (eqb-true (x .track) 1 e)) (λ e. second-track (eqb-true (x .track) 2 e)) (either (eqb (x .track) 1) (eqb (x .track) 2) k))
+  where
+    first-track : x .track ≡ 1 → Every WellRead (entriesOf (x .track) t)
+    first-track e =
+        subst (λ (j : ℕ). Every WellRead (entriesOf j t)) (sym e)
+        (each-record 1 (recordsOf track1 t) (file-read-1 (x .file) t l n d (subst (λ (j : ℕ). shapeOf (schemaOf j) t ≡ fine n) e f)))
+
+    second-track : x .track ≡ 2 → Every WellRead (entriesOf (x .track) t)
+    second-track e =
+        subst (λ (j : ℕ). Every WellRead (entriesOf j t)) (sym e)
+        (each-record 2 (recordsOf track2 t) (file-read-2 (x .file) t l n d (subst (λ (j : ℕ). shapeOf (schemaOf j) t ≡ fine n) e f)))
 
 pub all-readable : (x : Call) (t : Tree) (l : List ℕ) (n : ℕ) → eqb (x .track) 1 || eqb (x .track) 2 ≡ true →
     document (x .file) ≡ read t l → shapeOf (schemaOf (x .track)) t ≡ fine n → Every Readable (recordsIn x)
-all-readable x t l n k d f =
-    rw d (⊎-elim (λ e. first-track (eqb-true (x .track) 1 e)) (λ e. second-track (eqb-true (x .track) 2 e)) (either (eqb (x .track) 1) (eqb (x .track) 2) k))
-  where
-    first-track : x .track ≡ 1 → Every Readable (entriesOf (x .track) t)
-    first-track e =
-        subst (λ (j : ℕ). Every Readable (entriesOf j t)) (sym e)
-        (each-record 1 (recordsOf track1 t) (file-read-1 (x .file) t l n d (subst (λ (j : ℕ). shapeOf (schemaOf j) t ≡ fine n) e f)))
-
-    second-track : x .track ≡ 2 → Every Readable (entriesOf (x .track) t)
-    second-track e =
-        subst (λ (j : ℕ). Every Readable (entriesOf j t)) (sym e)
-        (each-record 2 (recordsOf track2 t) (file-read-2 (x .file) t l n d (subst (λ (j : ℕ). shapeOf (schemaOf j) t ≡ fine n) e f)))
+all-readable x t l n k d f = each-readable (recordsIn x) (all-well x t l n k d f)
 
 -- ---- a run of readable records keeps a state sound
 
@@ -82,10 +85,10 @@ step-kept c n e s r i w z = kept c n e s i r w z
 pub run-kept : (c : Context) (n : ℕ) → c .room ≡ room siad n → (s : State ℕ ℕ) (rs : List Record) → Sound n s → Every Readable rs → Sound n (run (siadMachine c) s rs)
 run-kept c n e s rs i w = run-keeps-ok (siadMachine c) (Sound n) Readable (step-kept c n e) s rs i w
 
--- a discarded record leaves the register's bytes as they were
-pub discarded-keeps : (c : Context) (n : ℕ) (s : State ℕ ℕ) (r : Record) → siadMachine c .judge s r ≢ 0 →
-    encode siad n (run (siadMachine c) s (r ∷ [])) ≡ encode siad n s
-discarded-keeps c n s r z = ap (encode siad n) (siad-discarded c .as-it-was s r z)
+-- a discarded record leaves a sound register's bytes as they were
+pub discarded-keeps : (c : Context) (reg : List ℕ) → Fit (each 8 reg) → isSound reg ≡ true → (r : Record) →
+    siadMachine c .judge (stateOf siad reg) r ≢ 0 → encode siad (length reg) (run (siadMachine c) (stateOf siad reg) (r ∷ [])) ≡ reg
+discarded-keeps c reg f h r z = ap (encode siad (length reg)) (siad-discarded c .as-it-was (stateOf siad reg) r z) ∙ sym (sound-stored reg f h .bytes)
 
 -- ---- one call
 
@@ -103,7 +106,7 @@ module _ (x : Call) (reg : List ℕ) (f : Fit (each 8 reg)) where
   t = run m s (recordsIn x)
 
   module _ (p : Passed x reg) where
-    left-sound : Sound (length reg) t
+    pub left-sound : Sound (length reg) t
     left-sound =
         run-kept (contextOf x (length reg)) (length reg) refl s (recordsIn x) (sound-state reg f (p .sound))
         (all-readable x (p .tree) (p .left) (p .records) (p .track-is) (p .markup) (p .shape))
@@ -137,7 +140,7 @@ module _ (x : Call) (reg : List ℕ) (f : Fit (each 8 reg)) where
       go (stopped a n e _ _) = subst (λ (r : Submitted). Fit (each 8 (r .register))) (sym e) f
       go (passed p) = subst (λ (b : List ℕ). Fit (each 8 b)) (sym (register-is p)) (encode-fit (length reg) t)
 
-  -- "Conserved by each file"
+  -- K1 and K2, of each file
   pub file-conserved : call .answer ≡ 0 → Conserved x reg call
   file-conserved z =
       let p = taken-passed x reg z in
@@ -150,20 +153,3 @@ module _ (x : Call) (reg : List ℕ) (f : Fit (each 8 reg)) where
         events =
             omega (arith, events-held siad laid-siad (call .register) t a, events-held siad laid-siad reg s b, c .plain (λ r k. refl));
       }
-
-  -- where no record is accepted, every byte of the register is as it was
-  pub none-accepted : call .accepted ≡ 0 → call .register ≡ reg
-  unfolding run
-  none-accepted z = go (outcome x reg)
-    where
-      nil : (rs : List Record) → length rs ≡ 0 → rs ≡ []
-      nil [] e = refl
-      nil (r ∷ rs) e = absurd (omega arith)
-
-      go : Outcome x reg → call .register ≡ reg
-      go (stopped a n e _ _) = ap (λ (r : Submitted). r .register) e
-      go (passed p) =
-          let rs : List Record = recordsIn x in
-          let none : machine.acceptedBy m s rs ≡ [] = nil (machine.acceptedBy m s rs) (taken-zeros m s rs ∙ sym (ap (λ (r : Submitted). r .accepted) (p .gives)) ∙ z) in
-          let same : t ≡ s = sym (siad-discarded (contextOf x (length reg)) .without s rs) ∙ ap (run m s) none in
-          register-is p ∙ ap (encode siad (length reg)) same ∙ sym (sound-stored reg f (p .sound) .bytes)

@@ -14,7 +14,8 @@ use Rattle.model.specs.Flow.{State, empty}
 use Rattle.rows.specs.Packing.{each, digits, Fit}
 use Rattle.rows.proofs.Packing.{fit-append}
 use Rattle.rows.proofs.Bytes.{each-append, digits-fit}
-use Rattle.register.specs.Layout.{caseRest, eventRest, room}
+use Rattle.register.specs.Layout.{caseRest, eventRest}
+use Rattle.register.specs.RoomAndEmptying.{room}
 use Rattle.register.specs.State.{unsplit, stateOf, rowsBytes, used, encode}
 use Rattle.register.specs.Stored.{Stored, Fits}
 use Rattle.register.specs.Sound.{valid, ascending}
@@ -38,7 +39,7 @@ module _ (reg : List ℕ) (f : Fit (each 8 reg)) (h : isSound reg ≡ true) wher
 
 -- ---- from the state to the bytes
 
-fit-zeros : (n : ℕ) → Fit (each 8 (replicate n 0))
+pub fit-zeros : (n : ℕ) → Fit (each 8 (replicate n 0))
 fit-zeros zero = tt
 fit-zeros (suc n) = (omega arith, fit-zeros n)
 

@@ -1,4 +1,4 @@
--- The ways out of a call, in the order of document 01's table: what each test found, and what the call then gives.
+-- The ways out of a call, in the order of F1 to F8: what each test found, and what the call then gives.
 use Prim.Native.Nat.{ℕ, _≤_, _<_}
 use mathlib.Core.Path.{_≡_, refl, sym, ap, _∙_}
 use mathlib.Core.Bool.{Bool, true, false, cond, _||_}
@@ -10,22 +10,23 @@ use Rattle.days.specs.Quarters.{isPeriod, firstDay, lastDay}
 use Rattle.days.specs.View.{quarterOf}
 use Rattle.days.specs.declared.quarters.Quarter.{Quarter}
 use Rattle.days.specs.declared.quarters.Quarter.the-variants as quarters
-use Rattle.markup.specs.Reading.{Read, then}
-use Rattle.markup.specs.Reading.Read.{refused, read}
+use Rattle.markup.specs.NamesAndValues.{Read, then}
+use Rattle.markup.specs.NamesAndValues.Read.{refused, read}
 use Rattle.markup.specs.Elements.{Tree, element, depth}
 use Rattle.markup.specs.Document.{document, inMarkup}
 use Rattle.reading.specs.Everywhere.{Every}
 use Rattle.reading.proofs.Cut.{never}
 use Rattle.schema.specs.Shape.{Shape, fine, faulty, recordsOf, shapeOf}
-use Rattle.schema.specs.Counted.{good, bad, over, heldBy}
+use Rattle.schema.specs.CountedElements.{good, bad, over, heldBy}
 use Rattle.schemas.specs.Schemas.{schemaOf}
-use Rattle.register.specs.Layout.{room}
+use Rattle.register.specs.RoomAndEmptying.{room}
 use Rattle.home_care.specs.Row.{siad}
-use Rattle.tracks.specs.Record.{recordOf, crowdedIn}
+use Rattle.tracks.specs.RecordFields.{recordOf}
+use Rattle.tracks.specs.TooMany.{crowdedIn}
 use Rattle.soundness.specs.Sound.{isSound}
-use Rattle.intake.specs.Submitted.{Call, Submitted, longest, entriesOf, contextOf, refusal, takenFile, ofShape, byShape, byMarkup, submitted}
+use Rattle.intake.specs.FileAnswers.{Call, Submitted, longest, entriesOf, contextOf, refusal, takenFile, ofShape, byShape, byMarkup, submitted}
 use Rattle.intake.specs.Taking.{GoodRecord}
-use Rattle.intake.specs.Kids.{Whole, uncounted}
+use Rattle.intake.specs.Steps.{Whole, uncounted}
 use Rattle.intake.specs.View.{Says}
 use Rattle.intake.specs.declared.Report.{Report}
 use Rattle.intake.proofs.Filing.{all-good}

@@ -1,9 +1,11 @@
--- What is demanded of one call (document 01, "Answers for a file", "What the contracts must tie down", "Conserved by each file").
+-- What is demanded of one call (RULES.md, 6 Answers for a file, 9 What is conserved).
 use Prim.Native.Nat.{ℕ, _+_, _<_}
 use mathlib.Core.Path.{_≡_}
 use mathlib.Core.Logic.{_↔_, _≢_}
+use mathlib.Core.Bool.{true}
 use mathlib.Core.List.{List}
 use lib.ListN.{length, take, drop, getD}
+use Rattle.model.specs.Map.{Once}
 use Rattle.model.specs.Checks.{NoneHolds, FirstIs}
 use Rattle.model.specs.Log as machine
 use Rattle.model.specs.Log.{sumOf, casesIn, casesOut, eventsIn, eventsOut}
@@ -11,16 +13,17 @@ use Rattle.model.specs.Machine.{run}
 use Rattle.model.specs.Flow.{State}
 use Rattle.model.specs.Demands.{Counted}
 use Rattle.register.specs.Layout.{casesHeld, eventsHeld}
-use Rattle.register.specs.State.{stateOf}
+use Rattle.register.specs.State.{stateOf, encode}
 use Rattle.home_care.specs.Row.{siad}
 use Rattle.home_care.specs.Record.{Record}
 use Rattle.home_care.specs.Anomalies.{Context}
+use Rattle.soundness.specs.Sound.{isSound}
 use Rattle.checks.specs.Flow.{flow}
-use Rattle.checks.specs.Checks.{checksOf, siadMachine}
-use Rattle.intake.specs.Submitted.{Call, Submitted, contextOf}
-use Rattle.intake.specs.Order.{recordsIn}
+use Rattle.checks.specs.CheckOrder.{checksOf, siadMachine}
+use Rattle.intake.specs.FileAnswers.{Call, Submitted, contextOf}
+use Rattle.intake.specs.RecordsIn.{recordsIn}
 
--- Demand 1: "Answers 1 to 8 report all counts 0 and change no lent byte"; "The record number is 0 except as said for 6 and 7"
+-- Demand 1, G4: "With 1 to 8 all three counts are 0, and no byte of register or answer list changes"; G3: "The record number is 0 but as F6 and F7 say"
 pub record Refused (x : Call) (reg : List ℕ) (r : Submitted) : Type 0 where
   pub register : r .register ≡ reg
   pub answers : r .answers ≡ x .answerList
@@ -34,9 +37,13 @@ module _ (x : Call) (reg : List ℕ) where
   abbrev pub context : Context
   context = contextOf x (length reg)
 
-  -- "each judged against the register that the earlier ones left": what the first i records left
+  -- G7: "each judged against the register that the earlier ones left": what the first i records left
   abbrev pub leftBy : ℕ → State ℕ ℕ
   leftBy i = run (siadMachine context) (stateOf siad reg) (take i (recordsIn x))
+
+  -- what all of them left
+  abbrev pub left : State ℕ ℕ
+  left = run (siadMachine context) (stateOf siad reg) (recordsIn x)
 
   -- the records that were accepted
   abbrev pub acceptedIn : List Record
@@ -49,14 +56,21 @@ module _ (x : Call) (reg : List ℕ) where
     pub zero : (d : Record) (i : ℕ) → i < r .records → getD (r .answers) i 0 ≡ 0 ↔ NoneHolds (checksOf context (getD (recordsIn x) i d)) (leftBy i)
     pub other : (d : Record) (i n : ℕ) → i < r .records → n ≢ 0 →
         getD (r .answers) i 0 ≡ n ↔ FirstIs (checksOf context (getD (recordsIn x) i d)) (leftBy i) n
-    -- "later bytes stay"
+    -- G6: "later bytes stay"
     pub long : length (r .answers) ≡ length (x .answerList)
     pub later : drop (r .records) (r .answers) ≡ drop (r .records) (x .answerList)
-    -- "the answer list fixes them": accepted + discarded = records, and accepted = the list's zeros
+    -- K3: "accepted + discarded = records, and accepted is the zeros of the answer list"
     pub counts : Counted (take (r .records) (r .answers)) (r .records) (r .accepted) (r .discarded)
     pub number : r .number ≡ 0
+    -- the register's rows are the packed fields of what stands, each key once (R30); nothing else is in its bytes
+    pub register : r .register ≡ encode siad (length reg) left
+    pub stands : stateOf siad (r .register) ≡ left
+    pub cases-once : Once (left .cases)
+    pub events-once : Once (left .events)
+    -- F3: "The register is not sound" can't come of it
+    pub sound : isSound (r .register) ≡ true
 
-  -- "cases after = cases before + accepted Track 1 insertions - cancellations; events likewise by accepted event keys", by the register's counts
+  -- K1: "cases after = cases before + accepted insertions of Track 1 - its accepted cancellations"; K2 likewise by event keys; by the register's counts
   pub record Conserved (r : Submitted) : Type 0 where
     pub cases : casesHeld (r .register) + sumOf (casesOut flow) acceptedIn ≡ casesHeld reg + sumOf (casesIn flow) acceptedIn
     pub events : eventsHeld (r .register) + sumOf (eventsOut flow) acceptedIn ≡ eventsHeld reg + sumOf (eventsIn flow) acceptedIn

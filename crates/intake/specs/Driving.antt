@@ -1,7 +1,8 @@
--- What the code asks and tells while it takes a file's records into a register, for the machine of any flow (document 01, "Records are applied in file order,
+-- What the code asks and tells while it takes a file's records into a register, for the machine of any flow (RULES.md, G7: "Records are taken in file order,
 -- each judged against the register that the earlier ones left").
 use Prim.Native.Nat.{ℕ, _+_, _≤_}
 use mathlib.Core.Path.{_≡_}
+use mathlib.Core.Logic.{_≢_}
 use mathlib.Core.Bool.{true, false, cond}
 use mathlib.Core.List.{List, _++_, map}
 use lib.Dec.{eqb}
@@ -27,12 +28,14 @@ pub record Driver (S R : Type 0) : Type 1 where
   pub good : Tree → Type 0
 
 module _ {S R : Type 0} (d : Driver S R) where
-  -- one record: its answer, and the register's bytes after it; "a discarded record leaves the register as it was"
+  -- one record: its answer, and the register's bytes after it
   pub record Took (before : List ℕ) (a : Tree) (r : ℕ) (later : List ℕ) : Type 0 where
     pub answer : r ≡ d .machine .judge (d .stateOf before) (d .recordOf a)
     pub register : later ≡ d .encode (length before) (step (d .machine) (d .stateOf before) (d .recordOf a))
+    -- J6: "A discarded record changes nothing", no byte of the register
+    pub discarded : r ≢ 0 → later ≡ before
 
-  -- all records: how many were accepted, the register after them, and the answer list; "later bytes stay"
+  -- all records: how many were accepted, the register after them, and the answer list, G6: "later bytes stay"
   pub record TookAll (before list : List ℕ) (ts : List Tree) (accepted : ℕ) (later told : List ℕ) : Type 0 where
     pub counted : accepted ≡ zeros (answers (d .machine) (d .stateOf before) (map (d .recordOf) ts))
     pub register : later ≡ d .encode (length before) (run (d .machine) (d .stateOf before) (map (d .recordOf) ts))

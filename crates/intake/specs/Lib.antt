@@ -1,8 +1,8 @@
-pub mod Submitted
-pub mod Order
+pub mod FileAnswers
+pub mod RecordsIn
 pub mod Demands
 pub mod Histories
 pub mod Driving
 pub mod Taking
 pub mod View
-pub mod Kids
+pub mod Steps

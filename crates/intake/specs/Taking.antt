@@ -5,7 +5,7 @@ use mathlib.Core.Bool.{false}
 use mathlib.Core.List.{List}
 use lib.Dec.{eqb}
 use lib.ListN.{length}
-use Rattle.laws.specs.Text.{bytes}
+use Rattle.laws.specs.Lists.{bytes}
 use Rattle.markup.specs.Elements.{Tree}
 use Rattle.schema.specs.Shape.{faultOf}
 use Rattle.nodes.specs.declared.Six.{Six}
@@ -14,11 +14,11 @@ use Rattle.register.specs.State.{stateOf, encode}
 use Rattle.home_care.specs.Row.{siad}
 use Rattle.home_care.specs.Record.{Record}
 use Rattle.home_care.specs.Anomalies.{Context}
-use Rattle.tracks.specs.Record.{allSaid, recordOf}
+use Rattle.tracks.specs.RecordFields.{allSaid, recordOf}
 use Rattle.tracks.specs.View.{eachOf}
 use Rattle.tracks.specs.Top.{TopOf}
 use Rattle.tracks.specs.WellRead.{WellRead}
-use Rattle.checks.specs.Checks.{siadMachine}
+use Rattle.checks.specs.CheckOrder.{siadMachine}
 use Rattle.intake.specs.Driving.{Driver}
 
 -- a record that is of the shape, its fields in range; no more events than 7 allows

@@ -2,7 +2,7 @@
 use Prim.Native.Nat.{ℕ}
 use mathlib.Core.Path.{_≡_}
 use mathlib.Core.List.{List}
-use Rattle.intake.specs.Submitted.{Submitted}
+use Rattle.intake.specs.FileAnswers.{Submitted}
 use Rattle.intake.specs.declared.Report.{Report}
 
 pub record Says (v : Submitted) (r : Report) (reg list : List ℕ) : Type 0 where

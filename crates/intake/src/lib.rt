@@ -1,9 +1,9 @@
-// A file taken into a register (document 01, "Answers for a file").
-pub mod admission;
-pub mod events;
+// A file taken into a register (RULES.md, 6 Answers for a file).
 pub mod record;
 pub mod records;
 pub mod submit;
+pub mod track1;
+pub mod track2;
 
 // The file's answer, the record number, and the counts.
 pub struct Report {

@@ -5,23 +5,24 @@ ghost use lib.Dec.{eqb};
 ghost use lib.ListN.{length};
 ghost use Rattle.markup.specs.Elements.{Tree};
 ghost use Rattle.markup.specs.Document.{document};
-ghost use Rattle.register.specs.Layout.{room};
+ghost use Rattle.register.specs.RoomAndEmptying.{room};
 ghost use Rattle.home_care.specs.Row.{siad};
 ghost use Rattle.soundness.specs.Sound.{isSound};
 ghost use Rattle.judge.specs.View.{contextIn};
-ghost use Rattle.intake.specs.Submitted.{Call, callOf, entriesOf, contextOf, takenFile, byMarkup, submitted};
-ghost use Rattle.intake.specs.Kids.{Whole, callWith, uncounted};
+ghost use Rattle.intake.specs.FileAnswers.{Call, callOf, entriesOf, contextOf, takenFile, byMarkup, submitted};
+ghost use Rattle.intake.specs.Steps.{Whole, callWith, uncounted};
 ghost use Rattle.intake.specs.View.{Says};
 use crate::Report;
 use crate::records::take_file;
 use days::quarters::Quarter;
 use days::quarters::quarter_days;
+use home_care::layout::ROW;
 use judge::Limits;
 use markup::Document;
 use markup::file::document;
+use register::room::room_of;
 use schema::file::ShapeAnswer;
 use soundness::sound::is_sound;
-use soundness::sound::room_of;
 use tracks::shapes::shape_of;
 
 // The longest submission.
@@ -85,7 +86,7 @@ fn by_markup(l: Limits, track: u64, sub: &[u8], reg: &mut [u8], answers: &mut [u
     }
 }
 
-// A submission of a track, for a quarter, to a register: the answers in the order of document 01's table.
+// A submission of a track, for a quarter, to a register: the answers in the order of F1 to F8.
 pub fn submit(
     sub: &[u8],
     track: u64,
@@ -108,7 +109,7 @@ pub fn submit(
     if LONGEST < sub.len() {
         return refused(4, 0);
     }
-    let room = room_of(reg.len());
+    let room = room_of(ROW, reg.len());
     let l = Limits {
         first: first as u64,
         last: last as u64,

@@ -8,7 +8,7 @@ use borrow.Author.Tests.{eq-eqb, ne-eqb}
 use Rattle.laws.proofs.Order.{Tri, below, equal, above, tri}
 use Rattle.model.specs.Transmission.{Kind, isInsert, isCancel}
 use Rattle.home_care.specs.Anomalies.{Context}
-use Rattle.judge.specs.Chain.{answerAdmission}
+use Rattle.judge.specs.Asked.{answerAdmission}
 
 -- ---- the record by itself
 

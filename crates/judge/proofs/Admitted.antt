@@ -7,9 +7,8 @@ use mathlib.Core.List.{List}
 use native.Mathlib.Omega.{arith}
 use lib.Dec.{eqb, ltb}
 use lib.ListN.{length, getD, List·getD-eq-default}
-use Rattle.laws.specs.Lists.{same}
-use Rattle.laws.specs.Text.{bytes}
-use Rattle.days.specs.Calendar.{yearOf}
+use Rattle.laws.specs.Lists.{same, bytes}
+use Rattle.days.specs.DayNumbers.{yearOf}
 use Rattle.home_care.specs.Row.{Key, Case}
 use Rattle.home_care.specs.Anomalies.{t11, t12, isItaly}
 

@@ -10,7 +10,7 @@ use borrow.Author.Tests.{eqb-true, eqb-false, ne-eqb, le-ltb, not-true}
 use Rattle.laws.specs.Lists.{all, any, somePair}
 use Rattle.laws.proofs.Truth.{or-left, or-right, and-left, and-right}
 use Rattle.laws.proofs.Every.{Every, both-false}
-use Rattle.days.specs.Calendar.{dayCount}
+use Rattle.days.specs.DayNumbers.{dayCount}
 use Rattle.model.specs.Map.{Row, Map, isSome, orElse, find, has, putAll, delAll, keep, Asc, twice}
 use Rattle.model.specs.Transmission.{Kind, insert, vary, cancel, isCancel}
 use Rattle.model.specs.Flow.{State, applied}
@@ -21,17 +21,16 @@ use Rattle.register.specs.Sound.{eventsOf}
 use Rattle.home_care.specs.Row.{never, keyNumber, siad, eventNumberIn, kindOf, dateOf, endOf, eventIn}
 use Rattle.home_care.specs.Anomalies.{isSuspension, isConclusion, afterConclusion, t23, t25, t26, t27, t28, Context}
 use Rattle.home_care.specs.Allowed.{eventAllowed, endAllowed, eventRowAllowed}
-use Rattle.home_care.specs.Record.{Head, Said, events, eventNumbers}
+use Rattle.home_care.specs.Record.{Head, Said, events, eventNumbers, typeOf}
 use Rattle.home_care.proofs.ReadBack.{taken-read}
 use Rattle.soundness.specs.Sound.{eventsFree}
 use Rattle.checks.specs.Flow.{eventRows, next}
-use Rattle.checks.specs.Flow as flow
-use Rattle.checks.specs.Checks.{afterwards}
+use Rattle.checks.specs.CheckOrder.{afterwards}
 use Rattle.checks.specs.Readable.{Readable, eventReadable}
 use Rattle.checks.proofs.RowTests.{all-keep, all-events}
 use Rattle.checks.proofs.RowsAllowed.{each-row, event-row-allowed, row-case}
 use Rattle.checks.proofs.Valid.{Sound, Parts, parts-of, free-any}
-use Rattle.judge.specs.Against.{wrong, clash, keyAmong, fresh}
+use Rattle.judge.specs.ByNumber.{wrong, clash, keyAmong, fresh}
 use Rattle.judge.proofs.Pairs.{any-agree, any-map, pair-map, all-pairs, any-keep, pair-keep, any-putAll, pair-putAll, fails-less}
 use Rattle.judge.proofs.Keys.{Own, own-standing, own-rows, rows-back, has-own, twice-rows}
 
@@ -200,7 +199,7 @@ module _ (n : ℕ) (s : State ℕ ℕ) (v : Sound n s) (h : Head) (es : List Sai
   case = keyNumber (h .key)
 
   abbrev kind : Kind
-  kind = flow.typeOf (h .tipo)
+  kind = typeOf (h .tipo)
 
   abbrev then : List ℕ
   then = afterwards next h (events h es) s

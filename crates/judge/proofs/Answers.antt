@@ -16,13 +16,13 @@ use Rattle.register.specs.Layout.{caseNamed}
 use Rattle.register.specs.Sound.{eventsOf}
 use Rattle.home_care.specs.Row.{keyNumber, siad, eventNumberIn}
 use Rattle.home_care.specs.Anomalies.{zeroWritten, badConferma, Context, outOfQuarter, t11, t12, zeroKept}
-use Rattle.home_care.specs.Record.{Head, Admission, Said, admission, events, eventNumbers}
-use Rattle.checks.specs.Flow.{typeOf, eventRows}
-use Rattle.checks.specs.Checks.{checksOf}
+use Rattle.home_care.specs.Record.{Head, Admission, Said, admission, events, eventNumbers, typeOf}
+use Rattle.checks.specs.Flow.{eventRows}
+use Rattle.checks.specs.CheckOrder.{checksOf}
 use Rattle.checks.specs.Readable.{Readable}
 use Rattle.checks.proofs.Valid.{Sound}
-use Rattle.judge.specs.Against.{wrong}
-use Rattle.judge.specs.Chain.{againstStanding, answerAdmission}
+use Rattle.judge.specs.ByNumber.{wrong}
+use Rattle.judge.specs.Asked.{againstStanding, answerAdmission}
 use Rattle.judge.proofs.InOrder.{answerEvents}
 use Rattle.judge.proofs.Keys.{is22, is14, is15}
 use Rattle.judge.proofs.Afterwards.{is25, is26, is27, is28}

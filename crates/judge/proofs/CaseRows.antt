@@ -24,7 +24,7 @@ use Rattle.soundness.specs.Sound.{eventsFree, isSound}
 use Rattle.soundness.proofs.SoundLaws.{sound-is-stored}
 use Rattle.soundness.proofs.FindPlace.{keys-rise}
 use Rattle.checks.proofs.Valid.{sound-state, parts-of, free-any}
-use Rattle.judge.specs.Standing.{eventAt, standingIn, Climbs, Settled, OfCase}
+use Rattle.judge.specs.CaseRows.{eventAt, standingIn, Climbs, Settled, OfCase}
 use Rattle.judge.proofs.Rows.{any-not, pair-not}
 use Rattle.judge.proofs.Afterwards.{Clear, clear-of}
 

@@ -6,8 +6,8 @@ use mathlib.Core.List.{List}
 use lib.ListN.{length, drop, getD, drop-of-length-le}
 use Rattle.laws.specs.Lists.{any, somePair}
 use Rattle.laws.proofs.Places.{front}
-use Rattle.judge.specs.Against.{clash, keyAmong}
-use Rattle.judge.specs.Standing.{standingIn, Settled, Outside}
+use Rattle.judge.specs.ByNumber.{clash, keyAmong}
+use Rattle.judge.specs.CaseRows.{standingIn, Settled, Outside}
 use Rattle.judge.proofs.Rows.{part-enough}
 
 -- a standing event clashes with a, and is not replaced

@@ -10,10 +10,10 @@ use borrow.Author.Tests.{eq-eqb, ne-eqb}
 use Rattle.laws.specs.Lists.{any, somePair}
 use Rattle.model.specs.Transmission.{Kind, insert, vary, cancel, isInsert, isCancel}
 use Rattle.home_care.specs.Anomalies.{Context}
-use Rattle.judge.specs.Against.{wrong, clash, keyAmong, fresh}
-use Rattle.judge.specs.Chain.{againstStanding}
+use Rattle.judge.specs.ByNumber.{wrong, clash, keyAmong, fresh}
+use Rattle.judge.specs.Asked.{againstStanding}
 use Rattle.judge.proofs.InOrder.{answerEvents}
-use Rattle.judge.specs.Standing.{standingIn, Settled}
+use Rattle.judge.specs.CaseRows.{standingIn, Settled}
 use Rattle.judge.proofs.Rows.{no-row}
 
 -- ---- 22: with nothing that stands, only the record's events

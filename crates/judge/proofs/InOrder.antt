@@ -6,8 +6,8 @@ use lib.Dec.{eqb}
 use lib.ListN.{length}
 use Rattle.laws.specs.Lists.{any, somePair}
 use Rattle.home_care.specs.Anomalies.{Context}
-use Rattle.judge.specs.Against.{wrong, clash}
-use Rattle.judge.specs.Chain.{againstStanding}
+use Rattle.judge.specs.ByNumber.{wrong, clash}
+use Rattle.judge.specs.Asked.{againstStanding}
 
 -- 20, 10, 21, 13, 22, 23, 24, and those against a case that stands
 unfoldable pub answerEvents : Context → (inserts cancels : Bool) → (taken : ℕ) → (es : List ℕ) → (bad zero stands : Bool) → (rows : ℕ) → (standing : List ℕ) → ℕ

@@ -12,19 +12,19 @@ use Rattle.laws.proofs.Order.{eqb-sym}
 use Rattle.laws.proofs.Truth.{and-left}
 use Rattle.laws.proofs.Every.{Every, every-map, all-told, same-truth}
 use Rattle.model.specs.Map.{Row, Map, isSome, find, has, keep, anyIn, allIn, twice}
-use Rattle.model.specs.Flow.{t22}
+use Rattle.model.specs.Anomalies.{t22}
 use Rattle.model.proofs.Lists.{any-same, not-all}
 use Rattle.model.proofs.MapLaws.{find-keep}
 use Rattle.register.specs.Layout.{caseNamed, eventRest}
 use Rattle.register.specs.Sound.{eventsOf}
-use Rattle.register.specs.Stored.{Fits}
-use Rattle.home_care.specs.Row.{eventBits, eventKeyBits, keyNumber, siad, eventNumberIn, eventKeyOf, eventIn}
+use Rattle.register.specs.Stored.{Fits, events as eventGroup}
+use Rattle.home_care.specs.Row.{eventBits, keyNumber, siad, eventNumberIn, eventKeyOf, eventIn}
 use Rattle.home_care.specs.Allowed.{eventAllowed}
 use Rattle.home_care.specs.Record.{Head, Said, events, eventNumbers}
 use Rattle.home_care.proofs.ReadBack.{event-case, event-read, event-val-lt}
 use Rattle.checks.specs.Flow.{flow, eventRows}
 use Rattle.checks.specs.Readable.{eventReadable}
-use Rattle.judge.specs.Against.{clash, keyAmong}
+use Rattle.judge.specs.ByNumber.{clash, keyAmong}
 use Rattle.judge.proofs.Pairs.{any-agree, any-map}
 
 -- a row of the case c, with no bits beyond its own
@@ -43,7 +43,7 @@ has-any k (x ∷ m) = go (eqb k (x .key)) (has-any k m)
 
 -- ---- a case's standing rows, and a record's rows
 
-pub own-standing : (c : ℕ) (m : Map ℕ) → Fits eventKeyBits (eventRest siad) m → Every (Own c) (eventsOf siad c m)
+pub own-standing : (c : ℕ) (m : Map ℕ) → Fits eventGroup siad m → Every (Own c) (eventsOf siad c m)
 unfolding Fits keep
 own-standing c [] f = tt
 own-standing c (r ∷ m) f = go (eqb (caseNamed siad (r .key)) c) refl (own-standing c m (f .1))
@@ -117,7 +117,7 @@ pub is22 : (h : Head) (es : List Said) → all eventReadable es ≡ true → t22
 unfolding twice
 is22 h es w = twice-rows (keyNumber (h .key)) es w
 
-module _ (c : ℕ) (es : List Said) (w : all eventReadable es ≡ true) (m : Map ℕ) (f : Fits eventKeyBits (eventRest siad) m) where
+module _ (c : ℕ) (es : List Said) (w : all eventReadable es ≡ true) (m : Map ℕ) (f : Fits eventGroup siad m) where
   abbrev standing : List ℕ
   standing = map eventNumberIn (eventsOf siad c m)
 

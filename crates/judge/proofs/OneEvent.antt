@@ -1,4 +1,4 @@
--- What the code asks of one event and of two, as the paper's tests: each way out.
+-- What the code asks of one event and of two, as the rules' tests: each way out.
 use Prim.Native.Nat.{ℕ}
 use mathlib.Core.Path.{_≡_, _∙_}
 use mathlib.Core.Bool.{Bool, true, false, cond, not, _&&_, _||_, Bool·beq}
@@ -6,7 +6,7 @@ use lib.Dec.{eqb, ltb}
 use borrow.Author.Tests.{ne-eqb, not-true, not-false}
 use Rattle.home_care.specs.Row.{never, kindOf, dateOf, endOf, eventKeyOf}
 use Rattle.home_care.specs.Anomalies.{shareDay, afterConclusion, Context, dayFor, outOfQuarter}
-use Rattle.judge.specs.Against.{wrong, clash}
+use Rattle.judge.specs.ByNumber.{wrong, clash}
 
 -- ---- the day for 10
 

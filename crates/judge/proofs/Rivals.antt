@@ -9,8 +9,8 @@ use borrow.Author.Tests.{eqb-true, ne-eqb, not-true}
 use Rattle.laws.proofs.Truth.{or-left, or-right}
 use Rattle.home_care.specs.Row.{kindOf}
 use Rattle.home_care.specs.Anomalies.{isConclusion, shareDay}
-use Rattle.judge.specs.Against.{clash}
-use Rattle.judge.specs.Standing.{Outside}
+use Rattle.judge.specs.ByNumber.{clash}
+use Rattle.judge.specs.CaseRows.{Outside}
 
 -- what a weaker test leaves out, a stronger one does
 outside-map : (p q : ℕ → Bool) (reg : List ℕ) (lo hi a e : ℕ) → ((b : ℕ) → q b ≡ false → p b ≡ false) → Outside q reg lo hi a e → Outside p reg lo hi a e

@@ -18,8 +18,8 @@ use Rattle.register.specs.Search.{Rises, Placed}
 use Rattle.register.proofs.From.{from-length, from-cut}
 use Rattle.register.proofs.Walks.{from-next, from-none, from-every}
 use Rattle.home_care.specs.Row.{siad, kindOf, eventNumberIn, eventKeyOf}
-use Rattle.judge.specs.Against.{keyAmong}
-use Rattle.judge.specs.Standing.{eventAt, eventKeyAt, standingIn, Climbs, Settled, Outside}
+use Rattle.judge.specs.ByNumber.{keyAmong}
+use Rattle.judge.specs.CaseRows.{eventAt, eventKeyAt, standingIn, Climbs, Settled, Outside}
 
 -- ---- the events in some rows
 

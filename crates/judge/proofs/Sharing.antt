@@ -11,7 +11,7 @@ use Rattle.laws.proofs.Every.{both-false}
 use Rattle.register.specs.Search.{Placed}
 use Rattle.home_care.specs.Row.{kindOf, dateOf, endOf, eventKeyOf}
 use Rattle.home_care.specs.Anomalies.{isSuspension, shareDay}
-use Rattle.judge.specs.Standing.{eventAt, eventKeyAt, Settled, Outside}
+use Rattle.judge.specs.CaseRows.{eventAt, eventKeyAt, Settled, Outside}
 use Rattle.judge.proofs.Rows.{climb-rises}
 
 -- an event that begins after a's end

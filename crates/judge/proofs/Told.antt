@@ -13,14 +13,13 @@ use Rattle.register.specs.State.{stateOf}
 use Rattle.register.specs.Search.{probeKey}
 use Rattle.register.specs.Sound.{eventsOf}
 use Rattle.home_care.specs.Row.{siad, eventNumberIn, rowBytes, keyBits}
-use Rattle.home_care.specs.Record.{Head, Admission, Said, admission, events}
+use Rattle.home_care.specs.Record.{Head, Admission, Said, admission, events, typeOf}
 use Rattle.home_care.specs.Anomalies.{Context, outOfQuarter, t11, t12, zeroKept}
 use Rattle.soundness.specs.Sound.{isSound}
-use Rattle.checks.specs.Checks.{checksOf}
-use Rattle.checks.specs.Flow.{typeOf}
+use Rattle.checks.specs.CheckOrder.{checksOf}
 use Rattle.checks.specs.Readable.{Readable}
 use Rattle.checks.proofs.Valid.{sound-state}
-use Rattle.judge.specs.Chain.{answerAdmission}
+use Rattle.judge.specs.Asked.{answerAdmission}
 use Rattle.judge.proofs.InOrder.{answerEvents}
 use Rattle.judge.specs.View.{IsOf, IsSaid, IsAdmitted}
 use Rattle.judge.proofs.Answers.{answer-events, answer-admission}

@@ -1,4 +1,4 @@
-pub mod Against
-pub mod Chain
-pub mod Standing
+pub mod ByNumber
+pub mod Asked
+pub mod CaseRows
 pub mod View

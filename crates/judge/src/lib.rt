@@ -1,9 +1,9 @@
-// A record judged against a sound register (document 01, "Anomalies of a record, the first that holds").
-pub mod admission;
-pub mod case;
+// A record judged against a sound register (RULES.md, 7 Anomalies of a record).
+pub mod case_fields;
+pub mod case_rows;
+pub mod check_order;
 pub mod clashes;
-pub mod events;
-pub mod judge;
+pub mod event_dates;
 pub mod standing;
 
 // The declared quarter's first and last day, and the register's room.

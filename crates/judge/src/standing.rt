@@ -9,17 +9,18 @@ ghost use Rattle.register.specs.Layout.{rowAt};
 ghost use Rattle.register.specs.Search.{Placed};
 ghost use Rattle.home_care.specs.Anomalies.{shareDay};
 ghost use Rattle.home_care.specs.Row.{eventBits, kindOf, siad};
-ghost use Rattle.judge.specs.Against.{clash, keyAmong};
-ghost use Rattle.judge.specs.Standing.{eventAt, eventKeyAt, standingIn, Climbs, Outside};
-use codes::lists::CONCLUSION;
-use codes::lists::SUSPENSION;
-use home_care::event::date_of;
-use home_care::event::end_of;
-use home_care::event::event_key_of;
-use home_care::event::event_of;
-use home_care::event::kind_of;
+ghost use Rattle.judge.specs.ByNumber.{clash, keyAmong};
+ghost use Rattle.judge.specs.CaseRows.{eventAt, eventKeyAt, standingIn, Climbs, Outside};
+use codes::code_lists::CONCLUSION;
+use codes::code_lists::SUSPENSION;
+use home_care::event_bits::date_of;
+use home_care::event_bits::end_of;
+use home_care::event_bits::event_key_of;
+use home_care::event_bits::event_of;
+use home_care::event_bits::kind_of;
 use home_care::layout::DATES;
-use home_care::row::row_at;
+use home_care::layout::ROW;
+use register::row::row_at;
 use register::search::Span;
 
 // The event in row i.
@@ -27,7 +28,7 @@ pub fn event_at(reg: &[u8], i: usize) -> u64
     requires { ⌜ rowAt siad (i + 1) ≤ length (now reg) ⌝ }
     ensures { λ r. ⌜ (r ≡ eventAt (now (reg .entry)) i) × (r < 2 ^ eventBits) ⌝ }
 {
-    event_of(row_at(reg, i))
+    event_of(row_at(reg, ROW, i))
 }
 
 // The first row from lo up to hi whose event's key is not below the key, or hi.

@@ -1,4 +1,3 @@
 pub mod Decimal
 pub mod Lists
 pub mod Loop
-pub mod Text

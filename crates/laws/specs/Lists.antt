@@ -3,6 +3,8 @@ use Prim.Native.Nat.{ℕ}
 use mathlib.Core.Bool.{Bool, true, false, _&&_, _||_}
 use mathlib.Core.List.{List, [], _∷_}
 use lib.Dec.{eqb}
+use Prim.Native.Char.{code}
+use Prim.Native.String as string
 
 -- every element passes the test
 unfoldable pub all : {A : Type 0} → (A → Bool) → List A → Bool
@@ -25,3 +27,7 @@ same (a ∷ s) (b ∷ t) = eqb a b && same s t
 unfoldable pub somePair : {A : Type 0} → (A → A → Bool) → List A → Bool
 somePair p [] = false
 somePair p (x ∷ xs) = any (p x) xs || somePair p xs
+
+abbrev pub bytes : string.String → List ℕ
+bytes string.[] = []
+bytes (string._∷_ c s) = code c ∷ bytes s

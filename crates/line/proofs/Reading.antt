@@ -10,7 +10,7 @@ use borrow.Author.Tests.{le-leb, lt-leb, eq-eqb, ne-eqb}
 use Rattle.laws.proofs.Places.{byte-inside}
 use Rattle.laws.proofs.Truth.{and-false}
 use Rattle.laws.specs.Decimal.{isDigit, decimal}
-use Rattle.codes.specs.Digits.{upTo}
+use Rattle.codes.specs.Capped.{upTo}
 use Rattle.codes.proofs.Decimals.{four-digits, up-to-le}
 use Rattle.markup.specs.Bytes.{runLength}
 use Rattle.markup.specs.View.{part}

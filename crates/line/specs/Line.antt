@@ -1,5 +1,5 @@
--- The program's first line (document 01, "The program reads standard input": "track, year and quarter, each of 1 to 4 digits, with one space between, a line
--- feed, then the submission").
+-- The program's first line (RULES.md, L1: "track, year and quarter, each 1 to 4 digits (leading zeros are fine), one space between them and a line feed right
+-- after, then the submission").
 use Prim.Native.Nat.{ℕ, _+_}
 use mathlib.Core.Bool.{Bool, cond, _&&_}
 use mathlib.Core.List.{List}
@@ -19,7 +19,7 @@ pub data Read : Type 0 where
   none : Read
   read : ℕ → List ℕ → Read
 
--- the n digits at the front are "1 to 4", and the mark stands after them
+-- the n digits at the front are "1 to 4" (L1), and the mark stands after them
 abbrev pub marked : ℕ → ℕ → List ℕ → Bool
 marked mark n l = leb 1 n && (leb n 4 && eqb (getD l n 0) mark)
 
@@ -30,7 +30,7 @@ cut mark n l = cond (marked mark n l) (read (decimal (take n l)) (drop (n + 1) l
 unfoldable pub numberTo : ℕ → List ℕ → Read
 numberTo mark l = cut mark (runLength isDigit l) l
 
--- "any other first line"; or track, year, quarter and the submission
+-- L2: "any other first line"; or track, year, quarter and the submission
 pub data Line : Type 0 where
   other : Line
   line : (track year quarter : ℕ) (submission : List ℕ) → Line
@@ -43,7 +43,7 @@ unfoldable pub firstLine : List ℕ → Line
 firstLine l =
     afterRead (numberTo space l) (λ track l. afterRead (numberTo space l) (λ year l. afterRead (numberTo lineFeed l) (λ quarter l. line track year quarter l)))
 
--- "a submission above 49,152 bytes"
+-- L3: "a submission of more than 49,152 bytes"
 abbrev pub most : ℕ
 most = 49152
 
@@ -53,7 +53,7 @@ pub data Request : Type 0 where
   prints-long : Request
   takes : (track year quarter : ℕ) (submission : List ℕ) → Request
 
--- "only `line` for any other first line, else only `long` for a submission above 49,152 bytes"
+-- L2: "For any other first line .. it prints `line` and no more"; L3: "Else for a submission of more than 49,152 bytes it prints `long` and no more"
 abbrev pub byLine : Line → Request
 byLine other = prints-line
 byLine (line track year quarter submission) = cond (ltb most (length submission)) prints-long (takes track year quarter submission)

@@ -1,4 +1,4 @@
-// The program's first line: track, year and quarter (document 01, "The program reads standard input").
+// The program's first line: track, year and quarter (RULES.md, 11 The program).
 ghost use mathlib.Core.Path.{_≡_};
 ghost use Prim.Native.Nat.{_+_, _<_};
 ghost use lib.ListN.{drop};
@@ -40,7 +40,7 @@ pub enum Asked {
     },
 }
 
-// "a submission above 49,152 bytes" is too long.
+// L3: "a submission of more than 49,152 bytes" is too long.
 const MOST: usize = 49152;
 
 // The place after the digits at a place.

@@ -12,9 +12,9 @@ use borrow.Author.Tests.{eqb-true, ne-eqb}
 use Rattle.laws.specs.Lists.{same}
 use Rattle.laws.proofs.Places.{front, same-no, same-yes, same-end, different}
 use Rattle.markup.specs.Bytes.{isWs, isName, isText, inValue, runLength}
-use Rattle.markup.specs.Names.{isQuote, skipWs}
+use Rattle.markup.specs.NamesAndValues.{isQuote, skipWs}
 use Rattle.markup.specs.Classes.{class}
-use Rattle.markup.specs.View.{part}
+use Rattle.markup.specs.View.{part, onward}
 
 module _ (p : ℕ → Bool) where
   pub run-le : (l : List ℕ) → runLength p l ≤ length l
@@ -48,6 +48,10 @@ module _ (p : ℕ → Bool) where
 
   pub run-after : (s : List ℕ) (at e : ℕ) → e ≡ at + runLength p (drop at s) → drop e s ≡ drop (runLength p (drop at s)) (drop at s)
   run-after s at e k = ap (λ (n : ℕ). drop n s) k ∙ sym (drop-drop (runLength p (drop at s)) at s)
+
+  -- a run ends within the input, or where it stands past the end
+  pub run-onward : (s : List ℕ) (at e : ℕ) → e ≡ at + runLength p (drop at s) → onward s at e
+  run-onward s at e k = (omega arith, omega (arith, run-le (drop at s), length-drop at s))
 
 pub skip-at : (s : List ℕ) (from at : ℕ) → at ≡ from + runLength (class 0) (drop from s) → drop at s ≡ skipWs (drop from s)
 unfolding skipWs class

@@ -11,8 +11,8 @@ use lib.Dec.{eqb}
 use borrow.Author.Tests.{eqb-true}
 use Rattle.laws.proofs.Places.{front, first, byte-inside}
 use Rattle.laws.proofs.Truth.{and-right}
-use Rattle.markup.specs.Reading.Read.{refused, read}
-use Rattle.markup.specs.Names.{byte}
+use Rattle.markup.specs.NamesAndValues.Read.{refused, read}
+use Rattle.markup.specs.NamesAndValues.{byte}
 use Rattle.markup.specs.Comments.{opensOther, comment, declared}
 
 -- at the byte b before the byte c

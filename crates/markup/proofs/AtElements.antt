@@ -15,9 +15,8 @@ use Rattle.laws.specs.Lists.{same}
 use Rattle.laws.proofs.Places.{front as front-at, first, byte-inside, same-length}
 use Rattle.laws.proofs.Reach.{Reach, reach-next, reach-stop, reach-to}
 use Rattle.markup.specs.Bytes.{isNameStart, isName, isText, runLength, front, after}
-use Rattle.markup.specs.Names.{skipWs, byte, name}
-use Rattle.markup.specs.Reading.{Read, then}
-use Rattle.markup.specs.Reading.Read.{refused, read}
+use Rattle.markup.specs.NamesAndValues.{skipWs, byte, name, Read, then}
+use Rattle.markup.specs.NamesAndValues.Read.{refused, read}
 use Rattle.markup.specs.Comments.{dashed}
 use Rattle.markup.specs.Tags.{Tag, tag, endTag}
 use Rattle.markup.specs.Elements.{Inside, Tree, piece, onto, afterChild, afterPiece, contentStep, content, afterTag, element}

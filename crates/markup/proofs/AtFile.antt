@@ -11,13 +11,13 @@ use Rattle.laws.specs.Lists.{all}
 use Rattle.laws.specs.Loop.Step.{stop}
 use Rattle.laws.proofs.Places.{front, first}
 use Rattle.markup.specs.Bytes.{inFile, runLength}
-use Rattle.markup.specs.Reading.{Read, then}
-use Rattle.markup.specs.Reading.Read.{refused, read}
+use Rattle.markup.specs.NamesAndValues.{Read, then}
+use Rattle.markup.specs.NamesAndValues.Read.{refused, read}
 use Rattle.markup.specs.Comments.{dashed}
 use Rattle.markup.specs.Elements.{Tree, element, depth}
-use Rattle.markup.specs.Document.{declaration, goOn, miscStep, misc, atEnd, document, wasRead}
+use Rattle.markup.specs.Document.{declaration, goOn, miscStep, misc, atEnd, document, wasRead, inMarkup}
 use Rattle.markup.specs.Classes.{class}
-use Rattle.markup.specs.View.{left, okPast}
+use Rattle.markup.specs.View.{left, onward, okMove, okPast}
 use Rattle.markup.specs.declared.Move.{Move}
 use Rattle.markup.specs.declared.Move.the-variants as move
 use Rattle.markup.proofs.AtBytes.{skip-at}
@@ -51,11 +51,20 @@ pub root-taken : (o : Read Tree) (m : List ℕ) → read tt m ≡ left o → was
 root-taken refused m h = absurd (let z : _≡_ {A = ℕ} 0 1 = cc in omega arith)
 root-taken (read t k) m h = refl
 
-pub okPast-back : (a b : ℕ) (r : Move) → a ≤ b → okPast b r → okPast a r
-okPast-back a b (move.To c) h k = omega arith
-okPast-back a b move.Refused h k = tt
+pub okPast-back : (s : List ℕ) (a b : ℕ) (r : Move) → onward s a b → okPast s b r → okPast s a r
+okPast-back s a b (move.To c) h k = (omega arith, omega arith)
+okPast-back s a b move.Refused h k = tt
+
+pub okMove-past : (s : List ℕ) (at : ℕ) (r : Move) → okMove s at r → okPast s 0 r
+okMove-past s at (move.To c) k = (omega arith, omega arith)
+okMove-past s at move.Refused k = tt
 
 -- a file up to its root element
 pub document-root : (s : List ℕ) {k m : List ℕ} → all inFile s ≡ true → read tt k ≡ declaration s → read tt m ≡ misc k → document s ≡ then (element depth m) (λ t m. atEnd t (misc m))
 unfolding document
 document-root s b d e = rw (b, ← d, ← e)
+
+-- answer 5, where no root was read
+pub answer-none : (s : List ℕ) → refused ≡ document s → (refused ≡ document s) × (_≡_ {A = ℕ} 5 (cond (inMarkup s) 0 5)) × Unit {0}
+unfolding inMarkup
+answer-none s e = (e, rw (← e), tt)

@@ -9,9 +9,8 @@ use lib.ListN.{length, drop, getD, drop-of-length-le}
 use borrow.Author.Tests.{eq-eqb, ne-eqb}
 use Rattle.laws.proofs.Places.{front, first, inside}
 use Rattle.markup.specs.Bytes.{isNameStart, isName, inValue, runLength}
-use Rattle.markup.specs.Reading.{Read, then}
-use Rattle.markup.specs.Reading.Read.{refused, read}
-use Rattle.markup.specs.Names.{byte, name, isQuote, value}
+use Rattle.markup.specs.NamesAndValues.{Read, then, byte, name, isQuote, value}
+use Rattle.markup.specs.NamesAndValues.Read.{refused, read}
 use Rattle.markup.specs.Classes.{class}
 use Rattle.markup.specs.View.{part, okMove}
 use Rattle.markup.specs.declared.Move.{Move}

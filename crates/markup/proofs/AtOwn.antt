@@ -10,9 +10,8 @@ use borrow.Author.Tests.{ne-eqb}
 use Rattle.laws.specs.Lists.{same}
 use Rattle.laws.proofs.Places.{byte-inside, inside, different}
 use Rattle.markup.specs.Bytes.{isWs, isNameStart, isName, runLength, front, after}
-use Rattle.markup.specs.Names.{skipWs, byte, name}
-use Rattle.markup.specs.Reading.{Read, then}
-use Rattle.markup.specs.Reading.Read.{refused, read}
+use Rattle.markup.specs.NamesAndValues.{skipWs, byte, name, Read, then}
+use Rattle.markup.specs.NamesAndValues.Read.{refused, read}
 use Rattle.markup.specs.Tags.{Attributes, Tag, tag, tagOf, attributes, differ, endTag}
 use Rattle.markup.specs.Elements.{piece}
 use Rattle.markup.specs.Elements.Piece.{closing}

@@ -13,9 +13,8 @@ use Rattle.laws.specs.Loop.Step.{stop, next}
 use Rattle.laws.proofs.Places.{first, byte-inside}
 use Rattle.laws.proofs.Truth.{cond-both}
 use Rattle.markup.specs.Bytes.{isWs, runLength}
-use Rattle.markup.specs.Reading.{Read, then}
-use Rattle.markup.specs.Reading.Read.{refused, read}
-use Rattle.markup.specs.Names.{byte}
+use Rattle.markup.specs.NamesAndValues.{Read, then, byte}
+use Rattle.markup.specs.NamesAndValues.Read.{refused, read}
 use Rattle.markup.specs.Tags.{Pair, Attributes, ending, before, attribute, goOn, attributesStep, attributes, differ, tagOf}
 use Rattle.markup.specs.Classes.{class}
 use Rattle.markup.specs.View.{okEnding, endingOf, pairsIn, OfPairs}

@@ -3,11 +3,10 @@ use Prim.Native.String as string
 use mathlib.Core.Path.{_≡_, refl}
 use mathlib.Core.Bool.{Bool, true, false}
 use mathlib.Core.List.{List, [], _∷_}
-use Rattle.laws.specs.Lists.{all, any, same}
+use Rattle.laws.specs.Lists.{all, any, same, bytes}
 use Rattle.laws.specs.Loop.{turns, loop}
-use Rattle.laws.specs.Text.{bytes}
 use Rattle.markup.specs.Bytes.{runLength}
-use Rattle.markup.specs.Names.{skipWs, byte, name, value}
+use Rattle.markup.specs.NamesAndValues.{skipWs, byte, name, value}
 use Rattle.markup.specs.Comments.{comment, dashed, declared}
 use Rattle.markup.specs.Tags.{attribute, attributesStep, attributes, differ, tag, endTag}
 use Rattle.markup.specs.Elements.{piece, content, element}

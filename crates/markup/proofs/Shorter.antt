@@ -11,9 +11,8 @@ use Rattle.laws.specs.Loop.Step.{stop, next}
 use Rattle.laws.proofs.Fuel.{Shrinks, loop-turn}
 use Rattle.laws.proofs.Places.{inside}
 use Rattle.markup.specs.Bytes.{isWs, isNameStart, isName, inValue, runLength, after}
-use Rattle.markup.specs.Reading.{Read, then}
-use Rattle.markup.specs.Reading.Read.{refused, read}
-use Rattle.markup.specs.Names.{skipWs, byte, name, isQuote, value}
+use Rattle.markup.specs.NamesAndValues.{Read, then, skipWs, byte, name, isQuote, value}
+use Rattle.markup.specs.NamesAndValues.Read.{refused, read}
 use Rattle.markup.specs.Tags.{Pair, Attributes, attribute, goOn, attributesStep, attributes}
 use Rattle.markup.proofs.AtBytes.{run-yes}
 

@@ -1,4 +1,4 @@
--- The bytes of the markup (document 01, "The markup taken"), and runs of them.
+-- The bytes of the markup (RULES.md, 1 The markup taken), and runs of them.
 use Prim.Native.Nat.{ℕ, suc}
 use Prim.Native.Char.{code}
 use mathlib.Core.Bool.{Bool, cond, not, _||_, _&&_}
@@ -6,27 +6,27 @@ use mathlib.Core.List.{List, [], _∷_}
 use lib.Dec.{eqb, leb}
 use lib.ListN.{take, drop}
 
--- "Bytes 9, 10, 13 and 32 to 126 only"
+-- M1: "Only the bytes 9, 10, 13 and 32 to 126 stand in a file"
 abbrev pub isAllowed : ℕ → Bool
 isAllowed b = eqb b 9 || (eqb b 10 || eqb b 13) || (leb 32 b && leb b 126)
 
--- "no `&` stand[s] anywhere, comments and declaration included"
+-- M2: "No `&` stands in a file, not even in a comment or in the declaration"
 abbrev pub inFile : ℕ → Bool
 inFile b = isAllowed b && not (eqb b (code "&"))
 
--- "White space is 32, 9, 13, 10"
+-- M3: "White space is the bytes 32, 9, 13 and 10"
 abbrev pub isWs : ℕ → Bool
 isWs b = eqb b 32 || (eqb b 9 || (eqb b 13 || eqb b 10))
 
--- "Names: a letter or `_`, .."
+-- M9: "A name is a letter (A to Z, a to z) or `_`"
 abbrev pub isNameStart : ℕ → Bool
 isNameStart b = (leb (code "A") b && leb b (code "Z")) || ((leb (code "a") b && leb b (code "z")) || eqb b (code "_"))
 
--- ".. then letters, digits, `_`, `-`, `.`, `:`"
+-- M9: "then letters, digits, `_`, `-`, `.`, `:`"
 abbrev pub isName : ℕ → Bool
 isName b = isNameStart b || ((leb (code "0") b && leb b (code "9")) || (eqb b (code "-") || (eqb b (code ".") || eqb b (code ":"))))
 
--- "Values .. hold neither that quote nor `<`"
+-- M12: "A value .. holds neither that quote nor `<`"
 abbrev pub inValue : ℕ → ℕ → Bool
 inValue quote b = not (eqb b quote) && not (eqb b (code "<"))
 

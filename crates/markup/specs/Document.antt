@@ -1,22 +1,20 @@
--- A whole file (document 01, "The markup taken"; answer 5).
+-- A whole file (RULES.md, 1 The markup taken; F5).
 use Prim.Native.Nat.{ℕ}
 use Prim.Native.Char.{code}
 use mathlib.Core.Bool.{Bool, true, false, cond, _&&_}
 use mathlib.Core.List.{List, [], _∷_}
 use lib.Dec.{eqb}
 use lib.ListN.{take, drop, getD}
-use Rattle.laws.specs.Lists.{all, same}
+use Rattle.laws.specs.Lists.{all, same, bytes}
 use Rattle.laws.specs.Loop.{Step, loop}
 use Rattle.laws.specs.Loop.Step.{stop, next}
-use Rattle.laws.specs.Text.{bytes}
 use Rattle.markup.specs.Bytes.{inFile, isWs}
-use Rattle.markup.specs.Reading.{Read, then}
-use Rattle.markup.specs.Reading.Read.{refused, read}
-use Rattle.markup.specs.Names.{skipWs}
+use Rattle.markup.specs.NamesAndValues.{Read, then, skipWs}
+use Rattle.markup.specs.NamesAndValues.Read.{refused, read}
 use Rattle.markup.specs.Comments.{dashed, declared}
 use Rattle.markup.specs.Elements.{Tree, element, depth}
 
--- "At the very start, optionally `<?xml`, white space, .."
+-- M4: "`<?xml`, at least one byte of white space"
 unfoldable pub declares : List ℕ → Bool
 declares l = same (take 5 l) (bytes "<?xml") && isWs (getD l 5 0)
 
@@ -27,7 +25,7 @@ abbrev pub goOn : Read Unit → Step (Read Unit)
 goOn refused = stop refused
 goOn (read _ m) = next (λ r. r) m
 
--- "white space and comments"
+-- M6: "white space and comments"
 abbrev pub miscAt : List ℕ → Step (Read Unit)
 miscAt l = cond (eqb (getD l 0 0) (code "<") && eqb (getD l 1 0) (code "!")) (goOn (dashed (drop 2 l))) (stop (read tt l))
 
@@ -37,7 +35,7 @@ miscStep l = miscAt (skipWs l)
 unfoldable pub misc : List ℕ → Read Unit
 misc l = loop refused miscStep l
 
--- "white space and comments, one root element, white space and comments", then the end
+-- M6: "white space and comments, one root element, white space and comments, and the end"
 abbrev pub atEnd : Tree → Read Unit → Read Tree
 atEnd t refused = refused
 atEnd t (read _ []) = read t []

@@ -1,4 +1,4 @@
--- An element as a tree (document 01, "The markup taken").
+-- An element as a tree (RULES.md, 1 The markup taken).
 use Prim.Native.Nat.{ℕ, zero, suc}
 use Prim.Native.Char.{code}
 use mathlib.Core.Bool.{cond}
@@ -8,8 +8,8 @@ use lib.ListN.{length, drop, getD}
 use Rattle.laws.specs.Loop.{Step, loop}
 use Rattle.laws.specs.Loop.Step.{stop, next}
 use Rattle.markup.specs.Bytes.{isText, front, after}
-use Rattle.markup.specs.Reading.{Read, then}
-use Rattle.markup.specs.Reading.Read.{refused, read}
+use Rattle.markup.specs.NamesAndValues.{Read, then}
+use Rattle.markup.specs.NamesAndValues.Read.{refused, read}
 use Rattle.markup.specs.Comments.{dashed}
 use Rattle.markup.specs.Tags.{Pair, Tag, tag, endTag}
 
@@ -63,18 +63,18 @@ contentStep kid n l = afterPiece kid (piece n l)
 unfoldable pub content : (List ℕ → Read Tree) → List ℕ → List ℕ → Read Inside
 content kid n l = loop refused (contentStep kid n) l
 
--- "`<X/>` and `<X></X>` mean the same"
+-- M17: "`<X/>` and `<X></X>` mean the same"
 abbrev pub afterTag : (List ℕ → Read Tree) → ℕ → Tag → List ℕ → Read Tree
 afterTag kid z t l =
     then (cond (t .shut) (read end l) (content kid (t .named) l))
     (λ i m. read (record { from = z; named = t .named; pairs = t .pairs; inside = i }) m)
 
--- an element of at most so many levels: "An element's children are read by the same rule with one level less left"
+-- an element of at most so many levels (M16): its children are read by the same rule, with one level less left
 unfoldable pub element : ℕ → List ℕ → Read Tree
 element zero l = refused
 element (suc d) l = then (tag l) (afterTag (element d) (length l))
 
--- "Depth is at most 12, the root being 1"
+-- M16: "The root is at depth 1; an element at 12 is read, empty or not, one at 13 refused"
 abbrev pub depth : ℕ
 depth = 12
 

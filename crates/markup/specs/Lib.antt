@@ -1,10 +1,9 @@
 pub mod Bytes
-pub mod Reading
-pub mod Names
+pub mod NamesAndValues
 pub mod Comments
 pub mod Tags
 pub mod Elements
 pub mod Document
 pub mod Classes
 pub mod View
-pub mod Repeats
+pub mod Batches

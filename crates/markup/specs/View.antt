@@ -6,13 +6,12 @@ use mathlib.Core.List.{List, []}
 use lib.ListN.{length, drop, take}
 use Rattle.laws.specs.Loop.{Step}
 use Rattle.laws.specs.Loop.Step.{stop, next}
-use Rattle.markup.specs.Reading.{Read, then}
-use Rattle.markup.specs.Reading.Read.{refused, read}
-use Rattle.markup.specs.Names.{name}
+use Rattle.markup.specs.NamesAndValues.{Read, then, name}
+use Rattle.markup.specs.NamesAndValues.Read.{refused, read}
 use Rattle.markup.specs.Tags.{Pair, Attributes, Tag, attributes, ending, before}
 use Rattle.markup.specs.Elements.{Tree, Piece, element, depth}
 use Rattle.markup.specs.Elements.Piece.{words, aside, closing, child}
-use Rattle.markup.specs.Document.{inMarkup}
+use Rattle.markup.specs.Document.{declaration, misc, inMarkup}
 use Rattle.markup.specs.declared.Move.{Move}
 use Rattle.markup.specs.declared.Move.the-variants as move
 use Rattle.markup.specs.declared.Got.{Got}
@@ -28,7 +27,7 @@ use Rattle.markup.specs.declared.Start.the-variants as start
 use Rattle.markup.specs.declared.Piece.{Piece as PieceRead}
 use Rattle.markup.specs.declared.Piece.the-variants as piece
 use Rattle.markup.specs.declared.Misc.{Misc}
-use Rattle.markup.specs.declared.Misc.the-variants as misc
+use Rattle.markup.specs.declared.Misc.the-variants as miscRead
 use Rattle.markup.specs.declared.Document.{Document}
 use Rattle.markup.specs.declared.Document.the-variants as document
 
@@ -43,6 +42,10 @@ held s a e = (a ≤ e) × (e ≤ length s)
 -- the place e lies past `at`, within s
 abbrev pub ahead : List ℕ → ℕ → ℕ → Type 0
 ahead s at e = (at < e) × (e ≤ length s)
+
+-- the place e is `at` or lies past it, and no further than the end of s
+abbrev pub onward : List ℕ → ℕ → ℕ → Type 0
+onward s at e = (at ≤ e) × (e - at ≤ length s - at)
 
 -- n is a name: read alone, it is read whole
 abbrev pub WholeName : List ℕ → Type 0
@@ -61,9 +64,9 @@ okMove s at (move.To c) = ahead s at (c .at)
 okMove s at move.Refused = Unit
 
 -- white space and comments may be none
-abbrev pub okPast : ℕ → Move → Type 0
-okPast at (move.To c) = at ≤ c .at
-okPast at move.Refused = Unit
+abbrev pub okPast : List ℕ → ℕ → Move → Type 0
+okPast s at (move.To c) = onward s at (c .at)
+okPast s at move.Refused = Unit
 
 abbrev pub viewGot : List ℕ → Got → Read (List ℕ)
 viewGot s (got.Text a e c) = read (part s a e) (drop (c .at) s)
@@ -144,18 +147,24 @@ okPiece s at piece.Kid = Unit
 okPiece s at piece.Refused = Unit
 
 abbrev pub viewMisc : List ℕ → Misc → Step (Read Unit)
-viewMisc s (misc.More c) = next (λ r. r) (drop (c .at) s)
-viewMisc s (misc.Done r) = stop (viewMove s r)
+viewMisc s (miscRead.More c) = next (λ r. r) (drop (c .at) s)
+viewMisc s (miscRead.Done r) = stop (viewMove s r)
 
 abbrev pub okMisc : List ℕ → ℕ → Misc → Type 0
-okMisc s at (misc.More c) = ahead s at (c .at)
-okMisc s at (misc.Done r) = okPast at r
+okMisc s at (miscRead.More c) = ahead s at (c .at)
+okMisc s at (miscRead.Done r) = okPast s at r
 
 -- the root element stands at the place, and nothing is left
 abbrev pub viewDocument : List ℕ → Document → Read Tree
 viewDocument s (document.Root c) = then (element depth (drop (c .at) s)) (λ t _. read t [])
 viewDocument s document.Refused = refused
 
+-- F5: the number for each answer
+abbrev pub documentAnswer : Document → ℕ
+documentAnswer (document.Root c) = 0
+documentAnswer document.Refused = 5
+
+-- the root stands behind the declaration, white space and comments
 abbrev pub okDocument : List ℕ → Document → Type 0
-okDocument s (document.Root c) = (c .at < length s) × (inMarkup s ≡ true)
+okDocument s (document.Root c) = (c .at < length s) × (inMarkup s ≡ true) × (then (declaration s) (λ _ m. misc m) ≡ read tt (drop (c .at) s))
 okDocument s document.Refused = Unit

@@ -1,7 +1,7 @@
 // What stands in an element, and the element.
 ghost use mathlib.Core.Path.{_≡_};
 ghost use lib.ListN.{drop};
-ghost use Rattle.markup.specs.Reading.Read.{refused};
+ghost use Rattle.markup.specs.NamesAndValues.Read.{refused};
 ghost use Rattle.markup.specs.Elements.{piece, element};
 ghost use Rattle.markup.specs.View.{part, WholeName, viewMove, okMove, viewPiece, okPiece, left};
 use crate::Cursor;

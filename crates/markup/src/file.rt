@@ -1,8 +1,9 @@
 // A whole file.
 ghost use mathlib.Core.Path.{_≡_};
+ghost use mathlib.Core.Bool.{cond};
 ghost use lib.ListN.{drop};
 ghost use Rattle.markup.specs.Document.{declares, declaration, miscStep, misc, document, inMarkup};
-ghost use Rattle.markup.specs.View.{viewMove, okPast, viewMisc, okMisc, viewDocument, okDocument};
+ghost use Rattle.markup.specs.View.{viewMove, okPast, viewMisc, okMisc, viewDocument, documentAnswer, okDocument};
 use crate::Cursor;
 use crate::Document;
 use crate::Misc;
@@ -22,7 +23,7 @@ fn declares(s: &[u8]) -> bool
 
 // The place after the declaration, if there is one.
 pub fn declaration(s: &[u8]) -> Move
-    ensures { λ r. ⌜ viewMove (now (s .entry)) r ≡ declaration (now (s .entry)) ⌝ }
+    ensures { λ r. ⌜ (viewMove (now (s .entry)) r ≡ declaration (now (s .entry))) × okPast (now (s .entry)) 0 r ⌝ }
 {
     if declares(s) {
         let first = Cursor { at: 6 };
@@ -52,7 +53,7 @@ impl Cursor {
 
     // White space and comments.
     pub fn misc(self, s: &[u8]) -> Move
-        ensures { λ r. ⌜ (viewMove (now (s .entry)) r ≡ misc (drop (self .at) (now (s .entry)))) × okPast (self .at) r ⌝ }
+        ensures { λ r. ⌜ (viewMove (now (s .entry)) r ≡ misc (drop (self .at) (now (s .entry)))) × okPast (now (s .entry)) (self .at) r ⌝ }
     {
         let from = self.at;
         let mut at = from;
@@ -72,7 +73,7 @@ impl Cursor {
 
 // The root element of a file in the markup.
 pub fn document(s: &[u8]) -> Document
-    ensures { λ r. ⌜ (viewDocument (now (s .entry)) r ≡ document (now (s .entry))) × okDocument (now (s .entry)) r ⌝ }
+    ensures { λ r. ⌜ (viewDocument (now (s .entry)) r ≡ document (now (s .entry))) × (documentAnswer r ≡ cond (inMarkup (now (s .entry))) 0 5) × okDocument (now (s .entry)) r ⌝ }
 {
     if !all_in_file(s) {
         return Document::Refused;

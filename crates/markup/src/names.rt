@@ -1,9 +1,8 @@
 // White space, single bytes, names and values.
 ghost use mathlib.Core.Path.{_≡_};
-ghost use Prim.Native.Nat.{_≤_};
 ghost use lib.ListN.{drop};
-ghost use Rattle.markup.specs.Names.{skipWs, byte, name, value};
-ghost use Rattle.markup.specs.View.{viewMove, okMove, viewGot, okGot};
+ghost use Rattle.markup.specs.NamesAndValues.{skipWs, byte, name, value};
+ghost use Rattle.markup.specs.View.{onward, viewMove, okMove, viewGot, okGot};
 use crate::Cursor;
 use crate::Got;
 use crate::Move;
@@ -13,7 +12,7 @@ use crate::bytes::run_end;
 
 impl Cursor {
     pub fn skip_ws(self, s: &[u8]) -> Cursor
-        ensures { λ r. ⌜ (drop (r .at) (now (s .entry)) ≡ skipWs (drop (self .at) (now (s .entry)))) × (self .at ≤ r .at) ⌝ }
+        ensures { λ r. ⌜ (drop (r .at) (now (s .entry)) ≡ skipWs (drop (self .at) (now (s .entry)))) × onward (now (s .entry)) (self .at) (r .at) ⌝ }
     {
         let at = run_end(s, self.at, 0);
         Cursor { at }

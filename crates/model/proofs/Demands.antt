@@ -6,7 +6,7 @@ use mathlib.Core.List.{List}
 use native.Mathlib.Omega.{arith}
 use Rattle.model.proofs.MapPlace.{asc-once}
 use Rattle.model.proofs.ChecksLaws.{accepted-iff, refused-iff}
-use Rattle.model.proofs.MachineLaws.{run-append, answers-append, answers-each, answers-length, taken-zeros, records, two-taken, step-left}
+use Rattle.model.proofs.MachineLaws.{run-append, answers-append, answers-each, answers-length, taken-zeros, records, step-left}
 use Rattle.model.proofs.Histories.{taken-run, files-run, files-taken}
 use Rattle.model.proofs.FlowHistories as flow
 use Rattle.model.specs.Checks.{Check, first, numbered}
@@ -54,9 +54,7 @@ module _ {F E R X B : Type 0} (f : Flow F E R) (checks : R → List (Check (Stat
         cases-once = λ xs. asc-once 0 (after f (machine f checks) entries xs .cases) (flow.ascending f checks entries xs .0);
         events-once = λ xs. asc-once 0 (after f (machine f checks) entries xs .events) (flow.ascending f checks entries xs .1);
         same-bytes = λ xs ys c e. ap encode (flow.canonical f checks entries xs ys c e);
-        undone = λ xs a b ka kb c e u t.
-            let p = two-taken (machine f checks) (after f (machine f checks) entries xs) a b t in
-            ap encode (flow.undone f checks w (after f (machine f checks) entries xs) (flow.ascending f checks entries xs) a b (p .0) ka kb c e u (p .1));
+        undone = λ xs ys p q a b with without u clean. ap encode (flow.undone-within f checks entries w xs ys p q a b with without u clean);
       }
 
 module _ {F E R : Type 0} (f : Flow F E R) (checks : R → List (Check (State F E))) (w : Lawful f checks) where

@@ -1,4 +1,4 @@
--- What the demands exclude (document 01, "What the contracts must tie down"), of any machine that takes the small flow's records.
+-- What the demands exclude (RULES.md, 13 What must never happen), of any machine that takes the small flow's records.
 use Prim.Native.Nat.{ℕ, _<_}
 use mathlib.Core.Path.{_≡_, refl, sym, ap, _∙_}
 use mathlib.Core.Bool.{true≢false}
@@ -24,7 +24,7 @@ one = say insert 7 1
 abbrev two : Said
 two = say vary 7 2
 
--- "invented counts (the answer list fixes them)"
+-- X6: "Counts are invented (K3): the answer list fixes them"
 pub invented : (records accepted discarded : ℕ) → Counted (0 ∷ 15 ∷ []) records accepted discarded → (records ≡ 2) × (accepted ≡ 1) × (discarded ≡ 1)
 unfolding zeros
 invented r a d c = counted-once c (record { as-many = refl; together = refl; zeros-are = refl })
@@ -38,12 +38,12 @@ module _ (m : Machine (State ℕ ℕ) Said) (d2 : Demand2 checks m) where
   unfolding any all anyIn allIn find
   two-early e = true≢false (d2 .accepted empty two .0 e)
 
-  -- "a program that discards everything"
+  -- X4: "Everything is discarded"
   pub discards-all : ((rs : List Said) → zeros (answers m empty rs) ≡ 0) → ⊥
   unfolding zeros answers
   discards-all h = let z : _≡_ {A = ℕ} 1 0 = simp one-taken at (h (one ∷ [])) in omega arith
 
-  -- "one that answers all records alike"
+  -- X5: "All records are answered alike"
   pub all-alike : ((rs : List Said) (i j : ℕ) → i < length rs → j < length rs → getD (answers m empty rs) i 0 ≡ getD (answers m empty rs) j 0) → ⊥
   unfolding answers
   all-alike h =
@@ -62,7 +62,7 @@ module _ (m : Machine (State ℕ ℕ) Said) (d2 : Demand2 checks m) where
           carries = refl;
         })
 
-    -- "one that leaves the register idle"
+    -- X7: "Records are accepted and the register is left idle"
     pub idle : ((s : State ℕ ℕ) (rs : List Said) → run m s rs ≡ s) → ⊥
     unfolding find
     idle h =
@@ -89,7 +89,7 @@ module _ (m : Machine (State ℕ ℕ) Said) (d2 : Demand2 checks m) where
           carries = refl;
         })
 
-    -- "one that stores the first record and only claims the rest"
+    -- X8: "The first record is stored and the others only claimed"
     pub first-only : ((a b : Said) → run m empty (a ∷ b ∷ []) ≡ run m empty (a ∷ [])) → ⊥
     first-only h =
         let e : _≡_ {A = Option ℕ} (some 2) (some 1) = sym two-stands ∙ ap (λ (s : State ℕ ℕ). find 7 (s .cases)) (h one two) ∙ one-stands in

@@ -1,25 +1,26 @@
 -- Any flow over any history: what stands is what the last accepted record that speaks of it left; the rows stay in order; the same
 -- lookups, the same state; an insertion and then the cancellation of its keys gives the state back; the counts are conserved.
 use Prim.Native.Nat.{ℕ, _+_, _≤_}
-use mathlib.Core.Path.{_≡_, refl, sym, ap, _∙_}
+use mathlib.Core.Path.{_≡_, refl, sym, ap, _∙_, subst}
 use mathlib.Core.Logic.{_↔_}
 use mathlib.Core.Bool.{Bool, true, false, cond, _||_, true≢false}
-use mathlib.Core.List.{List, [], _∷_}
+use mathlib.Core.List.{List, [], _∷_, _++_}
 use mathlib.Core.Option.{Option, none, some}
 use native.Mathlib.Omega.{arith}
 use lib.ListN.{length}
 use Rattle.laws.proofs.Truth.{cond-both, or-left, or-right}
 use Rattle.model.proofs.MapLaws.{find-nil, not-in, no-some, keep-none}
 use Rattle.model.proofs.Lists.{lastOf-iff}
-use Rattle.model.proofs.MachineLaws.{run-keeps, runAll-keeps, conserved, total-taken, total-same}
-use Rattle.model.proofs.Histories.{resolve, runAll-look}
+use Rattle.model.proofs.MachineLaws.{run-append, step-taken, run-keeps, runAll-keeps, conserved, total-taken, total-same}
+use Rattle.model.proofs.Histories.{resolve, runAll-look, AllTaken, all-back, takenAll-all, log-run}
 use Rattle.model.proofs.FlowLaws.{same, case-found, event-found, good-applied, cases-size, events-size, fits-applied}
 use Rattle.model.specs.Map.{isSome, find, has, Asc, delAll, anyIn}
 use Rattle.model.specs.Checks.{Check, first}
-use Rattle.model.specs.Log.{lastOf, sumOf, acceptedBy, total, runAll, takenAll, shown, Shown, ofCase, ofEvent, caseShown, eventShown, Lawful, casesIn, casesOut, eventsIn, eventsOut, carried}
-use Rattle.model.specs.Machine.{run}
+use Rattle.model.specs.Log.{lastOf, sumOf, acceptedBy, total, runAll, takenAll, shown, Shown, ofCase, ofEvent, caseShown, eventShown, Lawful, Undoes, casesIn, casesOut, eventsIn, eventsOut, carried}
+use Rattle.model.specs.Machine.{Machine, run}
 use Rattle.model.specs.Transmission.{Kind, insert, vary, cancel, isCancel}
-use Rattle.model.specs.Flow.{State, empty, Good, Flow, machine, t17}
+use Rattle.model.specs.Flow.{State, empty, Good, Flow, machine}
+use Rattle.model.specs.Anomalies.{t17}
 
 -- what the last record to speak leaves
 
@@ -105,7 +106,7 @@ module _ {F E R : Type 0} (f : Flow F E R) (checks : R → List (Check (State F 
             let e : carried f s r ≡ 0 = simp (keep-none (f .away r) (delAll (f .eventRows r) (s .events)) (w r)) (sym (cond-both (isCancel (f .kind r)) 0)) in
             omega arith
 
-  -- "cases and events together at most R", always
+  -- V2: cases and events "are together at most R", always
   module _ (l : Lawful f checks) (room : ℕ) (not17 : (s : State F E) (r : R) → first (checks r) s ≡ 0 → t17 f room r s ≡ false) where
     abbrev Fits : State F E → Type 0
     Fits s = Good s × (length (s .cases) + length (s .events) ≤ room)
@@ -192,3 +193,29 @@ module _ {F E R : Type 0} (f : Flow F E R) (checks : R → List (Check (State F 
     pub undone : machine f checks .judge (machine f checks .act s a) b ≡ 0 → run (machine f checks) s (a ∷ b ∷ []) ≡ s
     unfolding run
     undone taken-b = simp (taken-a, taken-b) (act-back taken-b)
+
+  -- the two next to each other among the records that a history accepted: it leaves what one leaves that accepted the others alone
+  module _ {X : Type 0} (entries : State F E → X → List R) (l : Lawful f checks) (xs ys : List X) (p q : List R) (a b : R)
+      (with : takenAll (machine f checks) entries empty xs ≡ p ++ a ∷ b ∷ q) (without : takenAll (machine f checks) entries empty ys ≡ p ++ q) where
+    abbrev m : Machine (State F E) R
+    m = machine f checks
+
+    abbrev met : State F E
+    met = run m empty p
+
+    both : AllTaken m met (a ∷ b ∷ q)
+    both = all-back m empty p (a ∷ b ∷ q) (subst (AllTaken m empty) with (takenAll-all m entries empty xs))
+
+    pub undone-within : Undoes f a b → ((k : ℕ) → f .away b k ≡ true → find k (met .events) ≡ none) →
+        runAll m entries empty xs ≡ runAll m entries empty ys
+    undone-within u clean =
+        let taken-b : m .judge (m .act met a) b ≡ 0 = subst (λ (t : State F E). m .judge t b ≡ 0) (step-taken m met a (both .0)) (both .1 .0) in
+        let good : Good met = run-keeps m Good good-law empty p good-empty in
+        sym (log-run m entries empty xs)
+        ∙ ap (run m empty) with
+        ∙ run-append m empty p (a ∷ b ∷ q)
+        ∙ run-append m met (a ∷ b ∷ []) q
+        ∙ ap (λ (t : State F E). run m t q) (undone l met good a b (both .0) (u .inserts) (u .cancels) (u .cases) (u .events) clean taken-b)
+        ∙ sym (run-append m empty p q)
+        ∙ sym (ap (run m empty) without)
+        ∙ log-run m entries empty ys

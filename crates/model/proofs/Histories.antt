@@ -2,7 +2,7 @@
 use Prim.Native.Nat.{ℕ}
 use mathlib.Core.Path.{_≡_, refl, sym, ap, _∙_, subst}
 use mathlib.Core.Bool.{Bool, true, false, cond}
-use mathlib.Core.List.{List, [], _∷_, _++_, flatMap}
+use mathlib.Core.List.{List, [], _∷_, _++_, append-assoc, flatMap}
 use mathlib.Core.Option.{Option, none, some}
 use lib.Dec.{eqb}
 use borrow.Author.Tests.{eqb-true}
@@ -72,6 +72,11 @@ module _ {S R : Type 0} (m : Machine S R) where
   all-front s [] b h = tt
   all-front s (r ∷ a) b h = (h .0, all-front (step m s r) a b (h .1))
 
+  pub all-back : (s : S) (a b : List R) → AllTaken s (a ++ b) → AllTaken (run m s a) b
+  unfolding run
+  all-back s [] b h = h
+  all-back s (r ∷ a) b h = all-back (step m s r) a b (h .1)
+
   pub all-at : (s : S) (a : List R) (r : R) (b : List R) → AllTaken s (a ++ r ∷ b) → m .judge (run m s a) r ≡ 0
   unfolding run
   all-at s [] r b h = h .0
@@ -122,6 +127,22 @@ module _ {S R : Type 0} (m : Machine S R) where
       run-append m s (acceptedBy m s (entries s x)) (takenAll m entries (run m s (entries s x)) xs) ∙
       ap (λ (z : S). run m z (takenAll m entries (run m s (entries s x)) xs)) (taken-run s (entries s x)) ∙
       log-run entries (run m s (entries s x)) xs
+
+  -- ---- one history after the other
+  pub runAll-append : {X : Type 0} (entries : S → X → List R) (s : S) (xs ys : List X) →
+      runAll m entries s (xs ++ ys) ≡ runAll m entries (runAll m entries s xs) ys
+  unfolding runAll
+  runAll-append entries s [] ys = refl
+  runAll-append entries s (x ∷ xs) ys = runAll-append entries (run m s (entries s x)) xs ys
+
+  pub takenAll-append : {X : Type 0} (entries : S → X → List R) (s : S) (xs ys : List X) →
+      takenAll m entries s (xs ++ ys) ≡ takenAll m entries s xs ++ takenAll m entries (runAll m entries s xs) ys
+  unfolding runAll takenAll
+  takenAll-append entries s [] ys = refl
+  takenAll-append entries s (x ∷ xs) ys =
+      let t : S = run m s (entries s x) in
+      ap (λ (l : List R). acceptedBy m s (entries s x) ++ l) (takenAll-append entries t xs ys)
+      ∙ sym (append-assoc (acceptedBy m s (entries s x)) (takenAll m entries t xs) (takenAll m entries (runAll m entries t xs) ys))
 
   -- ---- many files or one
   pub files-run : (s : S) (files : List (List R)) → runAll m (λ s a. a) s files ≡ run m s (flatMap (λ a. a) files)

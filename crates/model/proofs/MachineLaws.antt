@@ -1,15 +1,15 @@
 -- Laws of any machine over one file: files joined; answers one by one and counted; what a run keeps; sums of what came and went.
 use Prim.Native.Nat.{ℕ, zero, suc, _+_, _<_}
-use mathlib.Core.Path.{_≡_, refl, ap, subst}
+use mathlib.Core.Path.{_≡_, refl, ap}
 use mathlib.Core.Logic.{_≢_}
 use mathlib.Core.Bool.{Bool, true, false, cond}
-use mathlib.Core.List.{List, [], _∷_, _++_, head-eq-of-cons-eq, tail-eq-of-cons-eq}
+use mathlib.Core.List.{List, [], _∷_, _++_}
 use native.Mathlib.Omega.{arith}
 use lib.ListN.{length, getD, take}
 use lib.Dec.{eqb}
 use borrow.Author.Tests.{eqb-true, ne-eqb}
 use Rattle.model.specs.Machine.{Machine, zeros, others, accepts, step, run, answers}
-use Rattle.model.specs.Log.{sumOf, acceptedBy, total, runAll}
+use Rattle.model.specs.Log.{sumOf, atZeros, acceptedBy, total, runAll}
 
 pub zeros-others : (ns : List ℕ) → zeros ns + others ns ≡ length ns
 unfolding zeros others
@@ -67,6 +67,12 @@ module _ {S R : Type 0} (m : Machine S R) where
       go true ih = omega arith
       go false ih = omega arith
 
+  -- the accepted ones are those whose answers are 0, whatever stands behind the answers in their list
+  pub taken-answers : (s : S) (rs : List R) (t : List ℕ) → acceptedBy m s rs ≡ atZeros (answers m s rs ++ t) rs
+  unfolding acceptedBy answers atZeros
+  taken-answers s [] t = refl
+  taken-answers s (r ∷ rs) t = ap (λ (l : List R). cond (accepts m s r) (r ∷ l) l) (taken-answers (step m s r) rs t)
+
   -- accepted + discarded = records
   pub records : (s : S) (rs : List R) → length (acceptedBy m s rs) + others (answers m s rs) ≡ length rs
   records s rs = omega (arith, taken-zeros s rs, zeros-others (answers m s rs), answers-length s rs)
@@ -77,12 +83,6 @@ module _ {S R : Type 0} (m : Machine S R) where
 
   pub step-left : (s : S) (r : R) → m .judge s r ≢ 0 → step m s r ≡ s
   step-left s r n = simp (ne-eqb (m .judge s r) 0 n)
-
-  pub two-taken : (s : S) (a b : R) → answers m s (a ∷ b ∷ []) ≡ 0 ∷ 0 ∷ [] → (m .judge s a ≡ 0) × (m .judge (m .act s a) b ≡ 0)
-  unfolding answers
-  two-taken s a b e =
-      let p : m .judge s a ≡ 0 = head-eq-of-cons-eq e in
-      (p, subst (λ (t : S). m .judge t b ≡ 0) (step-taken s a p) (head-eq-of-cons-eq (tail-eq-of-cons-eq e)))
 
   -- ---- what every accepted record keeps, every run keeps
   module _ (Inv : S → Type 0) (keeps : (s : S) (r : R) → Inv s → m .judge s r ≡ 0 → Inv (m .act s r)) where

@@ -1,7 +1,7 @@
 -- A small flow, one case a record, for which the demands are met, and a history of it computed.
 use Prim.Native.Nat.{ℕ}
 use mathlib.Core.Path.{_≡_, refl}
-use mathlib.Core.Bool.{true, false}
+use mathlib.Core.Bool.{true, false, false≢true}
 use mathlib.Core.List.{List, [], _∷_}
 use Rattle.laws.specs.Lists.{all, any}
 use Rattle.model.proofs.ChecksLaws.{clear}
@@ -11,9 +11,10 @@ use Rattle.model.specs.Map.{Row, find, put, keep, putAll, delAll, anyIn,
 use Rattle.model.specs.Checks.{Check, check, first, numbered}
 use Rattle.model.specs.Machine.{run, answers}
 use Rattle.model.specs.Transmission.{Kind, insert, vary, cancel}
-use Rattle.model.specs.Flow.{State, empty, Flow, machine, t14, t15, t22}
-use Rattle.model.specs.Log.{Lawful}
-use Rattle.model.specs.Demands.{Demand2, Demand3, Sequences}
+use Rattle.model.specs.Flow.{State, empty, Flow, machine}
+use Rattle.model.specs.Anomalies.{t14, t15, t22}
+use Rattle.model.specs.Log.{Lawful, acceptedBy, takenAll}
+use Rattle.model.specs.Demands.{Demand2, Demand3, Sequences, after}
 
 pub record Said : Type 0 where
   pub kind : Kind
@@ -60,6 +61,20 @@ toy-demand3 encode = demand3 toy checks lawful files encode
 
 pub toy-sequences : Sequences toy (machine toy checks) files
 toy-sequences = sequences toy checks lawful files
+
+-- ---- an insertion and its cancellation, in two files, with a record between them that is discarded
+
+abbrev before : List (List Said)
+before = (say insert 5 5 ∷ []) ∷ []
+
+abbrev two : List (List Said)
+two = (say insert 5 5 ∷ []) ∷ (say insert 7 2 ∷ say insert 7 3 ∷ []) ∷ (say cancel 7 2 ∷ []) ∷ []
+
+pub undone : after toy (machine toy checks) files two ≡ after toy (machine toy checks) files before
+unfolding takenAll acceptedBy run machine first find put keep putAll delAll anyIn allIn all any
+undone =
+    toy-demand3 (λ s. s) .undone two before (say insert 5 5 ∷ []) [] (say insert 7 2) (say cancel 7 2) refl refl
+    (record { inserts = refl; cancels = refl; cases = λ k. refl; events = λ k. refl }) (λ k e. absurd (false≢true e))
 
 -- ---- a file computed
 

@@ -8,7 +8,7 @@ use mathlib.Core.Option.{Option, none, some}
 use borrow.Author.Tests.{not-true}
 use Rattle.laws.specs.Lists.{any}
 use Rattle.model.proofs.MapLaws.{find-nil, any-key, key-any}
-use Rattle.model.proofs.Lists.{not-and, not-all, any-same, last-passes, last-same}
+use Rattle.model.proofs.Lists.{not-and, not-all, any-same, last-passes}
 use Rattle.model.proofs.Histories.{resolve, run-look, AllTaken, all-front, all-at, all-same, takenAll-all, log-run}
 use Rattle.model.proofs.FlowHistories.{case-law, event-law}
 use Rattle.model.specs.Map.{Map, isSome, find, has, anyIn, allIn}
@@ -16,7 +16,8 @@ use Rattle.model.specs.Checks.{Check}
 use Rattle.model.specs.Machine.{Machine, run}
 use Rattle.model.specs.Log.{lastOf, shown, sent, ofCase, ofEvent, caseShown, eventShown, caseSent, eventSent, Lawful}
 use Rattle.model.specs.Transmission.{Kind, insert, vary, cancel, isInsert, isCancel, Sent, nothing, last, admitted, standing}
-use Rattle.model.specs.Flow.{State, empty, Flow, machine, t14, t15}
+use Rattle.model.specs.Flow.{State, empty, Flow, machine}
+use Rattle.model.specs.Anomalies.{t14, t15}
 use Rattle.model.specs.Demands.{Refused, case, event, Sequences, after, log}
 
 -- the twelve entries in one line: an insertion of what does not stand, any other of what does
@@ -179,16 +180,6 @@ module _ {F E R : Type 0} (f : Flow F E R) (checks : R → List (Check (State F 
         = run-look (machine f checks) (λ s. find k (s .events)) (ofEvent f k) (eventShown f k) (event-law f checks k) empty l ∙
         simp (← find-nil {F = E} k, all-same (machine f checks) empty l h) in
         ap isSome e ∙ stands-sent (f .kind) (λ r. find k (f .eventRows r)) (ofEvent f k) (λ r p c. named r k p c) l
-
-  -- where no record carries the event k away, what was sent of it was sent by its name
-  pub sent-by-name : (k : ℕ) → ((r : R) → f .away r k ≡ false) → (l : List R) →
-      eventSent f k l ≡ sent (f .kind) (lastOf (λ r. has k (f .eventRows r)) l)
-  sent-by-name k w l =
-      ap (sent (f .kind)) (last-same (ofEvent f k) (λ r. has k (f .eventRows r)) l (λ r. go (has k (f .eventRows r)) (isCancel (f .kind r)) (f .away r k) (w r)))
-    where
-      go : (a c w : Bool) → w ≡ false → a || (c && w) ≡ a
-      go a true w e = simp e (or-false a)
-      go a false w e = or-false a
 
   -- no accepted record is one that the table refuses
   pub by-table : Lawful f checks → (l a : List R) (r : R) (b : List R) → AllTaken (machine f checks) empty l → l ≡ a ++ r ∷ b → Refused f r a → ⊥

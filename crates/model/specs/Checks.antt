@@ -1,4 +1,4 @@
--- Numbered checks in order (document 01, "Anomalies of a record, the first that holds"; "Answer 0 means accepted").
+-- Numbered checks in order (RULES.md, J1: "A record's answer is the first anomaly of its track that holds; 0 is acceptance").
 use Prim.Native.Nat.{ℕ}
 use mathlib.Core.Path.{_≡_}
 use mathlib.Core.Bool.{Bool, true, false, cond}

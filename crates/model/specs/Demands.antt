@@ -1,4 +1,4 @@
--- What is demanded of a machine that takes a flow's records (document 01, "What the contracts must tie down", "Conserved by each file").
+-- What is demanded of a machine that takes a flow's records (RULES.md, 9 What is conserved, 13 What must never happen).
 use Prim.Native.Nat.{ℕ, _+_, _<_}
 use mathlib.Core.Path.{_≡_}
 use mathlib.Core.Logic.{_↔_, _≢_}
@@ -9,11 +9,12 @@ use lib.ListN.{length, getD, take}
 use Rattle.model.specs.Map.{find, has, Once}
 use Rattle.model.specs.Checks.{Check, NoneHolds, FirstIs}
 use Rattle.model.specs.Machine.{Machine, zeros, others, run, answers}
-use Rattle.model.specs.Log.{sumOf, acceptedBy, total, runAll, takenAll, Shown, ofCase, ofEvent, caseSent, eventSent, casesIn, casesOut, eventsIn, eventsOut, carried}
-use Rattle.model.specs.Transmission.{insert, cancel, isInsert, admitted, standing}
-use Rattle.model.specs.Flow.{State, empty, Good, Flow, t14, t15}
+use Rattle.model.specs.Log.{sumOf, acceptedBy, total, runAll, takenAll, Shown, ofCase, ofEvent, caseSent, eventSent, Undoes, casesIn, casesOut, eventsIn, eventsOut, carried}
+use Rattle.model.specs.Transmission.{isInsert, admitted, standing}
+use Rattle.model.specs.Flow.{State, empty, Good, Flow}
+use Rattle.model.specs.Anomalies.{t14, t15}
 
--- "invented counts (the answer list fixes them)": accepted + discarded = records, and accepted = the zeros of the list
+-- K3: "accepted + discarded = records, and accepted is the zeros of the answer list"; X6: "the answer list fixes them"
 pub record Counted (ns : List ℕ) (records accepted discarded : ℕ) : Type 0 where
   pub as-many : length ns ≡ records
   pub together : accepted + discarded ≡ records
@@ -70,15 +71,12 @@ module _ {F E R X : Type 0} (f : Flow F E R) (m : Machine (State F E) R) (entrie
         ((k : ℕ) → find k (after xs .cases) ≡ find k (after ys .cases)) →
         ((k : ℕ) → find k (after xs .events) ≡ find k (after ys .events)) →
         encode (after xs) ≡ encode (after ys)
-    -- an accepted insertion, followed at once by the accepted cancellation of its keys, gives the bytes back
-    pub undone : (xs : List X) (a b : R) → f .kind a ≡ insert → f .kind b ≡ cancel →
-        ((k : ℕ) → has k (f .caseRows b) ≡ has k (f .caseRows a)) →
-        ((k : ℕ) → has k (f .eventRows b) ≡ has k (f .eventRows a)) →
-        ((k : ℕ) → f .away b k ≡ true → find k (after xs .events) ≡ none) →
-        answers m (after xs) (a ∷ b ∷ []) ≡ 0 ∷ 0 ∷ [] →
-        encode (run m (after xs) (a ∷ b ∷ [])) ≡ encode (after xs)
+    -- an accepted insertion, followed at once by the accepted cancellation of exactly its keys, leaves the bytes that are left without the two
+    pub undone : (xs ys : List X) (p q : List R) (a b : R) → log xs ≡ p ++ a ∷ b ∷ q → log ys ≡ p ++ q → Undoes f a b →
+        ((k : ℕ) → f .away b k ≡ true → find k (run m empty p .events) ≡ none) →
+        encode (after xs) ≡ encode (after ys)
 
-  -- document 003, section 4.3, over any history
+  -- FAR 6.3, section 4.3, and J7, over any history
   pub record Sequences : Type 0 where
     -- a key stands exactly when it was sent and not annulled since
     pub case-stands : (xs : List X) (k : ℕ) → has k (after xs .cases) ≡ standing (caseSent f k (log xs))
@@ -90,7 +88,7 @@ module _ {F E R X : Type 0} (f : Flow F E R) (m : Machine (State F E) R) (entrie
     -- no accepted record is one that the table refuses after the accepted ones before it
     pub by-table : (xs : List X) (a : List R) (r : R) (b : List R) → log xs ≡ a ++ r ∷ b → Refused f r a → ⊥
 
--- "cases after = cases before + accepted insertions - cancellations; events likewise", of each file
+-- K1 and K2, of each file: "cases after = cases before + accepted insertions of Track 1 - its accepted cancellations", events likewise
 pub record Conserved {F E R : Type 0} (f : Flow F E R) (m : Machine (State F E) R) (s : State F E) (rs : List R) : Type 0 where
   pub cases : length (run m s rs .cases) + sumOf (casesOut f) (acceptedBy m s rs) ≡ length (s .cases) + sumOf (casesIn f) (acceptedBy m s rs)
   pub events : length (run m s rs .events) + total m (λ s r. eventsOut f r + carried f s r) s rs ≡

@@ -5,3 +5,4 @@ pub mod Transmission
 pub mod Flow
 pub mod Demands
 pub mod Log
+pub mod Anomalies

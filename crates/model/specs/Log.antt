@@ -1,17 +1,19 @@
--- What the demands say of the records that were accepted, one after the other (document 01, "Conserved by each file" and the demands): the last that speaks of a
+-- What the demands say of the records that were accepted, one after the other (RULES.md, 9 What is conserved): the last that speaks of a
 -- key, what it shows, what is inserted and what is cancelled.
 use Prim.Native.Nat.{ℕ, _+_}
 use mathlib.Core.Path.{_≡_}
 use mathlib.Core.Bool.{Bool, true, false, cond, _&&_, _||_}
 use mathlib.Core.List.{List, [], _∷_, _++_}
 use mathlib.Core.Option.{Option, none, some}
+use lib.Dec.{eqb}
 use lib.ListN.{length}
 use Rattle.laws.specs.Lists.{any}
 use Rattle.model.specs.Map.{orElse, find, has, keep, delAll}
 use Rattle.model.specs.Checks.{Check, first}
 use Rattle.model.specs.Machine.{Machine, accepts, step, run}
 use Rattle.model.specs.Transmission.{Kind, insert, vary, cancel, isInsert, isCancel, Sent, nothing, last}
-use Rattle.model.specs.Flow.{State, Flow, t14, t15, t22}
+use Rattle.model.specs.Flow.{State, Flow}
+use Rattle.model.specs.Anomalies.{t14, t15, t22}
 
 -- the last element of a list that passes a test
 unfoldable pub lastOf : {R : Type 0} → (R → Bool) → List R → Option R
@@ -30,6 +32,12 @@ pub record LastIs {R : Type 0} (p : R → Bool) (l : List R) (r : R) : Type 0 wh
 unfoldable pub sumOf : {R : Type 0} → (R → ℕ) → List R → ℕ
 sumOf g [] = 0
 sumOf g (r ∷ rs) = g r + sumOf g rs
+
+-- J1: "0 is acceptance": of a file's records, in their order, those whose byte in an answer list is 0
+unfoldable pub atZeros : {R : Type 0} → List ℕ → List R → List R
+atZeros ns [] = []
+atZeros [] (r ∷ rs) = []
+atZeros (n ∷ ns) (r ∷ rs) = cond (eqb n 0) (r ∷ atZeros ns rs) (atZeros ns rs)
 
 module _ {S R : Type 0} (m : Machine S R) where
   -- the accepted ones
@@ -103,7 +111,14 @@ module _ {F E R : Type 0} (f : Flow F E R) where
     pub not15 : (s : State F E) (r : R) → first (checks r) s ≡ 0 → t15 f r s ≡ false
     pub not22 : (s : State F E) (r : R) → first (checks r) s ≡ 0 → t22 f r ≡ false
 
-  -- "accepted Track 1 insertions", "cancellations"; "events likewise by accepted event keys"
+  -- a inserts, and b cancels exactly its keys
+  pub record Undoes (a b : R) : Type 0 where
+    pub inserts : f .kind a ≡ insert
+    pub cancels : f .kind b ≡ cancel
+    pub cases : (k : ℕ) → has k (f .caseRows b) ≡ has k (f .caseRows a)
+    pub events : (k : ℕ) → has k (f .eventRows b) ≡ has k (f .eventRows a)
+
+  -- K1: "accepted insertions of Track 1", "its accepted cancellations"; K2: "the event keys of accepted insertions of Track 2"
   abbrev pub casesIn : R → ℕ
   casesIn r = cond (isInsert (f .kind r)) (length (f .caseRows r)) 0
 

@@ -1,4 +1,4 @@
--- A state, and records applied to it (document 01, "Records are applied in file order, each judged against the register that the
+-- A state, and records applied to it (RULES.md, G7: "Records are taken in file order, each judged against the register that the
 -- earlier ones left").
 use Prim.Native.Nat.{ℕ, _+_}
 use mathlib.Core.Bool.{Bool, cond}
@@ -20,7 +20,7 @@ pub record Machine (S R : Type 0) : Type 0 where
   pub act : S → R → S
 
 module _ {S R : Type 0} (m : Machine S R) where
-  -- "Answer 0 means accepted"
+  -- J1: "0 is acceptance"
   abbrev pub accepts : S → R → Bool
   accepts s r = eqb (m .judge s r) 0
 

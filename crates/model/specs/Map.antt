@@ -1,4 +1,4 @@
--- Ordered maps (document 01, "The register": "each group ascending"). A row's key is the number that its first bits make.
+-- Ordered maps (RULES.md, R3: "In each of the two groups the keys ascend strictly"). A row's key is the number that its first bits make.
 use Prim.Native.Nat.{ℕ, suc, _≤_, _<_}
 use mathlib.Core.Path.{_≡_}
 use mathlib.Core.Bool.{Bool, true, false, cond, not, _||_}
@@ -18,12 +18,12 @@ abbrev pub orElse : {A : Type 0} → Option A → Option A → Option A
 orElse none b = b
 orElse (some a) b = some a
 
--- "rows of 91 bytes": a key, and the fields past it
+-- R2: "rows of 91 bytes": a key, and the fields past it
 pub record Row (F : Type 0) : Type 0 where
   pub key : ℕ
   pub val : F
 
--- "all cases", "all events": rows, one after the other
+-- R2: "all cases and then all events": rows, one after the other
 abbrev pub Map : Type 0 → Type 0
 Map F = List (Row F)
 
@@ -33,7 +33,7 @@ module _ {F : Type 0} where
   find k [] = none
   find k (x ∷ m) = cond (eqb k (x .key)) (some (x .val)) (find k m)
 
-  -- "the new one's place"; "varying replaces whole rows"
+  -- W1: "at the place of its key"; W2: "whole rows in the place of those with their keys"
   unfoldable pub put : Row F → Map F → Map F
   put r [] = r ∷ []
   put r (x ∷ m) = cond (ltb (r .key) (x .key)) (r ∷ x ∷ m) (cond (eqb (r .key) (x .key)) (r ∷ m) (x ∷ put r m))
@@ -43,11 +43,11 @@ module _ {F : Type 0} where
   keep p [] = []
   keep p (x ∷ m) = cond (p (x .key)) (x ∷ keep p m) (keep p m)
 
-  -- "rows freed by a cancellation": the row with the key k taken out
+  -- W3: "takes out the rows with the record's keys": the row with the key k taken out
   abbrev pub del : ℕ → Map F → Map F
   del k m = keep (λ j. not (eqb j k)) m
 
-  -- "keys strictly ascending", from b on
+  -- V5: "Keys ascend strictly", from b on
   unfoldable pub Asc : ℕ → Map F → Type 0
   Asc b [] = Unit {0}
   Asc b (x ∷ m) = (b ≤ x .key) × Asc (suc (x .key)) m

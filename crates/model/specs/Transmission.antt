@@ -1,4 +1,4 @@
--- The table of transmission sequences (document 003, section 4.3).
+-- The table of transmission sequences (FAR 6.3, section 4.3; RULES.md, J7).
 use mathlib.Core.Bool.{Bool, true, false}
 
 -- "primo inserimento (I)", "variazione (V)", "cancellazione (C)"

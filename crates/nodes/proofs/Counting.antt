@@ -15,7 +15,7 @@ use Rattle.markup.specs.Elements.Inside.{end, says, note, elem}
 use Rattle.reading.proofs.Cut.{never}
 use Rattle.schema.specs.Schema.{Particle, Node, leaf, group, another, Nodes, none, _▸_, particleOf}
 use Rattle.schema.specs.Shape.{Seek, nowhere, here, mayCome, seek, namedIn}
-use Rattle.schema.specs.Counted.{marked, childCount, countIn, countOf}
+use Rattle.schema.specs.CountedElements.{marked, childCount, countIn, countOf}
 use Rattle.nodes.specs.Lookup.{firstNamed, childOf}
 use Rattle.nodes.proofs.Taken.{Meets, may-come, Walked, ended, told, noted, born}
 use Rattle.nodes.proofs.Present.{nodeOf, only, owed, Among, front, later, only-among, group-walked, child-there, child-most}

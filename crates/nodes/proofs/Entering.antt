@@ -1,13 +1,11 @@
 -- An element from its start tag, or from its name and the end of that tag: what stands in it; and from its `<` and its name alone: its name and its attributes.
 use Prim.Native.Nat.{ℕ, zero, suc, _-_}
-use mathlib.Core.Path.{_≡_, refl, sym, ap, _∙_}
+use mathlib.Core.Path.{_≡_, sym, ap, _∙_}
 use mathlib.Core.Bool.{Bool, true, false, cond}
 use mathlib.Core.List.{List}
 use native.Mathlib.Numerals.{sub-one}
-use native.Mathlib.Omega.{arith}
-use Rattle.markup.specs.Reading.{then}
-use Rattle.markup.specs.Reading.Read.{refused, read}
-use Rattle.markup.specs.Names.{byte, name}
+use Rattle.markup.specs.NamesAndValues.{then, byte, name}
+use Rattle.markup.specs.NamesAndValues.Read.{refused, read}
 use Rattle.markup.specs.Tags.{Attributes, attributes, differ, Tag, tagOf, tag}
 use Rattle.markup.specs.Elements.{Inside, Tree, content, element}
 use Rattle.markup.specs.Elements.Inside.{end}

@@ -10,7 +10,7 @@ use Rattle.laws.specs.Lists.{all}
 use Rattle.laws.proofs.Truth.{and-left, and-right}
 use Rattle.laws.proofs.Lists.{all-left, all-right}
 use Rattle.markup.specs.Bytes.{inFile, isText, runLength, front, after}
-use Rattle.markup.specs.Reading.Read.{read}
+use Rattle.markup.specs.NamesAndValues.Read.{read}
 use Rattle.markup.specs.Elements.{Inside, Tree, tagPiece, piece, content, element, alone, kids}
 use Rattle.markup.specs.Elements.Inside.{end}
 use Rattle.markup.specs.Elements.Piece.{words}
@@ -26,7 +26,7 @@ use Rattle.reading.proofs.Files.{document-is}
 use Rattle.reading.proofs.Places.{tag-ends, deeply-map, place-reads}
 use Rattle.nodes.specs.Lookup.{said, textOf}
 
--- "any that a text may hold"
+-- S15: "any that a text may hold"
 abbrev pub inText : ℕ → Bool
 inText b = inFile b && isText b
 

@@ -9,7 +9,7 @@ use lib.ListN.{drop}
 use borrow.Author.Tests.{eq-eqb, ne-eqb}
 use Rattle.laws.specs.Lists.{same}
 use Rattle.laws.proofs.Truth.{and-left, and-right}
-use Rattle.markup.specs.Reading.Read.{refused, read}
+use Rattle.markup.specs.NamesAndValues.Read.{refused, read}
 use Rattle.markup.specs.Elements.{Inside, Tree, content, element, kids, kidOn}
 use Rattle.markup.specs.View.{left}
 use Rattle.reading.proofs.Cut.{never}

@@ -8,7 +8,7 @@ use native.Mathlib.Omega.{arith}
 use lib.Dec.{eqb, ltb, leb}
 use borrow.Author.Tests.{leb-true, ltb-false, ltb-true, eqb-true}
 use Rattle.laws.specs.Lists.{all, same}
-use Rattle.laws.proofs.Truth.{and-left, and-right}
+use Rattle.laws.proofs.Truth.{and-left, and-right, either}
 use Rattle.markup.specs.Bytes.{isWs}
 use Rattle.markup.specs.Tags.{Pair}
 use Rattle.markup.specs.Elements.{Inside, Tree, mk, alone, kids}
@@ -17,7 +17,7 @@ use Rattle.reading.specs.Everywhere.{Deeply}
 use Rattle.reading.proofs.Cut.{never}
 use Rattle.schema.specs.Schema.{Node, leaf, group, another, Nodes, none, _▸_, particleOf}
 use Rattle.schema.specs.Shape.{attrsFit, leafFits, Seek, nowhere, here, mayCome, seek, enough, firstFault, childFault, faultIn, faultOf}
-use Rattle.nodes.proofs.Same.{either, same-is}
+use Rattle.nodes.proofs.Same.{same-is}
 
 -- an element without a fault by its node; p is what is known of every element in it
 pub record Meets (p : Tree → Type 0) (n : Node) (c : Tree) : Type 0 where

@@ -5,8 +5,8 @@ use mathlib.Core.Bool.{Bool, true, false}
 use mathlib.Core.List.{List, [], _∷_}
 use Rattle.laws.specs.Lists.{any, same}
 use Rattle.laws.specs.Loop.Step.{stop, next}
-use Rattle.markup.specs.Reading.{Read, then}
-use Rattle.markup.specs.Reading.Read.{refused, read}
+use Rattle.markup.specs.NamesAndValues.{Read, then}
+use Rattle.markup.specs.NamesAndValues.Read.{refused, read}
 use Rattle.markup.specs.Tags.{Pair, Attributes, ending, before, attributesStep, attributes}
 use Rattle.markup.specs.View.{part, pair}
 use Rattle.reading.proofs.Cut.{never}

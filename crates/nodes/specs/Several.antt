@@ -6,7 +6,7 @@ use mathlib.Core.List.{List}
 use lib.Dec.{eqb}
 use lib.ListN.{drop}
 use Rattle.laws.specs.Lists.{same}
-use Rattle.markup.specs.Reading.Read.{read}
+use Rattle.markup.specs.NamesAndValues.Read.{read}
 use Rattle.markup.specs.Elements.{Inside, Tree, content, element}
 use Rattle.nodes.specs.Lookup.{firstNamed}
 use Rattle.nodes.specs.Stands.{Stands}

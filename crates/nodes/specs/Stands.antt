@@ -5,7 +5,7 @@ use mathlib.Core.Bool.{true, false}
 use mathlib.Core.List.{List, [], _∷_}
 use lib.ListN.{drop}
 use Rattle.laws.specs.Lists.{any, same}
-use Rattle.markup.specs.Reading.Read.{read}
+use Rattle.markup.specs.NamesAndValues.Read.{read}
 use Rattle.markup.specs.Tags.{Pair}
 use Rattle.markup.specs.Elements.{Inside, Tree, content, element, kids}
 use Rattle.markup.specs.Elements.Inside.{end}

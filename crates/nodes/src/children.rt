@@ -4,7 +4,7 @@ ghost use mathlib.Core.List.{List};
 ghost use Prim.Native.Nat.{ℕ};
 ghost use lib.ListN.{drop};
 ghost use Rattle.laws.specs.Lists.{same};
-ghost use Rattle.markup.specs.Reading.Read.{read};
+ghost use Rattle.markup.specs.NamesAndValues.Read.{read};
 ghost use Rattle.markup.specs.Elements.{Inside, Tree, element, kids};
 ghost use Rattle.markup.specs.View.{part};
 ghost use Rattle.nodes.specs.Lookup.{firstNamed, childOf, hasChild};

@@ -3,7 +3,7 @@ ghost use mathlib.Core.Path.{_≡_};
 ghost use mathlib.Core.List.{List};
 ghost use Prim.Native.Nat.{ℕ};
 ghost use lib.ListN.{drop};
-ghost use Rattle.markup.specs.Reading.Read.{read};
+ghost use Rattle.markup.specs.NamesAndValues.Read.{read};
 ghost use Rattle.markup.specs.Tags.{Attributes, attributes};
 ghost use Rattle.markup.specs.Elements.{Tree};
 ghost use Rattle.markup.specs.View.{part, held};

@@ -8,8 +8,7 @@ use mathlib.Core.Logic.{_⊎_, ⊎-elim, inl, inr}
 use native.Mathlib.Omega.{arith}
 use lib.Dec.{eqb, leb}
 use borrow.Author.Tests.{eqb-true, ne-eqb, leb-true, le-leb}
-use Rattle.laws.specs.Lists.{all}
-use Rattle.laws.specs.Text.{bytes}
+use Rattle.laws.specs.Lists.{all, bytes}
 use Rattle.laws.proofs.Truth.{and-left, and-right}
 use Rattle.laws.proofs.Lists.{all-map, all-join}
 use Rattle.markup.specs.Bytes.{inFile, isNameStart, isName}
@@ -17,7 +16,7 @@ use Rattle.markup.specs.Tags.{Pair}
 use Rattle.markup.specs.Elements.{Inside, Tree, depth, alone}
 use Rattle.markup.specs.Elements.Inside.{end, says, note, elem}
 use Rattle.markup.specs.Document.{document}
-use Rattle.markup.specs.Reading.Read.{read}
+use Rattle.markup.specs.NamesAndValues.Read.{read}
 use Rattle.reading.specs.Print.{pairsOn, endOn, printOn, print, placedTree, IsName, PairsOk, Prints, Printable, ValuesPlain, Plain}
 use Rattle.reading.proofs.Files.{printed-document}
 

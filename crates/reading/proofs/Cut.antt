@@ -9,8 +9,8 @@ use lib.Seq.{take-take}
 use Rattle.laws.specs.Loop.{Step, loop}
 use Rattle.laws.specs.Loop.Step.{stop, next}
 use Rattle.laws.proofs.Fuel.{Shrinks, loop-next, loop-stop, by-steps}
-use Rattle.markup.specs.Reading.{Read, then}
-use Rattle.markup.specs.Reading.Read.{refused, read}
+use Rattle.markup.specs.NamesAndValues.{Read, then}
+use Rattle.markup.specs.NamesAndValues.Read.{refused, read}
 
 pub never : {A : Type 0} → _≡_ {A = ℕ} 0 1 → A
 never e = absurd (omega arith)
@@ -53,9 +53,6 @@ like (b ∷ e) m z zero j h q = refl
 like (b ∷ e) m z (suc i) j h q = ap (λ (y : List ℕ). b ∷ y) (like e m z i j (omega arith) q)
 
 module _ {A X : Type 0} {put : A → List ℕ → X} {move : ℕ → A → A} {c j : ℕ} where
-  pub none-cuts : {x : X} → ((a : A) (m : List ℕ) → x ≡ put a m → ⊥) → (l : List ℕ) → Cuts put move c j (λ _. x) l
-  none-cuts h l a m e = absurd (h a m e)
-
   pub cond-cuts : (t : Bool) {r s : List ℕ → X} {l : List ℕ} → Cuts put move c j r l → Cuts put move c j s l → Cuts put move c j (λ x. cond t (r x) (s x)) l
   cond-cuts true h k = h
   cond-cuts false h k = k

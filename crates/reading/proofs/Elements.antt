@@ -11,8 +11,8 @@ use lib.ListN.{length, drop, getD, length-append}
 use Rattle.laws.specs.Loop.Step.{next}
 use Rattle.laws.proofs.Fuel.{Shrinks}
 use Rattle.markup.specs.Bytes.{isNameStart, isText, runLength, front, after}
-use Rattle.markup.specs.Reading.{Read, then}
-use Rattle.markup.specs.Reading.Read.{refused, read}
+use Rattle.markup.specs.NamesAndValues.{Read, then}
+use Rattle.markup.specs.NamesAndValues.Read.{refused, read}
 use Rattle.markup.specs.Comments.{dashed}
 use Rattle.markup.specs.Tags.{Pair, Tag, tag, endTag}
 use Rattle.markup.specs.Elements.{Inside, Tree, Piece, tagPiece, piece, onto, afterChild, afterPiece, contentStep, content, afterTag, element, kidOn}

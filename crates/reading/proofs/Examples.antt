@@ -3,9 +3,8 @@ use Prim.Native.Nat.{ℕ}
 use mathlib.Core.Path.{_≡_, refl}
 use mathlib.Core.List.{[], _∷_}
 use native.Mathlib.Omega.{arith}
-use Rattle.laws.specs.Lists.{all, any, same}
-use Rattle.laws.specs.Text.{bytes}
-use Rattle.markup.specs.Reading.Read.{read}
+use Rattle.laws.specs.Lists.{all, any, same, bytes}
+use Rattle.markup.specs.NamesAndValues.Read.{read}
 use Rattle.markup.specs.Tags.{differ}
 use Rattle.markup.specs.Elements.{Tree, depth, mk, alone}
 use Rattle.markup.specs.Elements.Inside.{end, says, note, elem}

@@ -7,15 +7,13 @@ use mathlib.Core.List.{List, [], _∷_, _++_, append-assoc}
 use native.Mathlib.Omega.{arith}
 use lib.Dec.{eqb}
 use lib.ListN.{length, take, drop, getD, length-drop, take-append-drop}
-use Rattle.laws.specs.Lists.{all, same}
+use Rattle.laws.specs.Lists.{all, same, bytes}
 use Rattle.laws.specs.Loop.{Step, turns, loop}
 use Rattle.laws.specs.Loop.Step.{stop, next}
-use Rattle.laws.specs.Text.{bytes}
 use Rattle.laws.proofs.Fuel.{Shrinks, loop-next, loop-stop, by-steps}
 use Rattle.markup.specs.Bytes.{inFile, isWs, isNameStart, runLength}
-use Rattle.markup.specs.Reading.{Read, then}
-use Rattle.markup.specs.Reading.Read.{refused, read}
-use Rattle.markup.specs.Names.{skipWs}
+use Rattle.markup.specs.NamesAndValues.{Read, then, skipWs}
+use Rattle.markup.specs.NamesAndValues.Read.{refused, read}
 use Rattle.markup.specs.Comments.{opensOther, dashed, declared}
 use Rattle.markup.specs.Elements.{Tree, element, depth}
 use Rattle.markup.specs.Document.{declares, declaration, goOn, miscStep, misc, atEnd, document}

@@ -10,9 +10,8 @@ use lib.Seq.{take-append-seam, drop-append-seam}
 use borrow.Author.Tests.{eq-eqb, ne-eqb, eqb-true}
 use Rattle.laws.specs.Lists.{all}
 use Rattle.markup.specs.Bytes.{isWs, isNameStart, isName, inValue, runLength, front, after}
-use Rattle.markup.specs.Reading.{Read, then}
-use Rattle.markup.specs.Reading.Read.{refused, read}
-use Rattle.markup.specs.Names.{skipWs, byte, name, isQuote, value}
+use Rattle.markup.specs.NamesAndValues.{Read, then, skipWs, byte, name, isQuote, value}
+use Rattle.markup.specs.NamesAndValues.Read.{refused, read}
 use Rattle.reading.specs.Print.{IsName}
 use Rattle.reading.proofs.Cut.{never, still, Local, refused-cuts, cond-cuts, cons-cuts, then-local, read-local}
 

@@ -8,8 +8,8 @@ use native.Mathlib.Omega.{arith}
 use native.Mathlib.Nat.{add-zero}
 use lib.ListN.{length}
 use Rattle.markup.specs.Bytes.{isNameStart}
-use Rattle.markup.specs.Reading.{Read}
-use Rattle.markup.specs.Reading.Read.{refused, read}
+use Rattle.markup.specs.NamesAndValues.{Read}
+use Rattle.markup.specs.NamesAndValues.Read.{refused, read}
 use Rattle.markup.specs.Elements.{Inside, Tree, element}
 use Rattle.markup.specs.Elements.Inside.{end, says, note, elem}
 use Rattle.reading.specs.Places.{up, upTree, down, downTree, own}

@@ -8,7 +8,7 @@ use lib.ListN.{length}
 use Rattle.laws.specs.Lists.{all}
 use Rattle.laws.proofs.Lists.{all-left, all-right}
 use Rattle.markup.specs.Bytes.{inFile}
-use Rattle.markup.specs.Reading.Read.{read}
+use Rattle.markup.specs.NamesAndValues.Read.{read}
 use Rattle.markup.specs.Tags.{Pair}
 use Rattle.markup.specs.Elements.{Tree, content, element, mk, alone, kids}
 use Rattle.markup.specs.Elements.Inside.{end}

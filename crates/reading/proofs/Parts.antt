@@ -7,7 +7,7 @@ use mathlib.Core.List.{List, [], _∷_, _++_}
 use lib.ListN.{length}
 use Rattle.laws.specs.Lists.{all}
 use Rattle.markup.specs.Bytes.{inFile}
-use Rattle.markup.specs.Reading.Read.{read}
+use Rattle.markup.specs.NamesAndValues.Read.{read}
 use Rattle.markup.specs.Tags.{Pair, Tag, tag}
 use Rattle.markup.specs.Elements.{Tree, piece, content, element}
 use Rattle.markup.specs.Elements.Piece.{child}

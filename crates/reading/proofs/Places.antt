@@ -7,7 +7,7 @@ use mathlib.Core.List.{List, [], _∷_, _++_, append-assoc}
 use native.Mathlib.Omega.{arith}
 use lib.ListN.{length, drop, getD, length-append}
 use lib.Seq.{drop-append-seam}
-use Rattle.markup.specs.Reading.Read.{read}
+use Rattle.markup.specs.NamesAndValues.Read.{read}
 use Rattle.markup.specs.Tags.{Tag, tag}
 use Rattle.markup.specs.Elements.{Inside, Tree, content, element, depth, mk, alone, kids}
 use Rattle.markup.specs.Elements.Inside.{end, says, note, elem}

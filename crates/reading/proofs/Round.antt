@@ -13,8 +13,8 @@ use Rattle.laws.specs.Lists.{all, same}
 use Rattle.laws.specs.Loop.Step.{stop, next}
 use Rattle.laws.proofs.Fuel.{loop-next, loop-stop}
 use Rattle.markup.specs.Bytes.{isWs, isNameStart, isName, inValue, isText, runLength}
-use Rattle.markup.specs.Reading.Read.{refused, read}
-use Rattle.markup.specs.Names.{skipWs, byte, value}
+use Rattle.markup.specs.NamesAndValues.Read.{refused, read}
+use Rattle.markup.specs.NamesAndValues.{skipWs, byte, value}
 use Rattle.markup.specs.Comments.{comment, dashed}
 use Rattle.markup.specs.Tags.{Pair, attribute, ending, before, goOn, attributesAt, attributesStep, attributes, Tag, tag, endTag}
 use Rattle.markup.specs.Elements.{Inside, Tree, piece, content, element, alone}

@@ -5,9 +5,8 @@ use mathlib.Core.List.{List}
 use native.Mathlib.Omega.{arith}
 use lib.ListN.{length, length-append, length-drop}
 use Rattle.markup.specs.Bytes.{isWs, runLength}
-use Rattle.markup.specs.Reading.{Read}
-use Rattle.markup.specs.Reading.Read.{read}
-use Rattle.markup.specs.Names.{skipWs}
+use Rattle.markup.specs.NamesAndValues.{Read, skipWs}
+use Rattle.markup.specs.NamesAndValues.Read.{read}
 use Rattle.markup.specs.Comments.{dashed}
 use Rattle.markup.specs.Elements.{Tree, element}
 use Rattle.reading.proofs.Cut.{Cut, Local}

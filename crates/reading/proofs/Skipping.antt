@@ -16,9 +16,8 @@ use Rattle.laws.proofs.Places.{front as front-at}
 use Rattle.laws.specs.Lists.{same}
 use Rattle.markup.specs.Bytes.{isWs, isNameStart, isName, isText, runLength, front, after}
 use Rattle.markup.specs.Classes.{class}
-use Rattle.markup.specs.Reading.{Read, then}
-use Rattle.markup.specs.Reading.Read.{refused, read}
-use Rattle.markup.specs.Names.{skipWs, byte, name}
+use Rattle.markup.specs.NamesAndValues.{Read, then, skipWs, byte, name}
+use Rattle.markup.specs.NamesAndValues.Read.{refused, read}
 use Rattle.markup.specs.Comments.{dashed}
 use Rattle.markup.specs.Tags.{Attributes, attributes, differ, Tag, tagOf, tag, endTag}
 use Rattle.markup.specs.Elements.{Inside, Tree, piece, onto, afterPiece, contentStep, content, element, kidOn}

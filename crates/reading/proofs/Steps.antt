@@ -6,8 +6,8 @@ use mathlib.Core.List.{List}
 use lib.ListN.{length}
 use Rattle.laws.specs.Loop.Step.{stop, next}
 use Rattle.laws.proofs.Fuel.{Shrinks, loop-next, loop-stop, by-steps}
-use Rattle.markup.specs.Reading.{Read}
-use Rattle.markup.specs.Reading.Read.{refused, read}
+use Rattle.markup.specs.NamesAndValues.{Read}
+use Rattle.markup.specs.NamesAndValues.Read.{refused, read}
 use Rattle.markup.specs.Tags.{Tag, tag}
 use Rattle.markup.specs.Elements.{Inside, Tree, Piece, piece, onto, afterPiece, contentStep, content, afterTag, element, mk, kidOn}
 use Rattle.markup.specs.Elements.Inside.{end, says, note}

@@ -12,9 +12,8 @@ use Rattle.laws.specs.Loop.{Step}
 use Rattle.laws.specs.Loop.Step.{stop, next}
 use Rattle.laws.proofs.Fuel.{Shrinks}
 use Rattle.markup.specs.Bytes.{isWs, runLength, front, after}
-use Rattle.markup.specs.Reading.{Read, then}
-use Rattle.markup.specs.Reading.Read.{refused, read}
-use Rattle.markup.specs.Names.{skipWs, byte, name, value}
+use Rattle.markup.specs.NamesAndValues.{Read, then, skipWs, byte, name, value}
+use Rattle.markup.specs.NamesAndValues.Read.{refused, read}
 use Rattle.markup.specs.Comments.{opensOther, comment, dashed}
 use Rattle.markup.specs.Tags.{Pair, attribute, Attributes, ending, before, goOn, attributesAt, attributesStep, attributes, differ, Tag, tagOf, tag, endTag}
 use Rattle.reading.specs.Print.{IsName}

@@ -6,8 +6,8 @@ use mathlib.Core.List.{List, [], _∷_, _++_}
 use lib.ListN.{length}
 use Rattle.laws.specs.Lists.{all}
 use Rattle.markup.specs.Bytes.{inFile}
-use Rattle.markup.specs.Reading.{Read}
-use Rattle.markup.specs.Reading.Read.{refused, read}
+use Rattle.markup.specs.NamesAndValues.{Read}
+use Rattle.markup.specs.NamesAndValues.Read.{refused, read}
 use Rattle.markup.specs.Tags.{Pair, tag}
 use Rattle.markup.specs.Elements.{Inside, Tree, element, depth, mk, kidOn, alone, kids}
 use Rattle.markup.specs.Elements.Inside.{end}

@@ -2,8 +2,8 @@
 use Prim.Native.Nat.{ℕ, _+_, _-_}
 use mathlib.Core.List.{List}
 use lib.ListN.{length}
-use Rattle.markup.specs.Reading.{Read}
-use Rattle.markup.specs.Reading.Read.{refused, read}
+use Rattle.markup.specs.NamesAndValues.{Read}
+use Rattle.markup.specs.NamesAndValues.Read.{refused, read}
 use Rattle.markup.specs.Elements.{Inside, Tree}
 use Rattle.markup.specs.Elements.Inside.{end, says, note, elem}
 

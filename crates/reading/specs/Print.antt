@@ -1,12 +1,11 @@
--- How a tree is printed: "no declaration, nothing between elements, values in `"`" (request E3); and which trees can be (document 01, "The markup taken").
+-- How a tree is printed: "no declaration, nothing between elements, values in `"`" (request E3); and which trees can be (RULES.md, 1 The markup taken).
 use Prim.Native.Nat.{ℕ, zero, suc, _<_}
 use Prim.Native.Char.{code}
 use mathlib.Core.Path.{_≡_}
 use mathlib.Core.Bool.{true}
 use mathlib.Core.List.{List, [], _∷_, _++_}
 use lib.ListN.{length, getD}
-use Rattle.laws.specs.Lists.{all}
-use Rattle.laws.specs.Text.{bytes}
+use Rattle.laws.specs.Lists.{all, bytes}
 use Rattle.markup.specs.Bytes.{inFile, isNameStart, isName, inValue, isText}
 use Rattle.markup.specs.Tags.{Pair, differ}
 use Rattle.markup.specs.Elements.{Inside, Tree, alone}
@@ -45,17 +44,17 @@ placed r (elem z n ps i k) = elem (length (printOn (elem z n ps i k) r)) n ps (p
 abbrev pub placedTree : List ℕ → Tree → Tree
 placedTree r t = record { from = length (treeOn t r); named = t .named; pairs = t .pairs; inside = placed (endOn (t .named) r) (t .inside) }
 
--- "a letter or `_`, then letters, digits, `_`, `-`, `.`, `:`"
+-- M9: "A name is a letter (A to Z, a to z) or `_`, then letters, digits, `_`, `-`, `.`, `:`"
 pub record IsName (n : List ℕ) : Type 0 where
   pub starts : isNameStart (getD n 0 0) ≡ true
   pub bytes : all isName n ≡ true
 
--- attributes: "Values .. hold neither that quote nor `<`"
+-- attributes, M12: "A value .. holds neither that quote nor `<`"
 abbrev pub PairsOk : List Pair → Type 0
 PairsOk [] = Unit
 PairsOk (p ∷ ps) = IsName (p .key) × (all (inValue (code "\"")) (p .val) ≡ true) × PairsOk ps
 
--- a start tag: "Attribute names differ within a tag"
+-- a start tag, M13: "No two attributes of a tag have the same name"
 pub record TagOk (n : List ℕ) (ps : List Pair) : Type 0 where
   pub named : IsName n
   pub pairs : PairsOk ps
@@ -76,7 +75,7 @@ Prints d (note k) = Prints d k
 Prints zero (elem z n ps i k) = ⊥
 Prints (suc d) (elem z n ps i k) = TagOk n ps × Prints d i × Prints (suc d) k
 
--- "Depth is at most ..": an element of at most d levels
+-- an element of at most d levels (M16)
 abbrev pub Printable : ℕ → Tree → Type 0
 Printable d t = Prints d (alone t)
 

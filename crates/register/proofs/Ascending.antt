@@ -1,4 +1,4 @@
--- "keys strictly ascending", as a test and as the model's fact; parts of what ascends.
+-- V5, "Keys ascend strictly", as a test and as the model's fact; parts of what ascends.
 use Prim.Native.Nat.{ℕ, suc, _+_, _-_, _≤_}
 use mathlib.Core.Path.{_≡_, refl}
 use mathlib.Core.Bool.{true}

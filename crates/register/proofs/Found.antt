@@ -7,35 +7,21 @@ use native.Mathlib.Omega.{arith}
 use lib.Dec.{ltb, eqb}
 use lib.ListN.{length}
 use lib.Pow.{shr-shr, shr-mono}
-use borrow.Author.Tests.{lt-ltb, le-ltb, eq-eqb, ne-eqb}
-use Rattle.model.specs.Map.{Row, Map, isSome, find, has, keep, Asc}
+use borrow.Author.Tests.{eq-eqb, ne-eqb}
+use Rattle.model.specs.Map.{Row, Map, isSome, find, has, keep}
 use Rattle.model.specs.Flow.{State}
-use Rattle.model.proofs.MapLaws.{asc-weaken}
 use Rattle.model.proofs.MapPlace.{AllBelow, find-in, find-out}
 use Rattle.register.specs.Layout.{Layout, caseRest, eventRest, caseNamed, rowIn}
-use Rattle.register.specs.State.{from, split, eventsFrom}
-use Rattle.register.specs.Stored.{Laid, Stored, Group, cases, events, rowsOf}
+use Rattle.register.specs.State.{from, keyBy, splitBy, eventsFrom}
+use Rattle.register.specs.Stored.{Laid, Stored, Group, cases, events, rowsOf, keyBitsOf, spareOf}
 use Rattle.register.specs.Search.{keyAt, Rises, Placed, Ranged}
 use Rattle.register.proofs.From.{from-cut}
+use Rattle.register.proofs.MixedKeys.{by-front}
 use Rattle.register.proofs.States.{events-back}
 use Rattle.register.proofs.Changes.{startOf}
-use Rattle.register.proofs.Places.{keys, keys-rise, key-is, Apart, Within, apart, within}
+use Rattle.register.proofs.Places.{keys, keys-rise, key-is, first-is, bits-placed, bits-same, Apart, Within, apart, within}
 
 -- ---- a key's place
-
-keep-above : (v : ℕ) (m : Map ℕ) → Asc v m → keep (λ k. ltb k v) m ≡ []
-unfolding keep Asc
-keep-above v [] h = refl
-keep-above v (x ∷ m) h = simp (le-ltb (x .key) v (h .0)) (keep-above v m (asc-weaken v (suc (x .key)) m (omega arith) (h .1)))
-
-keep-cut : (v : ℕ) (us vs : Map ℕ) → AllBelow v us → Asc v vs → length (keep (λ k. ltb k v) (us ++ vs)) ≡ length us
-unfolding keep
-keep-cut v [] vs b h = ap length (keep-above v vs h)
-keep-cut v (x ∷ us) vs b h = simp (lt-ltb (x .key) v (b .0)) (ap suc (keep-cut v us vs (b .1) h))
-
-from-row : (v : ℕ) (x : Row ℕ) (m : Map ℕ) → x .key ≡ v → Asc (suc (x .key)) m → Asc v (x ∷ m)
-unfolding Asc
-from-row v x m e h = (omega arith, h)
 
 module _ (l : Layout) (lay : Laid l) (g : Group) (reg : List ℕ) (s : State ℕ ℕ) (h : Stored l reg s) (v hi i : ℕ)
     (eh : hi ≡ startOf g s + length (rowsOf g s)) (pl : Placed (keys l lay g reg s h) v (startOf g s) hi i) where
@@ -55,20 +41,17 @@ module _ (l : Layout) (lay : Laid l) (g : Group) (reg : List ℕ) (s : State ℕ
           let p : Apart (rowsOf g s) v (i - startOf g s) = apart l lay g reg s h v hi i eh pl e in
           e ∙ sym (ap isSome (ap (find v) (p .whole) ∙ find-out v (p .us) (p .vs) (p .below) (p .above)))
 
-  -- and the place comes after as many rows as have smaller keys
-  pub placed-count : i ≡ startOf g s + length (keep (λ k. ltb k v) (rowsOf g s))
-  placed-count = go stand refl
-    where
-      at : length (keep (λ k. ltb k v) (rowsOf g s)) ≡ i - startOf g s → i ≡ startOf g s + length (keep (λ k. ltb k v) (rowsOf g s))
-      at e = omega (arith, pl .low)
+-- the test over as many bits as a probe's key has says whether its key stands
+module _ (l : Layout) (lay : Laid l) (g : Group) (reg : List ℕ) (s : State ℕ ℕ) (h : Stored l reg s) (p hi i : ℕ)
+    (eh : hi ≡ startOf g s + length (rowsOf g s)) where
+  abbrev bits : ℕ
+  bits = keyBitsOf g l - spareOf g l p
 
-      go : (b : Bool) → stand ≡ b → i ≡ startOf g s + length (keep (λ k. ltb k v) (rowsOf g s))
-      go true e =
-          let p : Within (rowsOf g s) v (i - startOf g s) = within l lay g reg s h v hi i eh pl e in
-          at (ap (λ (m : Map ℕ). length (keep (λ k. ltb k v) m)) (p .whole) ∙ keep-cut v (p .us) (p .row ∷ p .vs) (p .below) (from-row v (p .row) (p .vs) (p .is) (p .above)) ∙ p .count)
-      go false e =
-          let p : Apart (rowsOf g s) v (i - startOf g s) = apart l lay g reg s h v hi i eh pl e in
-          at (ap (λ (m : Map ℕ). length (keep (λ k. ltb k v) m)) (p .whole) ∙ keep-cut v (p .us) (p .vs) (p .below) (asc-weaken v (suc v) (p .vs) (omega arith) (p .above)) ∙ p .count)
+  pub bits-has : Placed (keyAt (l .bytes) bits reg) (p / 2 ^ spareOf g l p) (startOf g s) hi i →
+      ltb i hi && eqb (keyAt (l .bytes) bits reg i) (p / 2 ^ spareOf g l p) ≡ has (keyBy (spareOf g l p) p) (rowsOf g s)
+  bits-has pl =
+      ap (λ (b : Bool). ltb i hi && b) (bits-same l lay g reg s h p i)
+      ∙ stands-has l lay g reg s h (keyBy (spareOf g l p) p) hi i eh (bits-placed l lay g reg s h p hi i eh pl)
 
 -- ---- the events of a case
 
@@ -93,7 +76,7 @@ drop-from p f i (suc k) h = simp (h i (omega arith) (omega arith), drop-from p f
 
 module _ (l : Layout) (lay : Laid l) (reg : List ℕ) (s : State ℕ ℕ) (h : Stored l reg s) where
   abbrev row : ℕ → Row ℕ
-  row j = split (eventRest l) (rowIn l reg j)
+  row j = splitBy (l .spare) (eventRest l) (rowIn l reg j)
 
   abbrev lo : ℕ
   lo = length (s .cases)
@@ -101,17 +84,20 @@ module _ (l : Layout) (lay : Laid l) (reg : List ℕ) (s : State ℕ ℕ) (h : S
   abbrev hi : ℕ
   hi = length (s .cases) + length (s .events)
 
-  -- the first bits of an event's row are its case's key
+  -- the first bits of an event's row are its case's key: none of them is spare
   pub case-at : (j : ℕ) → keyAt (l .bytes) (l .caseKey) reg j ≡ caseNamed l (row j .key)
   case-at j =
       let e : caseRest l ≡ eventRest l + (l .eventKey - l .caseKey) = omega (arith, lay .case-first, lay .in-row) in
+      let q : ℕ = rowIn l reg j / 2 ^ eventRest l in
       key-is l reg (l .caseKey) j ∙ ap (λ (k : ℕ). rowIn l reg j / 2 ^ k) e ∙ sym (shr-shr (rowIn l reg j) (eventRest l) (l .eventKey - l .caseKey))
+      ∙ sym (by-front (l .spare q) (l .eventKey - l .caseKey) q (lay .spare-few q))
 
   -- the cases of the events do not fall
   pub cases-rise : Rises (keyAt (l .bytes) (l .caseKey) reg) lo hi
   cases-rise p q a b c =
-      let k : keyAt (l .bytes) (l .eventKey) reg p ≤ keyAt (l .bytes) (l .eventKey) reg q = keys-rise l lay events reg s h p q a b c in
-      rw (case-at p, case-at q) (shr-mono (l .eventKey - l .caseKey) (rw (key-is l reg (l .eventKey) p, key-is l reg (l .eventKey) q) at k))
+      let own : (j : ℕ) → keys l lay events reg s h j ≡ row j .key = λ j. ap (λ (n : ℕ). keyBy (l .spare n) n) (first-is events l reg j) in
+      let k : row p .key ≤ row q .key = let z = keys-rise l lay events reg s h p q a b c in let x = own p in let y = own q in omega arith in
+      rw (case-at p, case-at q) (shr-mono (l .eventKey - l .caseKey) k)
 
   -- the range found is the case's events
   pub range-events : (v a e : ℕ) → Ranged (keyAt (l .bytes) (l .caseKey) reg) v lo hi a e → keep (λ k. eqb (caseNamed l k) v) (s .events) ≡ eventsFrom l reg a (e - a)

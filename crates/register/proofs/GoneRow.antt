@@ -1,6 +1,6 @@
 -- A row with a key that stands, taken out at the place that a search found.
 use Prim.Native.Nat.{ℕ, _+_, _-_}
-use mathlib.Core.Path.{_≡_, refl, sym, ap, subst, _∙_}
+use mathlib.Core.Path.{_≡_, refl, _∙_}
 use mathlib.Core.Bool.{true, _&&_}
 use mathlib.Core.List.{List}
 use lib.Dec.{ltb, eqb}
@@ -10,23 +10,21 @@ use Rattle.laws.proofs.Truth.{and-right}
 use Rattle.model.specs.Map.{has, del}
 use Rattle.model.specs.Flow.{State}
 use Rattle.register.specs.Layout.{Layout}
-use Rattle.register.specs.Gap.{bytesAt}
-use Rattle.register.specs.Stored.{Laid, Stored, Group, rowsOf, keyBitsOf, withRows}
-use Rattle.register.specs.Search.{keyAt, probeKey, Placed}
+use Rattle.register.specs.Stored.{Laid, Stored, Group, rowsOf, withRows}
+use Rattle.register.specs.Search.{Placed}
 use Rattle.register.specs.Moves.{removed, withCount}
-use Rattle.register.specs.OnBytes.DropDone.{gone}
 use Rattle.register.proofs.Changes.{countAt, startOf}
-use Rattle.register.proofs.Storing.{drop-done}
-use Rattle.register.proofs.Gaps.{key-here}
+use Rattle.register.proofs.Places.{keys, within}
+use Rattle.register.proofs.Storing.{drop-gone}
 use Rattle.register.proofs.Found.{stands-has}
 
 module _ (l : Layout) (lay : Laid l) (g : Group) (a : List ℕ) (s : State ℕ ℕ) (h : Stored l a s) (v i : ℕ)
-    (pl : Placed (keyAt (l .bytes) (keyBitsOf g l) a) v (startOf g s) (startOf g s + length (rowsOf g s)) i) (st : has v (rowsOf g s) ≡ true) where
+    (pl : Placed (keys l lay g a s h) v (startOf g s) (startOf g s + length (rowsOf g s)) i) (st : has v (rowsOf g s) ≡ true) where
   abbrev end : ℕ
   end = startOf g s + length (rowsOf g s)
 
   abbrev key : ℕ
-  key = keyAt (l .bytes) (keyBitsOf g l) a i
+  key = keys l lay g a s h i
 
   -- the row found is of the group and has the key
   pub found-row : ltb i end && eqb key v ≡ true
@@ -38,10 +36,4 @@ module _ (l : Layout) (lay : Laid l) (g : Group) (a : List ℕ) (s : State ℕ �
   pub drop-found : (b : List ℕ) → length b ≡ length a →
       b ≡ withCount (countAt g) (end - startOf g s - 1) (removed (l .bytes) i (length (s .cases) + length (s .events)) a) →
       Stored l b (withRows g (del v (rowsOf g s)) s)
-  drop-found b len e =
-      let row : List ℕ = bytesAt (l .bytes) a i in
-      let k : probeKey (l .bytes) (keyBitsOf g l) row ≡ v = sym (key-here (l .bytes) (keyBitsOf g l) i a row refl) ∙ found-key in
-      subst (λ (x : ℕ). Stored l b (withRows g (del x (rowsOf g s)) s)) k
-      (drop-done l lay g a s h row b true len
-      (gone i (subst (λ (x : ℕ). Placed (keyAt (l .bytes) (keyBitsOf g l) a) x (startOf g s) end i) (sym k) pl)
-      (ap (λ (x : ℕ). ltb i end && eqb key x) k ∙ found-row) refl e) .1)
+  drop-found b len e = drop-gone l lay g a s h v b i (pl .low) (within l lay g a s h v end i refl pl found-row) len e

@@ -17,7 +17,7 @@ use Rattle.rows.specs.declared.reader.Order.{Order}
 use Rattle.rows.specs.declared.reader.Order.the-variants.{Less, Same, More}
 use Rattle.rows.proofs.Ordering.{less-order, same-order, more-order}
 use Rattle.register.specs.Search.{keyAt, probeKey}
-use Rattle.register.specs.OnBytes.{standsAt}
+use Rattle.register.specs.TakenOutBytes.{standsAt}
 
 -- the first bits of row i, as the code cuts it out
 pub row-key : (w k i : ℕ) (reg : List ℕ) → 4 + w * (i + 1) ≤ length reg → firstBits k (take (4 + w * i + w - (4 + w * i)) (drop (4 + w * i) reg)) ≡ keyAt w k reg i

@@ -1,4 +1,6 @@
 pub mod From
+pub mod MixedKeys
+pub mod MixedLayout
 pub mod RowBytes
 pub mod States
 pub mod Seams

@@ -6,17 +6,21 @@ use mathlib.Core.List.{List, [], _∷_, _++_}
 use native.Mathlib.Omega.{arith}
 use lib.Dec.{ltb, eqb}
 use lib.ListN.{length, take, drop, getD, take-append-drop, length-drop}
+use lib.Pow.{shr-shr}
 use lib.Seq.{split-at, length-take-le, getD-take, getD-drop}
-use borrow.Author.Tests.{ltb-true, eqb-true, eqb-false, lt-ltb}
+use borrow.Author.Tests.{ltb-true, eqb-true, eqb-false, lt-ltb, eq-eqb, ne-eqb}
 use Rattle.laws.proofs.Truth.{and-left, and-right}
+use Rattle.laws.proofs.Order.{Tri, tri}
+use Rattle.laws.proofs.Order.Tri.{below, equal, above}
 use Rattle.model.specs.Map.{Row, Map, Asc}
 use Rattle.model.specs.Flow.{State}
 use Rattle.model.proofs.MapPlace.{AllBelow, all-below, cut-asc}
 use Rattle.register.specs.Layout.{Layout, rowIn}
-use Rattle.register.specs.State.{split}
-use Rattle.register.specs.Stored.{Laid, Fits, Stored, Group, cases, events, rowsOf, keyBitsOf, restOf}
+use Rattle.register.specs.State.{keyBy}
+use Rattle.register.specs.Stored.{Laid, Fits, Stored, Group, cases, events, rowsOf, keyBitsOf, restOf, spareOf, splitOf}
 use Rattle.register.specs.Search.{keyAt, Rises, Placed}
 use Rattle.register.proofs.From.{from-at}
+use Rattle.register.proofs.MixedKeys.{group-bits, few, key-below, key-same, firsts-rise}
 use Rattle.register.proofs.States.{cases-back, events-back}
 use Rattle.register.proofs.Changes.{startOf}
 
@@ -37,29 +41,32 @@ pub key-is : (l : Layout) (reg : List ℕ) (k i : ℕ) → keyAt (l .bytes) k re
 unfolding keyAt rowIn
 key-is l reg k i = refl
 
-module _ (l : Layout) (lay : Laid l) (g : Group) (reg : List ℕ) (s : State ℕ ℕ) (h : Stored l reg s) where
-  abbrev pub keys : ℕ → ℕ
-  keys = keyAt (l .bytes) (keyBitsOf g l) reg
+pub first-is : (g : Group) (l : Layout) (reg : List ℕ) (i : ℕ) → keyAt (l .bytes) (keyBitsOf g l) reg i ≡ rowIn l reg i / 2 ^ restOf g l
+first-is cases l reg i = key-is l reg (l .caseKey) i
+first-is events l reg i = key-is l reg (l .eventKey) i
 
-  pub row-at : (p : ℕ) (d : Row ℕ) → p < length (rowsOf g s) → split (restOf g l) (rowIn l reg (startOf g s + p)) ≡ getD (rowsOf g s) p d
+module _ (l : Layout) (lay : Laid l) (g : Group) (reg : List ℕ) (s : State ℕ ℕ) (h : Stored l reg s) where
+  -- the first bits of a row, and its key
+  abbrev pub firsts : ℕ → ℕ
+  firsts = keyAt (l .bytes) (keyBitsOf g l) reg
+
+  abbrev pub keys : ℕ → ℕ
+  keys i = keyBy (spareOf g l (firsts i)) (firsts i)
+
+  pub row-at : (p : ℕ) (d : Row ℕ) → p < length (rowsOf g s) → splitOf g l (rowIn l reg (startOf g s + p)) ≡ getD (rowsOf g s) p d
   row-at = go g
     where
-      go : (g : Group) (p : ℕ) (d : Row ℕ) → p < length (rowsOf g s) → split (restOf g l) (rowIn l reg (startOf g s + p)) ≡ getD (rowsOf g s) p d
+      go : (g : Group) (p : ℕ) (d : Row ℕ) → p < length (rowsOf g s) → splitOf g l (rowIn l reg (startOf g s + p)) ≡ getD (rowsOf g s) p d
       go cases p d i =
-          sym (from-at (λ j. split (restOf cases l) (rowIn l reg j)) 0 (length (s .cases)) p d i)
+          sym (from-at (λ j. splitOf cases l (rowIn l reg j)) 0 (length (s .cases)) p d i)
           ∙ ap (λ (m : Map ℕ). getD m p d) (cases-back l lay reg s h)
       go events p d i =
-          sym (from-at (λ j. split (restOf events l) (rowIn l reg j)) (length (s .cases)) (length (s .events)) p d i)
+          sym (from-at (λ j. splitOf events l (rowIn l reg j)) (length (s .cases)) (length (s .events)) p d i)
           ∙ ap (λ (m : Map ℕ). getD m p d) (events-back l lay reg s h)
 
   pub key-at : (p : ℕ) (d : Row ℕ) → p < length (rowsOf g s) → keys (startOf g s + p) ≡ getD (rowsOf g s) p d .key
-  key-at = go g row-at
-    where
-      go : (g : Group) →
-          ((p : ℕ) (d : Row ℕ) → p < length (rowsOf g s) → split (restOf g l) (rowIn l reg (startOf g s + p)) ≡ getD (rowsOf g s) p d) →
-          (p : ℕ) (d : Row ℕ) → p < length (rowsOf g s) → keyAt (l .bytes) (keyBitsOf g l) reg (startOf g s + p) ≡ getD (rowsOf g s) p d .key
-      go cases f p d i = key-is l reg (l .caseKey) (startOf cases s + p) ∙ ap (λ (r : Row ℕ). r .key) (f p d i)
-      go events f p d i = key-is l reg (l .eventKey) (startOf events s + p) ∙ ap (λ (r : Row ℕ). r .key) (f p d i)
+  key-at p d i =
+      ap (λ (q : ℕ). keyBy (spareOf g l q) q) (first-is g l reg (startOf g s + p)) ∙ ap (λ (r : Row ℕ). r .key) (row-at p d i)
 
   pub good-rows : Asc 0 (rowsOf g s)
   good-rows = go g
@@ -68,16 +75,16 @@ module _ (l : Layout) (lay : Laid l) (g : Group) (reg : List ℕ) (s : State ℕ
       go cases = h .good .0
       go events = h .good .1
 
-  pub fits-rows : Fits (keyBitsOf g l) (restOf g l) (rowsOf g s)
+  pub fits-rows : Fits g l (rowsOf g s)
   fits-rows = go g
     where
-      go : (g : Group) → Fits (keyBitsOf g l) (restOf g l) (rowsOf g s)
+      go : (g : Group) → Fits g l (rowsOf g s)
       go cases = h .cases-fit
       go events = h .events-fit
 
   -- the keys rise, as the search supposes
-  pub keys-rise : Rises keys (startOf g s) (startOf g s + length (rowsOf g s))
-  keys-rise p q a b c =
+  keys-climb : (p q : ℕ) → startOf g s ≤ p → p < q → q < startOf g s + length (rowsOf g s) → keys p < keys q
+  keys-climb p q a b c =
       let d : Row ℕ = record { key = 0; val = 0 } in
       let u : ℕ = p - startOf g s in
       let v : ℕ = q - startOf g s in
@@ -87,6 +94,52 @@ module _ (l : Layout) (lay : Laid l) (g : Group) (reg : List ℕ) (s : State ℕ
       let kv : keys q ≡ getD (rowsOf g s) v d .key = ap keys (sym ev) ∙ key-at v d (omega arith) in
       let k : getD (rowsOf g s) u d .key < getD (rowsOf g s) v d .key = asc-less d (rowsOf g s) u v good-rows (omega arith) (omega arith) in
       omega arith
+
+  pub keys-rise : Rises keys (startOf g s) (startOf g s + length (rowsOf g s))
+  keys-rise p q a b c = let k = keys-climb p q a b c in omega arith
+
+  -- ---- by as many bits as a probe's key has
+  module _ (p : ℕ) where
+    abbrev spared : ℕ
+    spared = spareOf g l p
+
+    pub bits-at : (i : ℕ) → keyAt (l .bytes) (keyBitsOf g l - spared) reg i ≡ firsts i / 2 ^ spared
+    bits-at i =
+        let e : 8 * l .bytes - (keyBitsOf g l - spared) ≡ restOf g l + spared = omega (arith, few g lay p, group-bits g lay) in
+        key-is l reg (keyBitsOf g l - spared) i ∙ ap (λ (k : ℕ). rowIn l reg i / 2 ^ k) e
+        ∙ sym (shr-shr (rowIn l reg i) (restOf g l) spared) ∙ ap (λ (q : ℕ). q / 2 ^ spared) (sym (first-is g l reg i))
+
+    -- a place found by these bits is the place of the key
+    pub bits-placed : (hi i : ℕ) → hi ≡ startOf g s + length (rowsOf g s) →
+        Placed (keyAt (l .bytes) (keyBitsOf g l - spared) reg) (p / 2 ^ spared) (startOf g s) hi i → Placed keys (keyBy spared p) (startOf g s) hi i
+    bits-placed hi i eh pl =
+        record {
+          low = pl .low;
+          high = pl .high;
+          under = λ r k a b. key-below g l lay p (firsts k) .1 (rw (bits-at k) at (pl .under rise k a b));
+          over = λ r k a b. let u : p / 2 ^ spared ≤ firsts k / 2 ^ spared = rw (bits-at k) at (pl .over rise k a b) in not-below k u;
+        }
+      where
+        not-below : (k : ℕ) → p / 2 ^ spared ≤ firsts k / 2 ^ spared → keyBy spared p ≤ keys k
+        not-below k u = go (tri (keys k) (keyBy spared p))
+          where
+            go : Tri (keys k) (keyBy spared p) → keyBy spared p ≤ keys k
+            go (below x _ _) = let v = key-below g l lay p (firsts k) .0 x in absurd (omega arith)
+            go (equal x _ _) = omega arith
+            go (above x _ _) = omega arith
+
+        rise : Rises (keyAt (l .bytes) (keyBitsOf g l - spared) reg) (startOf g s) hi
+        rise a b x y z =
+            rw (bits-at a, bits-at b) (firsts-rise g l lay (firsts a) (firsts b) (keys-climb a b x y (rw eh at z)) spared)
+
+    -- and the row there has them exactly where it has the key
+    pub bits-same : (i : ℕ) → eqb (keyAt (l .bytes) (keyBitsOf g l - spared) reg i) (p / 2 ^ spared) ≡ eqb (keys i) (keyBy spared p)
+    bits-same i = ap (λ (k : ℕ). eqb k (p / 2 ^ spared)) (bits-at i) ∙ go (tri (keys i) (keyBy spared p))
+      where
+        go : Tri (keys i) (keyBy spared p) → eqb (firsts i / 2 ^ spared) (p / 2 ^ spared) ≡ eqb (keys i) (keyBy spared p)
+        go (below x _ f) = ne-eqb _ _ (λ e. let v = key-same g l lay p (firsts i) .1 e in omega arith) ∙ sym f
+        go (equal x _ f) = eq-eqb _ _ (key-same g l lay p (firsts i) .0 x) ∙ sym f
+        go (above x _ f) = ne-eqb _ _ (λ e. let v = key-same g l lay p (firsts i) .1 e in omega arith) ∙ sym f
 
 -- a map in which v is no key, and c rows have smaller keys
 pub record Apart (m : Map ℕ) (v c : ℕ) : Type 0 where

@@ -1,7 +1,6 @@
--- What soundness means of the state: "some valid state has exactly these bytes".
+-- What soundness means of the state (RULES.md, 5 Sound means): some valid state has exactly these bytes.
 use Prim.Native.Nat.{ℕ, zero, suc, _+_, _-_, _*_, _≤_}
 use mathlib.Core.Path.{_≡_, refl, sym, ap, _∙_}
-use mathlib.Core.Logic.{_↔_}
 use mathlib.Core.Bool.{true, _&&_}
 use mathlib.Core.List.{List, _++_, append-assoc}
 use native.Mathlib.Omega.{arith}
@@ -14,7 +13,8 @@ use Rattle.laws.proofs.Truth.{and-left, and-right}
 use Rattle.laws.proofs.Every.{and-tell}
 use Rattle.model.specs.Flow.{State}
 use Rattle.rows.specs.Packing.{each, Fit, digits}
-use Rattle.register.specs.Layout.{Layout, caseRest, eventRest, room}
+use Rattle.register.specs.Layout.{Layout, caseRest, eventRest}
+use Rattle.register.specs.RoomAndEmptying.{room}
 use Rattle.register.specs.State.{stateOf, rowsBytes, used, encode}
 use Rattle.register.specs.Sound.{ascending, Rules, valid, soundBy}
 use Rattle.register.specs.Stored.{Laid, Stored}

@@ -1,9 +1,9 @@
 -- A register's bytes and its state are one: the state back from the bytes, the bytes back from the state.
-use Prim.Native.Nat.{ℕ, suc, _+_, _-_, _*_, _/_, _≤_}
+use Prim.Native.Nat.{ℕ, suc, _+_, _-_, _*_, _/_, _≤_, _<_, min}
 use mathlib.Core.Path.{_≡_, refl, sym, ap, ap₂, _∙_}
 use mathlib.Core.Bool.{true}
 use mathlib.Core.List.{List, [], _∷_, _++_, append-assoc}
-use native.Mathlib.Nat.{mul-le-mul-left, mul-div-le, min-le-left, min-le-right}
+use native.Mathlib.Nat.{mul-le-mul-left, mul-div-le, min-le-left, min-le-right, zero-div}
 use native.Mathlib.Omega.{arith}
 use lib.Dec.{eqb}
 use lib.ListN.{length, take, drop, replicate, length-append, length-drop, length-replicate, take-append-drop}
@@ -15,17 +15,12 @@ use Rattle.model.specs.Map.{Asc}
 use Rattle.model.specs.Flow.{State, Good, empty}
 use Rattle.rows.specs.Packing.{num, digits, each, Fit}
 use Rattle.rows.proofs.Bytes.{num-digits, digits-num, fit-take, fit-drop}
-use Rattle.register.specs.Layout.{Layout, caseRest, eventRest, room, casesHeld, eventsHeld, rowAt, rowIn}
-use Rattle.register.specs.State.{split, casesFrom, eventsFrom, stateOf, rowsBytes, used, encode}
-use Rattle.register.specs.Stored.{Laid, Fits, Stored}
+use Rattle.register.specs.Layout.{Layout, caseRest, eventRest, casesHeld, eventsHeld, rowAt, rowIn}
+use Rattle.register.specs.RoomAndEmptying.{mostRows, room}
+use Rattle.register.specs.State.{casesFrom, eventsFrom, stateOf, rowsBytes, used, encode}
+use Rattle.register.specs.Stored.{Laid, Fits, Stored, cases, events, splitOf}
 use Rattle.register.proofs.From.{from-length}
 use Rattle.register.proofs.RowBytes.{bytes-length, rows-back, bytes-back, fits-back}
-
-pub laid-case : {l : Layout} → Laid l → l .caseKey + caseRest l ≡ 8 * l .bytes
-laid-case {l} h = omega (arith, h .case-first, h .in-row)
-
-pub laid-event : {l : Layout} → Laid l → l .eventKey + eventRest l ≡ 8 * l .bytes
-laid-event {l} h = omega (arith, h .in-row)
 
 -- ---- room
 
@@ -35,6 +30,12 @@ room-holds l n k h g =
     let q = (n - 4) / l .bytes in
     let a : l .bytes * k ≤ l .bytes * q = mul-le-mul-left (l .bytes) (omega (arith, min-le-right 4096 q)) in
     (omega (arith, min-le-left 4096 q), omega (arith, mul-div-le (n - 4) (l .bytes)))
+
+-- no row has room beside too short a header
+pub no-room-left : (w n : ℕ) → n < 4 → 0 ≡ min mostRows ((n - 4) / w)
+no-room-left w n h =
+    let z : n - 4 ≡ 0 = omega arith in
+    sym (ap (λ (k : ℕ). min mostRows (k / w)) z ∙ ap (min mostRows) (zero-div w))
 
 -- ---- from the state to the bytes
 
@@ -80,7 +81,7 @@ module _ (l : Layout) (lay : Laid l) (reg : List ℕ) (s : State ℕ ℕ) (h : S
       let z : List ℕ = rowsBytes l (eventRest l) (s .events) ++ replicate (length reg - used l s) 0 in
       let x : List ℕ = head (length (s .cases)) (length (s .events)) in
       ap (λ (r : List ℕ). casesFrom l r 0 (length (s .cases))) (h .bytes)
-      ∙ rows-back l (l .caseKey) (caseRest l) (laid-case lay) x z 0 (s .cases) (omega arith) (h .cases-fit)
+      ∙ rows-back l cases lay x z 0 (s .cases) (omega arith) (h .cases-fit)
 
   pub events-back : eventsFrom l reg (length (s .cases)) (length (s .events)) ≡ s .events
   unfolding encode
@@ -91,7 +92,7 @@ module _ (l : Layout) (lay : Laid l) (reg : List ℕ) (s : State ℕ ℕ) (h : S
       let lc : length c ≡ l .bytes * length (s .cases) = bytes-length l (caseRest l) (s .cases) in
       ap (λ (r : List ℕ). eventsFrom l r (length (s .cases)) (length (s .events)))
       (h .bytes ∙ sym (append-assoc x c (rowsBytes l (eventRest l) (s .events) ++ z)))
-      ∙ rows-back l (l .eventKey) (eventRest l) (laid-event lay) (x ++ c) z (length (s .cases)) (s .events) (length-append x c ∙ omega arith) (h .events-fit)
+      ∙ rows-back l events lay (x ++ c) z (length (s .cases)) (s .events) (length-append x c ∙ omega arith) (h .events-fit)
 
   -- the state that a register's bytes hold is the one read from them
   pub state-encode : stateOf l reg ≡ s
@@ -120,8 +121,8 @@ module _ (l : Layout) (reg : List ℕ) (f : Fit (each 8 reg)) (h : used l (state
   end : rowAt l (casesHeld reg + eventsHeld reg) ≤ length reg
   end =
       rw (
-        from-length (λ j. split (caseRest l) (rowIn l reg j)) 0 (casesHeld reg),
-        from-length (λ j. split (eventRest l) (rowIn l reg j)) (casesHeld reg) (eventsHeld reg),
+        from-length (λ j. splitOf cases l (rowIn l reg j)) 0 (casesHeld reg),
+        from-length (λ j. splitOf events l (rowIn l reg j)) (casesHeld reg) (eventsHeld reg),
       ) at h
 
   first : rowAt l (0 + casesHeld reg) ≤ length reg
@@ -144,14 +145,14 @@ module _ (l : Layout) (reg : List ℕ) (f : Fit (each 8 reg)) (h : used l (state
       let n : ℕ = eventsHeld reg in
       let w : ℕ = l .bytes in
       let u : ℕ = used l (stateOf l reg) in
-      let lc : length (stateOf l reg .cases) ≡ c = from-length (λ j. split (caseRest l) (rowIn l reg j)) 0 c in
-      let le : length (stateOf l reg .events) ≡ n = from-length (λ j. split (eventRest l) (rowIn l reg j)) c n in
+      let lc : length (stateOf l reg .cases) ≡ c = from-length (λ j. splitOf cases l (rowIn l reg j)) 0 c in
+      let le : length (stateOf l reg .events) ≡ n = from-length (λ j. splitOf events l (rowIn l reg j)) c n in
       let a1 : digits 2 c ≡ take 2 reg = count-back 0 (omega arith) in
       let a2 : digits 2 n ≡ take 2 (drop 2 reg) = count-back 2 (omega arith) in
       let a3 : rowsBytes l (caseRest l) (stateOf l reg .cases) ≡ take (w * c) (drop (rowAt l 0) reg)
-      = bytes-back l (caseRest l) reg 0 c f first in
+      = bytes-back l cases reg 0 c f first in
       let a4 : rowsBytes l (eventRest l) (stateOf l reg .events) ≡ take (w * n) (drop (rowAt l c) reg)
-      = bytes-back l (eventRest l) reg c n f end in
+      = bytes-back l events reg c n f end in
       let a5 : replicate (length reg - u) 0 ≡ drop u reg
       = ap (λ (k : ℕ). replicate k 0) (sym (length-drop u reg)) ∙ sym (zeros (drop u reg) e) in
       let j3 : rowAt l 0 ≡ 2 + 2 = omega arith in
@@ -178,12 +179,12 @@ module _ (l : Layout) (reg : List ℕ) (f : Fit (each 8 reg)) (h : used l (state
         bytes = encode-state e;
         good = good;
         few = few;
-        cases-fit = fits-back l (l .caseKey) (caseRest l) (laid-case lay) reg 0 (casesHeld reg) f first;
-        events-fit = fits-back l (l .eventKey) (eventRest l) (laid-event lay) reg (casesHeld reg) (eventsHeld reg) f end;
+        cases-fit = fits-back l cases lay reg 0 (casesHeld reg) f first;
+        events-fit = fits-back l events lay reg (casesHeld reg) (eventsHeld reg) f end;
         long = long;
       }
 
--- "emptying": zeros hold nothing
+-- R31: "nothing stands in it": zeros hold nothing
 pub stored-empty : (l : Layout) (n : ℕ) → 4 ≤ n → Stored l (replicate n 0) empty
 unfolding encode rowsBytes Asc Fits
 stored-empty l n h =

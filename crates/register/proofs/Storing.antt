@@ -1,29 +1,32 @@
 -- What storing does to the bytes is what it does to the state.
 use Prim.Native.Nat.{ℕ, suc, _+_, _-_, _*_, _/_, _^_, _≤_, _<_}
 use mathlib.Core.Path.{_≡_, refl, sym, ap, ap₂, subst, _∙_}
-use mathlib.Core.Bool.{Bool, true, false, not}
+use mathlib.Core.Bool.{Bool, true, false, not, _&&_}
 use mathlib.Core.List.{List, _∷_, _++_}
 use mathlib.Core.Option.{none}
 use native.Mathlib.Omega.{arith}
-use lib.Dec.{eqb}
+use lib.Dec.{eqb, ltb}
 use lib.ListN.{length, length-append}
+use lib.Pow.{shr-shr}
 use Rattle.model.specs.Map.{Row, Map, Asc, isSome, find, has, put, del}
 use Rattle.model.specs.Flow.{State}
 use Rattle.model.proofs.MapLaws.{asc-put, asc-keep, keep-all}
 use Rattle.model.proofs.MapPlace.{AllBelow, put-in, put-over, find-out, del-out}
 use Rattle.rows.specs.Packing.{num, digits, each, Fit}
 use Rattle.rows.proofs.Bytes.{digits-num, num-lt}
-use Rattle.register.specs.Layout.{Layout, room, rowAt}
-use Rattle.register.specs.State.{unsplit, split, encode}
-use Rattle.register.specs.Stored.{Laid, Fits, Stored, Group, cases, events, rowsOf, keyBitsOf, restOf, withRows}
-use Rattle.register.specs.Search.{probeKey}
+use Rattle.register.specs.Layout.{Layout, rowAt}
+use Rattle.register.specs.RoomAndEmptying.{room}
+use Rattle.register.specs.State.{unsplit, encode}
+use Rattle.register.specs.Stored.{Laid, Sized, Fits, Stored, Group, cases, events, rowsOf, keyBitsOf, restOf, spareOf, splitOf, withRows}
+use Rattle.register.specs.Search.{keyAt, probeKey, Placed}
 use Rattle.register.specs.Moves.{inserted, replaced, removed, withCount}
-use Rattle.register.specs.OnBytes.{standsAt, PlacedAt, DropDone}
-use Rattle.register.specs.OnBytes.DropDone.{misfit, absent, gone}
-use Rattle.register.proofs.RowBytes.{number-split, split-sizes, fits-append, fits-left, fits-right}
-use Rattle.register.proofs.States.{laid-case, laid-event, room-holds, stored-few, stored-end}
+use Rattle.register.specs.TakenOutBytes.{standsAt, PlacedAt, DropDone}
+use Rattle.register.specs.TakenOutBytes.DropDone.{misfit, absent, gone}
+use Rattle.register.proofs.MixedKeys.{group-bits, few, number-by, sizes-by}
+use Rattle.register.proofs.RowBytes.{fits-append, fits-left, fits-right}
+use Rattle.register.proofs.States.{room-holds, stored-few, stored-end}
 use Rattle.register.proofs.Changes.{countAt, startOf, afterOf, insert-encode, remove-encode, replace-encode}
-use Rattle.register.proofs.Places.{Apart, Within, apart, within, good-rows, fits-rows}
+use Rattle.register.proofs.Places.{keys, Apart, Within, apart, within, good-rows, fits-rows, bits-placed, bits-same}
 
 -- ---- a row put in, by what a search found
 
@@ -46,33 +49,36 @@ total-rows : (g : Group) (s : State ℕ ℕ) → startOf g s + length (rowsOf g 
 total-rows cases s = omega arith
 total-rows events s = omega arith
 
-group-bits : (g : Group) {l : Layout} → Laid l → keyBitsOf g l + restOf g l ≡ 8 * l .bytes
-group-bits cases lay = laid-case lay
-group-bits events lay = laid-event lay
-
 pub key-number : (g : Group) (l : Layout) (row : List ℕ) → probeKey (l .bytes) (keyBitsOf g l) row ≡ num row / 2 ^ restOf g l
 unfolding probeKey
 key-number cases l row = refl
 key-number events l row = refl
 
+-- as many first bits as the row's key has
+pub bits-number : (g : Group) (l : Layout) → Laid l → (row : List ℕ) → (let p : ℕ = num row / 2 ^ restOf g l in
+    probeKey (l .bytes) (keyBitsOf g l - spareOf g l p) row ≡ p / 2 ^ spareOf g l p)
+unfolding probeKey
+bits-number g l lay row =
+    let p : ℕ = num row / 2 ^ restOf g l in
+    let e : 8 * l .bytes - (keyBitsOf g l - spareOf g l p) ≡ restOf g l + spareOf g l p = omega (arith, few g lay p, group-bits g lay) in
+    ap (λ (k : ℕ). num row / 2 ^ k) e ∙ sym (shr-shr (num row) (restOf g l) (spareOf g l p))
+
 module _ (l : Layout) (g : Group) (row : List ℕ) (e : length row ≡ l .bytes) (f : Fit (each 8 row)) where
   -- a row's bytes, from its key and the rest
-  row-bytes : digits (l .bytes) (unsplit (restOf g l) (split (restOf g l) (num row))) ≡ row
+  row-bytes : digits (l .bytes) (unsplit (restOf g l) (splitOf g l (num row))) ≡ row
   row-bytes =
-      ap (digits (l .bytes)) (number-split (restOf g l) (num row)) ∙ ap (λ (k : ℕ). digits k (num row)) (sym e) ∙ digits-num row f
+      ap (digits (l .bytes)) (number-by (spareOf g l) (restOf g l) (num row)) ∙ ap (λ (k : ℕ). digits k (num row)) (sym e) ∙ digits-num row f
 
-  row-fits : Laid l → (split (restOf g l) (num row) .key < 2 ^ keyBitsOf g l) × (split (restOf g l) (num row) .val < 2 ^ restOf g l)
-  row-fits lay =
-      let b : 8 * length row ≡ keyBitsOf g l + restOf g l = ap (λ (k : ℕ). 8 * k) e ∙ sym (group-bits g lay) in
-      split-sizes (keyBitsOf g l) (restOf g l) (num row) (rw b at (num-lt row f))
+  row-fits : Laid l → Sized g l (splitOf g l (num row))
+  row-fits lay = sizes-by g l lay (num row) (rw (ap (λ (k : ℕ). 8 * k) e) at (num-lt row f))
 
-fits-in : (k w : ℕ) (us vs : Map ℕ) (r : Row ℕ) → (r .key < 2 ^ k) × (r .val < 2 ^ w) → Fits k w (us ++ vs) → Fits k w (us ++ r ∷ vs)
+fits-in : (g : Group) (l : Layout) (us vs : Map ℕ) (r : Row ℕ) → Sized g l r → Fits g l (us ++ vs) → Fits g l (us ++ r ∷ vs)
 unfolding Fits
-fits-in k w us vs r p f = fits-append k w us (r ∷ vs) (fits-left k w us vs f) (p, fits-right k w us vs f)
+fits-in g l us vs r p f = fits-append g l us (r ∷ vs) (fits-left g l us vs f) (p, fits-right g l us vs f)
 
-fits-out : (k w : ℕ) (us vs : Map ℕ) (r : Row ℕ) → Fits k w (us ++ r ∷ vs) → Fits k w (us ++ vs)
+fits-out : (g : Group) (l : Layout) (us vs : Map ℕ) (r : Row ℕ) → Fits g l (us ++ r ∷ vs) → Fits g l (us ++ vs)
 unfolding Fits
-fits-out k w us vs r f = fits-append k w us vs (fits-left k w us (r ∷ vs) f) (fits-right k w us (r ∷ vs) f .1)
+fits-out g l us vs r f = fits-append g l us vs (fits-left g l us (r ∷ vs) f) (fits-right g l us (r ∷ vs) f .1)
 
 module _ (l : Layout) (lay : Laid l) (g : Group) (a : List ℕ) (s : State ℕ ℕ) (h : Stored l a s) where
   abbrev m : Map ℕ
@@ -85,11 +91,11 @@ module _ (l : Layout) (lay : Laid l) (g : Group) (a : List ℕ) (s : State ℕ �
   end = startOf g s + length m
 
   -- other rows in the group
-  stored-with : (q : Map ℕ) (b : List ℕ) → Asc 0 q → Fits (keyBitsOf g l) (restOf g l) q → startOf g s + length q + afterOf g s ≤ room l (length a) →
+  stored-with : (q : Map ℕ) (b : List ℕ) → Asc 0 q → Fits g l q → startOf g s + length q + afterOf g s ≤ room l (length a) →
       length b ≡ length a → b ≡ encode l (length a) (withRows g q s) → Stored l b (withRows g q s)
   stored-with = go g
     where
-      go : (g : Group) (q : Map ℕ) (b : List ℕ) → Asc 0 q → Fits (keyBitsOf g l) (restOf g l) q → startOf g s + length q + afterOf g s ≤ room l (length a) →
+      go : (g : Group) (q : Map ℕ) (b : List ℕ) → Asc 0 q → Fits g l q → startOf g s + length q + afterOf g s ≤ room l (length a) →
           length b ≡ length a → b ≡ encode l (length a) (withRows g q s) → Stored l b (withRows g q s)
       go cases q b up fit few len e =
           record {
@@ -118,30 +124,59 @@ module _ (l : Layout) (lay : Laid l) (g : Group) (a : List ℕ) (s : State ℕ �
   out : (v c : ℕ) → Apart m v c → find v m ≡ none
   out v c p = ap (λ (x : Map ℕ). find v x) (p .whole) ∙ find-out v (p .us) (p .vs) (p .below) (p .above)
 
+  -- ---- what a search found by the bits that a row's key has
+  module _ (row : List ℕ) where
+    abbrev first : ℕ
+    first = num row / 2 ^ restOf g l
+
+    abbrev kbits : ℕ
+    kbits = keyBitsOf g l - spareOf g l first
+
+    searched : (i : ℕ) → PlacedAt (l .bytes) kbits (startOf g s) end row a i → Placed (keys l lay g a s h) (splitOf g l (num row) .key) (startOf g s) end i
+    searched i pl = bits-placed l lay g a s h first end i refl (rw (bits-number g l lay row) at pl)
+
+    stands-by : (i : ℕ) → standsAt (l .bytes) kbits end row a i ≡ ltb i end && eqb (keys l lay g a s h i) (splitOf g l (num row) .key)
+    stands-by i =
+        ap (λ (b : Bool). ltb i end && b) (ap (eqb (keyAt (l .bytes) kbits a i)) (bits-number g l lay row) ∙ bits-same l lay g a s h first i)
+
+    searched-apart : (i : ℕ) → PlacedAt (l .bytes) kbits (startOf g s) end row a i → standsAt (l .bytes) kbits end row a i ≡ false →
+        Apart m (splitOf g l (num row) .key) (i - startOf g s)
+    searched-apart i pl st = apart l lay g a s h (splitOf g l (num row) .key) end i refl (searched i pl) (sym (stands-by i) ∙ st)
+
+    searched-within : (i : ℕ) → PlacedAt (l .bytes) kbits (startOf g s) end row a i → standsAt (l .bytes) kbits end row a i ≡ true →
+        Within m (splitOf g l (num row) .key) (i - startOf g s)
+    searched-within i pl st = within l lay g a s h (splitOf g l (num row) .key) end i refl (searched i pl) (sym (stands-by i) ∙ st)
+
   -- ---- a row put in
   module _ (row : List ℕ) (er : length row ≡ l .bytes) (f : Fit (each 8 row)) where
-    abbrev v : ℕ
-    v = probeKey (l .bytes) (keyBitsOf g l) row
-
     abbrev r : Row ℕ
-    r = split (restOf g l) (num row)
+    r = splitOf g l (num row)
+
+    abbrev v : ℕ
+    v = r .key
+
+    -- the bits that the search compares
+    abbrev p : ℕ
+    p = num row / 2 ^ restOf g l
+
+    abbrev bits : ℕ
+    bits = keyBitsOf g l - spareOf g l p
 
     put-new : (b : List ℕ) (i : ℕ) → startOf g s ≤ i → Apart m v (i - startOf g s) → rowAt l (n + 1) ≤ length a → n < room l (length a) →
         length b ≡ length a → b ≡ withCount (countAt g) (end - startOf g s + 1) (inserted (l .bytes) i n row a) → Stored l b (withRows g (put r m) s)
     put-new b i low p fits few len e =
         let us : Map ℕ = p .us in
         let vs : Map ℕ = p .vs in
-        let ks : v ≡ r .key = key-number g l row in
         let lm : length m ≡ length us + length vs = ap length (p .whole) ∙ length-append us vs in
         let lu : length us ≡ i - startOf g s = p .count in
         let tot = total-rows g s in
         let pe : put r m ≡ us ++ r ∷ vs
-        = ap (put r) (p .whole) ∙ put-in r us vs (subst (λ (k : ℕ). AllBelow k us) ks (p .below)) (subst (λ (k : ℕ). Asc (suc k) vs) ks (p .above)) in
+        = ap (put r) (p .whole) ∙ put-in r us vs (p .below) (p .above) in
         let lp : length (put r m) ≡ length m + 1 = ap length pe ∙ length-append us (r ∷ vs) ∙ omega arith in
         let ec : end - startOf g s + 1 ≡ length us + length vs + 1 = omega arith in
-        let fm : Fits (keyBitsOf g l) (restOf g l) (us ++ vs) = subst (Fits (keyBitsOf g l) (restOf g l)) (p .whole) (fits-rows l lay g a s h) in
+        let fm : Fits g l (us ++ vs) = subst (Fits g l) (p .whole) (fits-rows l lay g a s h) in
         stored-with (put r m) b (asc-put 0 r m (omega arith) (good-rows l lay g a s h))
-        (rw pe (fits-in (keyBitsOf g l) (restOf g l) us vs r (row-fits l g row er f lay) fm))
+        (rw pe (fits-in g l us vs r (row-fits l g row er f lay) fm))
         (omega arith) len
         (e
         ∙ ap₂ (λ (k : ℕ) (x : List ℕ). withCount (countAt g) k (inserted (l .bytes) i n row x)) ec (cut-bytes (us ++ vs) (p .whole))
@@ -155,16 +190,15 @@ module _ (l : Layout) (lay : Laid l) (g : Group) (a : List ℕ) (s : State ℕ �
         let us : Map ℕ = p .us in
         let x : Row ℕ = p .row in
         let vs : Map ℕ = p .vs in
-        let ks : v ≡ r .key = key-number g l row in
         let lm : length m ≡ length us + suc (length vs) = ap length (p .whole) ∙ length-append us (x ∷ vs) in
         let lu : length us ≡ i - startOf g s = p .count in
         let tot = total-rows g s in
         let pe : put r m ≡ us ++ r ∷ vs
-        = ap (put r) (p .whole) ∙ put-over r us x vs (subst (λ (k : ℕ). AllBelow k us) ks (p .below)) (sym ks ∙ sym (p .is)) in
+        = ap (put r) (p .whole) ∙ put-over r us x vs (p .below) (sym (p .is)) in
         let lp : length (put r m) ≡ length m = ap length pe ∙ length-append us (r ∷ vs) ∙ omega arith in
-        let fm : Fits (keyBitsOf g l) (restOf g l) (us ++ x ∷ vs) = subst (Fits (keyBitsOf g l) (restOf g l)) (p .whole) (fits-rows l lay g a s h) in
+        let fm : Fits g l (us ++ x ∷ vs) = subst (Fits g l) (p .whole) (fits-rows l lay g a s h) in
         stored-with (put r m) b (asc-put 0 r m (omega arith) (good-rows l lay g a s h))
-        (rw pe (fits-in (keyBitsOf g l) (restOf g l) us vs r (row-fits l g row er f lay) (fits-out (keyBitsOf g l) (restOf g l) us vs x fm)))
+        (rw pe (fits-in g l us vs r (row-fits l g row er f lay) (fits-out g l us vs x fm)))
         (omega (arith, h .few)) len
         (e
         ∙ ap (replaced (l .bytes) i row) (cut-bytes (us ++ x ∷ vs) (p .whole))
@@ -173,28 +207,21 @@ module _ (l : Layout) (lay : Laid l) (g : Group) (a : List ℕ) (s : State ℕ �
         ∙ ap (λ (y : Map ℕ). encode l (length a) (withRows g y s)) (sym pe))
 
     -- by what the bytes say
-    pub put-done : (b : List ℕ) (ok : Bool) → length b ≡ length a →
-        PutDone (l .bytes) (keyBitsOf g l) (countAt g) (startOf g s) end n row a b ok →
-        (has (num row / 2 ^ restOf g l) m ≡ false → n < room l (length a)) → (ok ≡ true) × Stored l b (withRows g (put r m) s)
+    pub put-done : (b : List ℕ) (ok : Bool) → length b ≡ length a → PutDone (l .bytes) bits (countAt g) (startOf g s) end n row a b ok →
+        (has v m ≡ false → n < room l (length a)) → (ok ≡ true) × Stored l b (withRows g (put r m) s)
     put-done b ok len (unfit x q e) ready = absurd (x (stored-few l lay a s h) (stored-end l lay a s h))
     put-done b ok len (full i pl st x q e) ready =
-        let p : Apart m v (i - startOf g s) = apart l lay g a s h v end i refl pl st in
-        let d : n < room l (length a) = ready (ap isSome (ap (λ (y : ℕ). find y m) (sym (key-number g l row)) ∙ out v (i - startOf g s) p)) in
+        let d : n < room l (length a) = ready (ap isSome (out v (i - startOf g s) (searched-apart row i pl st))) in
         let z = room-holds l (length a) (n + 1) (h .long) (omega arith) in
         absurd (x (omega arith) (z .1))
-    put-done b ok len (over i pl st q e) ready =
-        (q, put-old b i (pl .low) (within l lay g a s h v end i refl pl st) len e)
+    put-done b ok len (over i pl st q e) ready = (q, put-old b i (pl .low) (searched-within row i pl st) len e)
     put-done b ok len (new i pl st few fits q e) ready =
-        let p : Apart m v (i - startOf g s) = apart l lay g a s h v end i refl pl st in
-        let d : n < room l (length a) = ready (ap isSome (ap (λ (y : ℕ). find y m) (sym (key-number g l row)) ∙ out v (i - startOf g s) p)) in
-        (q, put-new b i (pl .low) p fits d len e)
+        let c : Apart m v (i - startOf g s) = searched-apart row i pl st in
+        (q, put-new b i (pl .low) c fits (ready (ap isSome (out v (i - startOf g s) c))) len e)
 
   -- ---- a row taken out
-  module _ (probe : List ℕ) where
-    abbrev u : ℕ
-    u = probeKey (l .bytes) (keyBitsOf g l) probe
-
-    drop-gone : (b : List ℕ) (i : ℕ) → startOf g s ≤ i → Within m u (i - startOf g s) → length b ≡ length a →
+  module _ (u : ℕ) where
+    pub drop-gone : (b : List ℕ) (i : ℕ) → startOf g s ≤ i → Within m u (i - startOf g s) → length b ≡ length a →
         b ≡ withCount (countAt g) (end - startOf g s - 1) (removed (l .bytes) i n a) → Stored l b (withRows g (del u m) s)
     drop-gone b i low p len e =
         let us : Map ℕ = p .us in
@@ -208,9 +235,9 @@ module _ (l : Layout) (lay : Laid l) (g : Group) (a : List ℕ) (s : State ℕ �
         let ld : length (del u m) ≡ length us + length vs = ap length de ∙ length-append us vs in
         let ec : end - startOf g s - 1 ≡ length us + length vs = omega arith in
         let en : n ≡ n - 1 + 1 = omega arith in
-        let fm : Fits (keyBitsOf g l) (restOf g l) (us ++ x ∷ vs) = subst (Fits (keyBitsOf g l) (restOf g l)) (p .whole) (fits-rows l lay g a s h) in
+        let fm : Fits g l (us ++ x ∷ vs) = subst (Fits g l) (p .whole) (fits-rows l lay g a s h) in
         stored-with (del u m) b (asc-keep 0 (λ j. not (eqb j u)) m (good-rows l lay g a s h))
-        (rw de (fits-out (keyBitsOf g l) (restOf g l) us vs x fm))
+        (rw de (fits-out g l us vs x fm))
         (omega (arith, h .few)) len
         (e
         ∙ ap₂ (λ (k : ℕ) (y : List ℕ). withCount (countAt g) k (removed (l .bytes) i n y)) ec (cut-bytes (us ++ x ∷ vs) (p .whole))
@@ -218,11 +245,15 @@ module _ (l : Layout) (lay : Laid l) (g : Group) (a : List ℕ) (s : State ℕ �
         ∙ remove-encode l g (length a) s us vs x i (n - 1) (omega arith) (omega arith) (subst (λ (k : ℕ). rowAt l k ≤ length a) en (stored-end l lay a s h))
         ∙ ap (λ (y : Map ℕ). encode l (length a) (withRows g y s)) (sym de))
 
+  module _ (probe : List ℕ) where
+    abbrev k : ℕ
+    k = splitOf g l (num probe) .key
+
     pub drop-done : (b : List ℕ) (ok : Bool) → length b ≡ length a →
-        DropDone (l .bytes) (keyBitsOf g l) (countAt g) (startOf g s) end n probe a b ok → (ok ≡ true) × Stored l b (withRows g (del u m) s)
+        DropDone (l .bytes) (keyBitsOf g l - spareOf g l (num probe / 2 ^ restOf g l)) (countAt g) (startOf g s) end n probe a b ok →
+        (ok ≡ true) × Stored l b (withRows g (del k m) s)
     drop-done b ok len (misfit x q e) = absurd (x (stored-few l lay a s h) (stored-end l lay a s h))
     drop-done b ok len (absent i pl st q e) =
-        let p : Apart m u (i - startOf g s) = apart l lay g a s h u end i refl pl st in
-        let d : del u m ≡ m = keep-all u m (out u (i - startOf g s) p) in
+        let d : del k m ≡ m = keep-all k m (out k (i - startOf g s) (searched-apart probe i pl st)) in
         (q, rw (e, d, with-self g s) h)
-    drop-done b ok len (gone i pl st q e) = (q, drop-gone b i (pl .low) (within l lay g a s h u end i refl pl st) len e)
+    drop-done b ok len (gone i pl st q e) = (q, drop-gone k b i (pl .low) (searched-within probe i pl st) len e)

@@ -3,8 +3,9 @@ pub mod Sound
 pub mod Stored
 pub mod Moves
 pub mod Search
-pub mod OnBytes
-pub mod Storing
+pub mod TakenOutBytes
+pub mod TakenOut
 pub mod View
 pub mod Gap
 pub mod State
+pub mod RoomAndEmptying

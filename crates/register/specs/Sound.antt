@@ -1,13 +1,14 @@
--- "Sound means" (document 01, "The register"), condition by condition.
+-- What sound means (RULES.md, 5 Sound means), condition by condition.
 use Prim.Native.Nat.{ℕ, _+_}
-use mathlib.Core.Bool.{Bool, true, not, _&&_, _||_}
-use mathlib.Core.List.{List, [], _∷_, map}
+use mathlib.Core.Bool.{Bool, true, _&&_}
+use mathlib.Core.List.{List, [], _∷_}
 use lib.Dec.{eqb, ltb, leb}
 use lib.ListN.{length, drop}
 use Rattle.laws.specs.Lists.{all}
 use Rattle.model.specs.Map.{Row, Map, has, keep}
 use Rattle.model.specs.Flow.{State}
-use Rattle.register.specs.Layout.{Layout, caseNamed, room}
+use Rattle.register.specs.Layout.{Layout, caseNamed}
+use Rattle.register.specs.RoomAndEmptying.{room}
 use Rattle.register.specs.State.{stateOf, used}
 
 -- what a flow allows: a case's row, an event's row, and of a case's key the events together
@@ -16,7 +17,7 @@ pub record Rules : Type 0 where
   pub event-row : Row ℕ → Bool
   pub together : ℕ → Map ℕ → Bool
 
--- "keys strictly ascending"
+-- V5: "Keys ascend strictly"
 unfoldable pub ascending : Map ℕ → Bool
 ascending [] = true
 ascending (r ∷ m) = all (λ s. ltb (r .key) (s .key)) m && ascending m
@@ -34,7 +35,7 @@ module _ (l : Layout) where
       && (all (λ e. has (caseNamed l (e .key)) (s .cases)) (s .events)
       && all (λ c. rules .together (c .key) (eventsOf (c .key) (s .events))) (s .cases))))
 
-  -- a register's bytes are sound: "length at least 4, .., zero tail"
+  -- a register's bytes are sound, V1: "It has at least 4 bytes", to V8: "Every byte past the last standing row is zero"
   abbrev pub soundBy : Rules → List ℕ → Bool
   soundBy rules reg =
       leb 4 (length reg) && (valid rules (length reg) (stateOf l reg) && all (λ b. eqb b 0) (drop (used l (stateOf l reg)) reg))

@@ -1,9 +1,7 @@
--- A register's bytes and the state that they are (document 01, "The register").
+-- A register's bytes and the state that they are (RULES.md, 4 The register).
 use Prim.Native.Nat.{ℕ, zero, suc, _+_, _-_, _*_, _/_, _%_, _^_}
 use mathlib.Core.List.{List, [], _∷_, _++_}
 use lib.ListN.{length, replicate}
-use mathlib.Core.Bool.{cond}
-use lib.Dec.{ltb}
 use Rattle.model.specs.Map.{Row, Map}
 use Rattle.model.specs.Flow.{State}
 use Rattle.rows.specs.Packing.{digits}
@@ -21,19 +19,33 @@ unsplit w r = r .key * 2 ^ w + r .val
 abbrev pub split : ℕ → ℕ → Row ℕ
 split w n = record { key = n / 2 ^ w; val = n % 2 ^ w }
 
+-- the key among the first bits q, where s at their end don't belong to it: they are zeros in the key
+abbrev pub keyBy : ℕ → ℕ → ℕ
+keyBy zero q = q
+keyBy (suc s) q = q / 2 ^ suc s * 2 ^ suc s
+
+-- and go with the rest: its bits, where w follow the first ones
+abbrev pub restBy : ℕ → ℕ → ℕ
+restBy zero w = w
+restBy (suc s) w = suc s + w
+
+-- a row cut so: its first bits tell how many of them are spare
+abbrev pub splitBy : (ℕ → ℕ) → ℕ → ℕ → Row ℕ
+splitBy spare w n = record { key = keyBy (spare (n / 2 ^ w)) (n / 2 ^ w); val = n % 2 ^ restBy (spare (n / 2 ^ w)) w }
+
 module _ (l : Layout) where
-  -- "all cases, then all events": what stands
+  -- R2: "all cases and then all events": what stands
   abbrev pub casesFrom : List ℕ → ℕ → ℕ → Map ℕ
   casesFrom reg i k = from (λ j. split (caseRest l) (rowIn l reg j)) i k
 
   abbrev pub eventsFrom : List ℕ → ℕ → ℕ → Map ℕ
-  eventsFrom reg i k = from (λ j. split (eventRest l) (rowIn l reg j)) i k
+  eventsFrom reg i k = from (λ j. splitBy (l .spare) (eventRest l) (rowIn l reg j)) i k
 
   abbrev pub stateOf : List ℕ → State ℕ ℕ
   stateOf reg =
       record { cases = casesFrom reg 0 (casesHeld reg); events = eventsFrom reg (casesHeld reg) (eventsHeld reg) }
 
-  -- the bytes that a state has in a register of n bytes: counts, rows, and "All bytes past the last standing row are zero"
+  -- the bytes that a state has in a register of n bytes: counts, rows, and R5: "Every byte past the last standing row is zero"
   unfoldable pub rowsBytes : ℕ → Map ℕ → List ℕ
   rowsBytes w [] = []
   rowsBytes w (r ∷ m) = digits (l .bytes) (unsplit w r) ++ rowsBytes w m
@@ -45,13 +57,3 @@ module _ (l : Layout) where
   encode n s =
       digits 2 (length (s .cases)) ++ (digits 2 (length (s .events)) ++
       (rowsBytes (caseRest l) (s .cases) ++ (rowsBytes (eventRest l) (s .events) ++ replicate (n - used s) 0)))
-
--- an answer, and what it comes with
-pub record Emptied : Type 0 where
-  pub answer : ℕ
-  pub register : List ℕ
-
--- "Emptying answers 3 and changes nothing under 4 bytes, else 0 and every byte is zero"
-unfoldable pub emptied : List ℕ → Emptied
-emptied reg =
-    cond (ltb (length reg) 4) (record { answer = 3; register = reg }) (record { answer = 0; register = replicate (length reg) 0 })

@@ -1,34 +1,24 @@
--- A register's bytes hold a state (document 01, "The register"), over any layout.
-use Prim.Native.Nat.{ℕ, _+_, _*_, _^_, _≤_, _<_}
+-- A register's bytes hold a state (RULES.md, 4 The register), over any layout.
+use Prim.Native.Nat.{ℕ, _+_, _-_, _*_, _/_, _^_, _≤_, _<_}
 use mathlib.Core.Path.{_≡_}
 use mathlib.Core.List.{List, [], _∷_}
 use lib.ListN.{length}
-use Rattle.model.specs.Map.{Map}
+use Rattle.model.specs.Map.{Row, Map}
 use Rattle.model.specs.Flow.{State, Good}
-use Rattle.register.specs.Layout.{Layout, caseRest, eventRest, room}
-use Rattle.register.specs.State.{encode}
+use Rattle.register.specs.Layout.{Layout, caseRest, eventRest}
+use Rattle.register.specs.RoomAndEmptying.{room}
+use Rattle.register.specs.State.{keyBy, restBy, splitBy, encode}
 
 -- a row has bytes, and both keys lie in it, the case's at the front of the event's
 pub record Laid (l : Layout) : Type 0 where
   pub some-bytes : 1 ≤ l .bytes
   pub case-first : l .caseKey ≤ l .eventKey
   pub in-row : l .eventKey ≤ 8 * l .bytes
+  -- the spare bits lie behind the case's key, and the bits before them tell how many they are: no key is the beginning of another
+  pub spare-few : (q : ℕ) → l .spare q ≤ l .eventKey - l .caseKey
+  pub told : (p q : ℕ) → q / 2 ^ l .spare p ≡ p / 2 ^ l .spare p → l .spare q ≡ l .spare p
 
--- every row has a key of k bits, and w bits after it
-unfoldable pub Fits : ℕ → ℕ → Map ℕ → Type 0
-Fits k w [] = Unit {0}
-Fits k w (r ∷ m) = ((r .key < 2 ^ k) × (r .val < 2 ^ w)) × Fits k w m
-
--- the bytes `reg` are those of the state s, whose rows ascend, have their sizes and are not more than there is room for
-pub record Stored (l : Layout) (reg : List ℕ) (s : State ℕ ℕ) : Type 0 where
-  pub bytes : reg ≡ encode l (length reg) s
-  pub good : Good s
-  pub few : length (s .cases) + length (s .events) ≤ room l (length reg)
-  pub cases-fit : Fits (l .caseKey) (caseRest l) (s .cases)
-  pub events-fit : Fits (l .eventKey) (eventRest l) (s .events)
-  pub long : 4 ≤ length reg
-
--- "all cases, then all events": the two groups of rows
+-- R2: "all cases and then all events": the two groups of rows
 pub data Group : Type 0 where
   cases : Group
   events : Group
@@ -38,15 +28,42 @@ abbrev pub rowsOf : Group → State ℕ ℕ → Map ℕ
 rowsOf cases s = s .cases
 rowsOf events s = s .events
 
--- "key of a case", "an event's key": the bits of a group's keys
+-- R8: "A case's key", R9: "An event's key": the first bits of a group's rows, among which its keys are
 abbrev pub keyBitsOf : Group → Layout → ℕ
 keyBitsOf cases l = l .caseKey
 keyBitsOf events l = l .eventKey
 
--- the bits of a group's rows after their keys
+-- the bits of a group's rows after these
 abbrev pub restOf : Group → Layout → ℕ
 restOf cases l = caseRest l
 restOf events l = eventRest l
+
+-- of these first bits, how many at their end don't belong to the key: none of a case's
+abbrev pub spareOf : Group → Layout → ℕ → ℕ
+spareOf cases l = λ _. 0
+spareOf events l = l .spare
+
+-- a group's row from its number
+abbrev pub splitOf : Group → Layout → ℕ → Row ℕ
+splitOf g l n = splitBy (spareOf g l) (restOf g l) n
+
+-- a group's rows have their sizes: a key with zeros for its spare bits, and the rest with those bits
+abbrev pub Sized : Group → Layout → Row ℕ → Type 0
+Sized g l r =
+    (r .key < 2 ^ keyBitsOf g l) × (r .val < 2 ^ restBy (spareOf g l (r .key)) (restOf g l)) × (keyBy (spareOf g l (r .key)) (r .key) ≡ r .key)
+
+unfoldable pub Fits : Group → Layout → Map ℕ → Type 0
+Fits g l [] = Unit {0}
+Fits g l (r ∷ m) = Sized g l r × Fits g l m
+
+-- the bytes `reg` are those of the state s, whose rows ascend, have their sizes and are not more than there is room for
+pub record Stored (l : Layout) (reg : List ℕ) (s : State ℕ ℕ) : Type 0 where
+  pub bytes : reg ≡ encode l (length reg) s
+  pub good : Good s
+  pub few : length (s .cases) + length (s .events) ≤ room l (length reg)
+  pub cases-fit : Fits cases l (s .cases)
+  pub events-fit : Fits events l (s .events)
+  pub long : 4 ≤ length reg
 
 -- the state with other rows in a group
 abbrev pub withRows : Group → Map ℕ → State ℕ ℕ → State ℕ ℕ

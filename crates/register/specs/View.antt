@@ -1,15 +1,15 @@
 -- What the code's groups and their rows are.
 use Prim.Native.Nat.{ℕ, _+_, _≤_, _<_}
 use Rattle.register.specs.Stored.{Group, cases, events}
-use Rattle.register.specs.declared.store.Part.{Part}
-use Rattle.register.specs.declared.store.Part.the-variants as part
-use Rattle.register.specs.declared.store.Rows.{Rows}
+use Rattle.register.specs.declared.remove.Part.{Part}
+use Rattle.register.specs.declared.remove.Part.the-variants as part
+use Rattle.register.specs.declared.remove.Rows.{Rows}
 
 abbrev pub groupOf : Part → Group
 groupOf part.Cases = cases
 groupOf part.Events = events
 
--- "Bytes 0-1: cases standing; bytes 2-3: events standing", and "all cases, then all events": a group's rows where c cases and e events stand
+-- R1: "Bytes 0-1 count the cases standing, bytes 2-3 the events"; R2: "all cases and then all events": a group's rows where c cases and e events stand
 abbrev pub rowsBy : Group → ℕ → ℕ → Rows
 rowsBy cases c e = record { at = 0; lo = 0; hi = c; n = c + e }
 rowsBy events c e = record { at = 2; lo = c; hi = c + e; n = c + e }

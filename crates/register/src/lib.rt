@@ -1,5 +1,8 @@
-// The register (document 01, "The register").
+// The register (RULES.md, 4 The register).
 pub mod counts;
+pub mod emptying;
 pub mod moving;
+pub mod remove;
+pub mod room;
+pub mod row;
 pub mod search;
-pub mod store;

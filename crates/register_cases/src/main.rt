@@ -1,12 +1,12 @@
 // Reads each register image that its arguments name, and prints whether it is sound and where a case stands; then fills and clears a register of its own.
-// The images were packed by another tool (docs/REGISTER.md).
+// The images were packed by another tool (docs/IMAGES.md).
 ghost use Prim.Native.Nat.{_≤_};
 use home_care::layout::CASE_KEY;
 use home_care::layout::EVENT_KEY;
 use home_care::layout::ROW;
 use libc::STDOUT_FILENO;
 use markup::bytes::part;
-use register::store::Part;
+use register::remove::Part;
 
 fn word(s: &[u8]) {
     io::write_all(STDOUT_FILENO, s);
@@ -88,7 +88,7 @@ fn remove(reg: &mut [u8], part: Part, kbits: usize, row: &[u8]) -> bool
     requires { ⌜ kbits ≤ 728 ⌝ }
 {
     if row.len() == ROW {
-        return register::store::remove(reg, part, ROW, kbits, row);
+        return register::remove::remove(reg, part, ROW, kbits, row);
     }
     false
 }

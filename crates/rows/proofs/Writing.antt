@@ -4,7 +4,8 @@ use mathlib.Core.Path.{_≡_, refl, sym, ap, ap₂, _∙_}
 use mathlib.Core.List.{List, [], _∷_, _++_}
 use native.Mathlib.Nat.{add-zero, zero-add, mul-one, mul-assoc}
 use native.Mathlib.Omega.{arith}
-use lib.ListN.{length, take}
+use lib.ListN.{length, take, drop}
+use lib.Seq.{take-take, drop-drop}
 use lib.Pow.{pow-add, pow-pos}
 use Rattle.rows.specs.Packing.{Field, bits, packs, width, num, rowNumber}
 use Rattle.rows.specs.Writer.{soFar, count, Tidy, Wrote, start}
@@ -13,14 +14,29 @@ use Rattle.rows.proofs.Packing.{packs-append, width-append}
 
 pub wrote-none : (a : List ℕ) (s : Bits) → Tidy s → Wrote a a s s []
 unfolding packs
-wrote-none a s h = record { tidy = h; bits = omega arith; holds = refl }
+wrote-none a s h = record { tidy = h; bits = omega arith; holds = refl; same = refl; before = refl; behind = refl }
+
+-- bytes that stay up to a place stay up to an earlier one, and from a place on, from a later one on
+fewer : (m n : ℕ) (b c : List ℕ) → m ≤ n → take n c ≡ take n b → take m c ≡ take m b
+fewer m n b c h e = sym (take-take m n c h) ∙ ap (take m) e ∙ take-take m n b h
+
+pub later : (m n : ℕ) (a b : List ℕ) → m ≤ n → drop m b ≡ drop m a → drop n b ≡ drop n a
+later m n a b h e =
+    let k : m + (n - m) ≡ n = omega arith in
+    let past : (l : List ℕ) → drop (n - m) (drop m l) ≡ drop n l = λ l. drop-drop (n - m) m l ∙ ap (λ (j : ℕ). drop j l) k in
+    sym (past b) ∙ ap (drop (n - m)) e ∙ past a
 
 pub wrote-then : {a b c : List ℕ} {s r q : Bits} {xs ys : List Field} → Wrote a b s r xs → Wrote b c r q ys → Wrote a c s q (xs ++ ys)
 wrote-then {a} {b} {c} {s} {r} {q} {xs} {ys} g h =
+    let on : s .at ≤ r .at = omega (arith, g .bits, g .tidy .few) in
+    let on-again : r .at ≤ q .at = omega (arith, h .bits, h .tidy .few) in
     record {
       tidy = h .tidy;
       bits = omega (arith, width-append xs ys);
       holds = h .holds ∙ ap (packs ys) (g .holds) ∙ sym (packs-append xs ys (soFar a s));
+      same = h .same ∙ g .same;
+      before = fewer (s .at) (r .at) b c on (h .before) ∙ g .before;
+      behind = h .behind ∙ later (r .at) (q .at) a b on-again (g .behind);
     }
 
 -- at a byte's end nothing waits

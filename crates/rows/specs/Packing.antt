@@ -1,4 +1,4 @@
--- "Fields are bit-packed, most significant first" (document 01, "The register"): a row is one natural number.
+-- Fields packed (RULES.md, R6: "from its first bit on, the most significant bit first, without space between them"): a row is one natural number.
 use Prim.Native.Nat.{ℕ, _+_, _-_, _*_, _/_, _%_, _^_, _<_}
 use mathlib.Core.Path.{_≡_}
 use mathlib.Core.List.{List, [], _∷_}
@@ -13,7 +13,7 @@ pub record Field : Type 0 where
 abbrev pub bits : ℕ → ℕ → Field
 bits w v = record { wide = w; value = v }
 
--- one field of w bits for each value, as "3 x 7"
+-- one field of w bits for each value, as R11's "3 x 7"
 abbrev pub each : ℕ → List ℕ → List Field
 each w [] = []
 each w (v ∷ vs) = bits w v ∷ each w vs

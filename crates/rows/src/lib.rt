@@ -1,3 +1,3 @@
-// The register's rows: fields bit-packed, read back, compared (document 01, "The register").
+// The register's rows: fields bit-packed, read back, compared (RULES.md, R6).
 pub mod reader;
 pub mod writer;

@@ -8,13 +8,13 @@ use native.Mathlib.Omega.{arith}
 use lib.Dec.{eqb}
 use lib.ListN.{drop}
 use borrow.Author.Tests.{eq-eqb, ne-eqb}
-use Rattle.markup.specs.Reading.Read.{read}
+use Rattle.markup.specs.NamesAndValues.Read.{read}
 use Rattle.markup.specs.Elements.{Inside, Tree, content, element, kidOn}
 use Rattle.markup.specs.Elements.Inside.{end}
 use Rattle.schema.specs.Texts.{Texts}
 use Rattle.schema.specs.Schema.{Particle, Node, leaf, group, another, Nodes, none, _▸_, particleOf}
 use Rattle.schema.specs.Shape.{here, seek, enough, faultIn, faultOf}
-use Rattle.schema.specs.Counted.{marked, childCount, countIn, countOf}
+use Rattle.schema.specs.CountedElements.{marked, childCount, countIn, countOf}
 use Rattle.schema.specs.Table.{kindCell, numberCell, firstCell, manyCell, groupKind, anotherKind, cell, nameAt, textsOf, headAt, nodeAt}
 use Rattle.schema.specs.declared.steps.Step.the-variants as step
 use Rattle.schema.specs.View.{nodesFrom, nodesOf, viewSpot, SaysStep}

@@ -12,8 +12,8 @@ use borrow.Author.Tests.{le-leb, leb-false, eq-eqb, ne-eqb}
 use Rattle.laws.specs.Decimal.{isDigit, decimal}
 use Rattle.laws.specs.Lists.{all}
 use Rattle.laws.proofs.Truth.{and-left, and-right, and-false}
-use Rattle.codes.specs.Digits.{upTo}
-use Rattle.codes.specs.Ranges.{Range, inRanges}
+use Rattle.codes.specs.Capped.{upTo}
+use Rattle.codes.specs.CodesAndCharacters.{Range, inRanges}
 use Rattle.schema.specs.Texts.{digitsIn}
 use Rattle.schema.specs.View.{Near}
 

@@ -7,8 +7,8 @@ use native.Mathlib.Omega.{arith}
 use lib.Dec.{eqb}
 use lib.ListN.{length, drop}
 use borrow.Author.Tests.{eq-eqb, ne-eqb}
-use Rattle.markup.specs.Reading.Read.{refused, read}
-use Rattle.markup.specs.Names.{name}
+use Rattle.markup.specs.NamesAndValues.Read.{refused, read}
+use Rattle.markup.specs.NamesAndValues.{name}
 use Rattle.markup.specs.Tags.{Attributes, attributes}
 use Rattle.markup.specs.Elements.{Inside, Tree, content, element}
 use Rattle.markup.specs.Elements.Inside.{end}
@@ -16,7 +16,7 @@ use Rattle.markup.specs.View.{left, endingOf, OfPairs}
 use Rattle.reading.proofs.Cut.{never, read-in}
 use Rattle.schema.specs.Schema.{Attr, leaf, group}
 use Rattle.schema.specs.Shape.{attrsFit, leafFits, faultIn, faultOf}
-use Rattle.schema.specs.Counted.{countIn, countOf}
+use Rattle.schema.specs.CountedElements.{countIn, countOf}
 use Rattle.schema.specs.Table.{kindCell, attrCell, attrsCell, groupKind, anotherKind, cell, textsOf, attrsAt, headAt, nodeAt}
 use Rattle.schema.specs.View.{nodesOf, faultWithin}
 use Rattle.schema.proofs.Tagged.{Tagged, tagged}

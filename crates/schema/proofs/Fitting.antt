@@ -11,7 +11,7 @@ use borrow.Author.Tests.{eq-eqb, ne-eqb}
 use Rattle.laws.specs.Decimal.{decimal}
 use Rattle.laws.specs.Lists.{all}
 use Rattle.days.specs.Dates.{isDate}
-use Rattle.codes.specs.Ranges.{Range, inRanges}
+use Rattle.codes.specs.CodesAndCharacters.{Range, inRanges}
 use Rattle.schema.specs.Texts.{digitsIn, unpadded, signedIn, fitsText}
 use Rattle.schema.specs.Table.{kindCell, numberCell, limitCell, firstCell, manyCell, dateKind, charsKind, signedKind, plainKind, cell, rangesAt, textsOf}
 

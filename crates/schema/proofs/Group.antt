@@ -8,12 +8,12 @@ use native.Mathlib.Omega.{arith}
 use lib.ListN.{drop}
 use Rattle.laws.specs.Lists.{all}
 use Rattle.markup.specs.Bytes.{isWs}
-use Rattle.markup.specs.Reading.Read.{read}
+use Rattle.markup.specs.NamesAndValues.Read.{read}
 use Rattle.markup.specs.Elements.{Inside, Tree, content, element, kidOn}
 use Rattle.markup.specs.Elements.Inside.{end, says, note}
 use Rattle.schema.specs.Schema.{Node, leaf, group, another, Nodes, _▸_}
 use Rattle.schema.specs.Shape.{nowhere, here, seek, enough, firstFault, childFault, faultIn, faultOf}
-use Rattle.schema.specs.Counted.{countOf}
+use Rattle.schema.specs.CountedElements.{countOf}
 use Rattle.schema.specs.Table.{nameAt, nodeAt}
 use Rattle.schema.specs.declared.steps.Step.the-variants as step
 use Rattle.schema.specs.View.{nodesFrom, viewSpot, Passes, white, comment, SaysStep}

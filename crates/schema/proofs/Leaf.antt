@@ -6,8 +6,8 @@ use mathlib.Core.List.{List, []}
 use native.Mathlib.Omega.{arith}
 use lib.Dec.{eqb}
 use borrow.Author.Tests.{eq-eqb, ne-eqb}
-use Rattle.markup.specs.Reading.{Read}
-use Rattle.markup.specs.Reading.Read.{refused, read}
+use Rattle.markup.specs.NamesAndValues.{Read}
+use Rattle.markup.specs.NamesAndValues.Read.{refused, read}
 use Rattle.markup.specs.Elements.{Inside, Tree, Piece, piece, content, element, kidOn}
 use Rattle.markup.specs.Elements.Inside.{end, says, note, elem}
 use Rattle.markup.specs.Elements.Piece.{words, aside, closing, child}

@@ -4,8 +4,8 @@ use mathlib.Core.Path.{_≡_, refl, sym, ap, _∙_}
 use mathlib.Core.List.{List}
 use Rattle.laws.specs.Loop.Step.{stop, next}
 use Rattle.laws.proofs.Fuel.{loop-next, loop-stop}
-use Rattle.markup.specs.Reading.{Read}
-use Rattle.markup.specs.Reading.Read.{refused, read}
+use Rattle.markup.specs.NamesAndValues.{Read}
+use Rattle.markup.specs.NamesAndValues.Read.{refused, read}
 use Rattle.markup.specs.Elements.{Inside, Tree, piece, onto, afterChild, afterPiece, contentStep, content, element, kidOn}
 use Rattle.markup.specs.Elements.Inside.{end, says, note}
 use Rattle.markup.specs.Elements.Piece.{words, aside, closing, child}

@@ -11,7 +11,7 @@ use lib.ListN.{getD}
 use borrow.Author.Tests.{lt-leb}
 use Rattle.laws.specs.Lists.{any}
 use Rattle.laws.proofs.Truth.{and-false}
-use Rattle.codes.specs.Ranges.{Range, inRanges}
+use Rattle.codes.specs.CodesAndCharacters.{Range, inRanges}
 use Rattle.schema.specs.Table.{rangesAt}
 use Rattle.schema.specs.View.{Near}
 

@@ -9,9 +9,8 @@ use native.Mathlib.Omega.{arith}
 use lib.Dec.{eqb}
 use lib.ListN.{length, drop, length-drop}
 use lib.Seq.{drop-drop, take-at, drop-at}
-use Rattle.markup.specs.Reading.{Read, then}
-use Rattle.markup.specs.Reading.Read.{refused, read}
-use Rattle.markup.specs.Names.{byte, name}
+use Rattle.markup.specs.NamesAndValues.{Read, then, byte, name}
+use Rattle.markup.specs.NamesAndValues.Read.{refused, read}
 use Rattle.markup.specs.Tags.{Pair, Attributes, attributes, differ, Tag, tagOf, tag}
 use Rattle.markup.specs.Elements.{Inside, Tree, content, element, mk}
 use Rattle.markup.specs.Elements.Inside.{end}

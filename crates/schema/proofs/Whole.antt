@@ -9,8 +9,8 @@ use lib.Dec.{eqb, ltb}
 use lib.ListN.{length, drop}
 use borrow.Author.Tests.{ne-eqb, lt-ltb, le-ltb}
 use Rattle.laws.specs.Lists.{same}
-use Rattle.markup.specs.Reading.Read.{refused, read}
-use Rattle.markup.specs.Names.{name}
+use Rattle.markup.specs.NamesAndValues.Read.{refused, read}
+use Rattle.markup.specs.NamesAndValues.{name}
 use Rattle.markup.specs.Tags.{attributes}
 use Rattle.markup.specs.Elements.{Inside, Tree, content, element, depth, kids}
 use Rattle.markup.specs.Elements.Inside.{end}
@@ -19,7 +19,7 @@ use Rattle.reading.proofs.Cut.{read-in}
 use Rattle.reading.specs.Many.{belowRoot}
 use Rattle.schema.specs.Schema.{particleOf, Schema}
 use Rattle.schema.specs.Shape.{attrsFit, enough, firstFault, faultIn, faultOf, namedIn, Shape, faulty, firstBad, recordsOf, shapeOf}
-use Rattle.schema.specs.Counted.{countOf, firstOver, Held, good, bad, over, heldBy, heldOf}
+use Rattle.schema.specs.CountedElements.{countOf, firstOver, Held, good, bad, over, heldBy, heldOf}
 use Rattle.schema.specs.Table.{numberCell, firstCell, manyCell, cell, nameAt, headAt, nodeAt, schemaAt}
 use Rattle.schema.specs.declared.file.Seen.{Seen}
 use Rattle.schema.specs.declared.file.Seen.the-variants as seen

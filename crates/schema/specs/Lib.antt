@@ -1,6 +1,6 @@
 pub mod Texts
 pub mod Schema
 pub mod Shape
-pub mod Counted
+pub mod CountedElements
 pub mod Table
 pub mod View

@@ -1,4 +1,4 @@
--- A schema as a value (document 01, "The shape of a record"; document 000, 4.5.2 and 4.6.2).
+-- A schema as a value (RULES.md, 2 The shape of a record; SIAD 6.4, 4.5.2 and 4.6.2).
 use Prim.Native.Nat.{ℕ}
 use Prim.Native.String as string
 use mathlib.Core.Bool.{Bool}
@@ -20,7 +20,7 @@ pub record Particle : Type 0 where
   pub counted : Bool
 
 mutual
-  -- "A leaf is an element whose schema type has no child elements"; a group's children come in order; a record is held against its own node
+  -- S8: "A leaf, an element without child elements in the schema"; a group's children come in order; a record is held against its own node
   pub data Node : Type 0 where
     leaf : Particle → Texts → Node
     group : Particle → Nodes → Node

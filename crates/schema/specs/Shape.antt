@@ -1,4 +1,4 @@
--- "Of the shape" (document 01, answer 6): a file's tree held against a schema. A fault is told by the bytes left at the `<` of the element refused in; 0 is none.
+-- Of the shape (RULES.md, 2 and F6): a file's tree held against a schema. A fault is told by the bytes left at the `<` of the element refused in; 0 is none.
 use Prim.Native.Nat.{ℕ, zero, suc}
 use mathlib.Core.Bool.{Bool, true, false, cond, not, _&&_, _||_}
 use mathlib.Core.List.{List, [], _∷_}
@@ -12,7 +12,7 @@ use Rattle.markup.specs.Elements.Inside.{end, says, note, elem}
 use Rattle.schema.specs.Texts.{Texts, fitsText}
 use Rattle.schema.specs.Schema.{Attr, Particle, Node, leaf, group, another, Nodes, none, _▸_, particleOf, Schema}
 
--- the values of the attribute n: "attributes may come in any order"
+-- the values of the attribute n, M19: "attributes come in any order"
 abbrev pub isNamed : List ℕ → Pair → Bool
 isNamed n p = same n (p .key)
 
@@ -23,12 +23,12 @@ attrFits ps a = (not (a .required) || any (isNamed (a .named)) ps) && all (λ p.
 abbrev pub begins : List ℕ → List ℕ → Bool
 begins p n = same p (take (length p) n)
 
--- "Beyond the schema's attributes only the root's beginning `xmlns` or `xsi:` are allowed"
+-- S6: "An element has each attribute that the schema requires and none that it doesn't name"; S7: "The root alone may have others"
 abbrev pub attrsFit : List (List ℕ) → List Attr → List Pair → Bool
 attrsFit free attrs ps =
     all (attrFits ps) attrs && all (λ p. any (λ a. isNamed (a .named) p) attrs || any (λ f. begins f (p .key)) free) ps
 
--- a leaf's text: "A comment in a leaf, empty or not, is a shape fault"
+-- a leaf's text, S8: "A leaf .. holds one text or none, and a comment in it is a fault"
 abbrev pub leafFits : Texts → Inside → Bool
 leafFits t end = fitsText t []
 leafFits t (says x end) = fitsText t x
@@ -69,8 +69,8 @@ childFault within after z y ps i (here (group h ms) ns k) =
     firstFault (cond (attrsFit [] (h .attrs) ps) (within ms) y) (after (group h ms ▸ ns) (suc k))
 childFault within after z y ps i (here (another h) ns k) = after (another h ▸ ns) (suc k)
 
--- the first fault in what stands in a group that opened with z bytes left, by the nodes still to come: "anything between the children but white space and
--- comments is one", and missing, extra and misordered children are; these are the group's
+-- the first fault in what stands in a group that opened with z bytes left, by the nodes still to come. S9: "only white space and comments stand beside the
+-- children"; S26: "for missing, extra or misplaced children and text between them" the place is the group's
 unfoldable pub faultIn : Nodes → ℕ → ℕ → Inside → ℕ
 faultIn ns k z end = cond (enough ns k) 0 z
 faultIn ns k z (says t i) = cond (all isWs t) (faultIn ns k z i) z
@@ -83,7 +83,8 @@ faultOf (leaf h x) t = cond (attrsFit [] (h .attrs) (t .pairs) && leafFits x (t 
 faultOf (group h ns) t = cond (attrsFit [] (h .attrs) (t .pairs)) (faultIn ns 0 (t .from) (t .inside)) (t .from)
 faultOf (another h) t = 0
 
--- "the fault is outside every Assistenza (no record at all included)": the root's tag, and all in it but the records
+-- no fault outside the records; S24: "A fault is outside every record where it is in the root's name or attributes, a child of the root that is no
+-- `Assistenza`, a text between the records, or that there is no record"
 abbrev pub outside : Schema → Tree → Bool
 outside s t =
     same (s .root) (t .named) && (attrsFit (s .free) [] (t .pairs) && eqb (faultIn (s .nodes) 0 (t .from) (t .inside)) 0)
@@ -101,11 +102,11 @@ pub data Shape : Type 0 where
   fine : ℕ → Shape
   faulty : ℕ → ℕ → Shape
 
--- "the number of the first bad one, from 1"
+-- F6: "the number of the first bad record", counted from 1
 unfoldable pub firstBad : Node → ℕ → List Tree → Shape
 firstBad n i [] = fine i
 firstBad n i (r ∷ rs) = cond (eqb (faultOf n r) 0) (firstBad n (suc i) rs) (faulty (suc i) (faultOf n r))
 
--- "record number 0 if the fault is outside every Assistenza (..; tested first)"
+-- F6: "record number 0 for a fault outside every record, which is looked for first"
 unfoldable pub shapeOf : Schema → Tree → Shape
 shapeOf s t = cond (outside s t) (firstBad (s .each) 0 (recordsOf s t)) (faulty 0 (t .from))

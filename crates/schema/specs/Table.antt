@@ -4,7 +4,7 @@ use mathlib.Core.Bool.{cond, not, _&&_}
 use mathlib.Core.List.{List, [], _∷_}
 use lib.Dec.{eqb}
 use lib.ListN.{take, drop, getD}
-use Rattle.codes.specs.Ranges.{Range, _to_}
+use Rattle.codes.specs.CodesAndCharacters.{Range, _to_}
 use Rattle.schema.specs.Texts.{Texts, chars, number, date, signed, plain, wide}
 use Rattle.schema.specs.Schema.{Attr, Particle, Node, leaf, group, another, Nodes, none, _▸_, Schema}
 

@@ -1,4 +1,4 @@
--- What a leaf's text or an attribute's value may be, "exactly as written, without trimming" (document 01, "The shape of a record").
+-- What a leaf's text or an attribute's value may be (RULES.md, 2 The shape of a record); M18: "Texts and values are used as written".
 use Prim.Native.Nat.{ℕ}
 use Prim.Native.Char.{code}
 use mathlib.Core.Bool.{Bool, true, false, cond, not, _&&_}
@@ -7,7 +7,7 @@ use lib.Dec.{eqb, leb}
 use lib.ListN.{length}
 use Rattle.laws.specs.Decimal.{isDigit, decimal}
 use Rattle.laws.specs.Lists.{all}
-use Rattle.codes.specs.Ranges.{Range, inRanges}
+use Rattle.codes.specs.CodesAndCharacters.{Range, inRanges}
 use Rattle.days.specs.Dates.{isDate}
 
 -- how digits may write a number: with a sign and leading zeros, as `xs:int`, `xs:long` and `xs:integer` do; without either; in so many digits
@@ -33,7 +33,7 @@ unpadded [] = true
 unpadded (b ∷ []) = true
 unpadded (b ∷ c ∷ t) = not (eqb b (code "0"))
 
--- "an optional `+` or `-`, one or more digits, leading zeros allowed, its value in range": below zero there is only -0
+-- S22: "a sign and any number of leading zeros may stand before it, no blank, its value is one of the schema's, and below zero there is only -0"
 abbrev pub signedIn : List Range → List ℕ → Bool
 signedIn rs [] = false
 signedIn rs (b ∷ t) =

@@ -9,14 +9,14 @@ use lib.ListN.{length, drop}
 use Rattle.laws.specs.Decimal.{isDigit, decimal}
 use Rattle.laws.specs.Lists.{all, same}
 use Rattle.markup.specs.Bytes.{isWs}
-use Rattle.markup.specs.Reading.Read.{read}
+use Rattle.markup.specs.NamesAndValues.Read.{read}
 use Rattle.markup.specs.Elements.{Inside, Tree, content, element, depth, kidOn, kids}
 use Rattle.markup.specs.Elements.Inside.{end, says, note, elem}
 use Rattle.markup.specs.View.{part, ahead}
 use Rattle.reading.specs.Many.{belowRoot}
 use Rattle.schema.specs.Schema.{Attr, Nodes, particleOf, Schema}
 use Rattle.schema.specs.Shape.{begins, Seek, nowhere, here, seek, enough, leafFits, firstFault, faultIn, faultOf, namedIn, firstBad}
-use Rattle.schema.specs.Counted.{countIn, countOf, firstOver, Held, good, bad, over, heldBy, heldOf}
+use Rattle.schema.specs.CountedElements.{countIn, countOf, firstOver, Held, good, bad, over, heldBy, heldOf}
 use Rattle.schema.specs.Table.{leastCell, kindCell, firstCell, manyCell, groupKind, cell, nameAt, textsOf, nodesBy, nodeAt, schemaAt}
 use Rattle.schema.specs.declared.texts.Number.{Number}
 use Rattle.schema.specs.declared.texts.Number.the-variants as number

@@ -1,12 +1,6 @@
 // The shape of a whole file.
-ghost use mathlib.Core.Path.{_≡_};
-ghost use mathlib.Core.Bool.{cond};
-ghost use mathlib.Core.List.{[]};
-ghost use lib.Dec.{ltb};
-ghost use Prim.Native.Nat.{_<_, _≤_};
+ghost use Prim.Native.Nat.{_<_};
 ghost use Rattle.markup.specs.View.{ahead};
-ghost use Rattle.schema.specs.Shape.{firstFault};
-ghost use Rattle.schema.specs.Table.{limitCell, cell};
 ghost use Rattle.schema.specs.View.{okSeen, Answers, HasName, Takes, JudgedPast, HeldWithin, HeldFile};
 use crate::Outcome;
 use crate::attrs::root_attrs_fit;
@@ -18,11 +12,11 @@ use crate::table::ANOTHER;
 use crate::table::BELOW_ROOT;
 use crate::table::FIRST;
 use crate::table::KIND;
-use crate::table::LIMIT;
 use crate::table::MANY;
 use crate::table::NUMBER;
 use crate::table::cell;
 use crate::table::name_of;
+use crate::too_many::first_over;
 use markup::Cursor;
 use markup::Ending;
 use markup::Got;
@@ -63,21 +57,8 @@ fn has_name(table: &[u16], pool: &[u8], row: usize, s: &[u8], at: usize) -> bool
     }
 }
 
-// The first record with too many counted elements, after a record of this number that has so many.
-fn first_over(table: &[u16], over: usize, number: usize, count: usize) -> usize
-    ensures { λ r. ⌜ (r ≡ firstFault over (cond (ltb (cell (now (table .entry)) [] [] 0 limitCell) count) number 0)) × (over ≤ number → r ≤ number) ⌝ }
-{
-    let most = cell(table, 0, LIMIT);
-    if over == 0 {
-        if most < count {
-            return number;
-        }
-    }
-    over
-}
-
 // A record is held against its row, as long as none was at fault; another child changes nothing.
-fn take_record(table: &[u16], pool: &[u8], ranges: &[u16], s: &[u8], at: usize, seen: Seen) -> Taken
+fn hold_record(table: &[u16], pool: &[u8], ranges: &[u16], s: &[u8], at: usize, seen: Seen) -> Taken
     requires { ⌜ okSeen at seen ⌝ }
     ensures { λ r. ⌜ Takes (now (table .entry)) (now (pool .entry)) (now (ranges .entry)) (now (s .entry)) at seen r ⌝ }
 {
@@ -174,7 +155,7 @@ fn root_inside(
                 at = next;
             }
             Step::Child { now, before } => {
-                let taken = take_record(table, pool, ranges, s, at, seen);
+                let taken = hold_record(table, pool, ranges, s, at, seen);
                 match past_child(table, pool, ranges, s, at, first + now, taken.next) {
                     Outcome::Fault(_) => {
                         return ShapeAnswer::Faulty { number: 0, from };

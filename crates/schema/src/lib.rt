@@ -7,6 +7,7 @@ pub mod leaves;
 pub mod steps;
 pub mod table;
 pub mod texts;
+pub mod too_many;
 
 // The place past an element that has no fault, and how many counted elements stand in it; or the first fault, as the bytes left at the `<` of the element
 // that it is told of.

@@ -4,7 +4,7 @@ ghost use mathlib.Core.List.{List, []};
 ghost use Prim.Native.Nat.{ℕ, _<_, _≤_};
 ghost use lib.ListN.{getD};
 ghost use Rattle.schema.specs.Table.{cell, nameAt, headAt};
-ghost use Rattle.schema.specs.Counted.{marked};
+ghost use Rattle.schema.specs.CountedElements.{marked};
 use markup::bytes::part;
 
 // How many cells a row has, and which: the name's place in the pool and its length, how often an element may stand in its place, its kind with a number and a

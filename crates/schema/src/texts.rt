@@ -8,7 +8,7 @@ ghost use lib.ListN.{drop};
 ghost use Rattle.laws.specs.Decimal.{decimal};
 ghost use Rattle.laws.specs.Lists.{all};
 ghost use Rattle.days.specs.Dates.{isDate};
-ghost use Rattle.codes.specs.Ranges.{inRanges};
+ghost use Rattle.codes.specs.CodesAndCharacters.{inRanges};
 ghost use Rattle.schema.specs.Texts.{digitsIn, unpadded, signedIn, fitsText};
 ghost use Rattle.schema.specs.Table.{rangesAt, textsOf};
 ghost use Rattle.schema.specs.View.{Near, SaysNumber};

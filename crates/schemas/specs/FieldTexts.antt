@@ -1,10 +1,8 @@
--- The texts that a field may have: the schemas' simple types under their own names (document 000, 4.5.2 and 4.6.2), as document 01 narrows or widens them
+-- The texts that a field may have: the schemas' simple types under their own names (SIAD 6.4, 4.5.2 and 4.6.2), as RULES.md narrows or widens them
 -- (docs/SCHEMAS.md).
 use Prim.Native.Char.{Char, code}
 use mathlib.Core.List.{[], _∷_}
-use Rattle.codes.specs.Ranges.{_to_, only}
-use Rattle.codes.specs.Chars.{digits, capitals, letters, alnums, idChars, anyChars, transmissions}
-use Rattle.codes.specs.Codes.{regions, residences, operators, suspensions, conclusions}
+use Rattle.codes.specs.CodesAndCharacters.{_to_, only, digits, capitals, letters, alnums, idChars, anyChars, transmissions, regions, residences, operators, suspensions, conclusions}
 use Rattle.schema.specs.Texts.{Texts, chars, number, signed, plain, wide}
 
 -- one character from a to b

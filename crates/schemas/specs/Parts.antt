@@ -3,7 +3,7 @@ use Prim.Native.Nat.{ℕ}
 use Prim.Native.String as string
 use mathlib.Core.Bool.{true, false}
 use mathlib.Core.List.{List, [], _∷_}
-use Rattle.laws.specs.Text.{bytes}
+use Rattle.laws.specs.Lists.{bytes}
 use Rattle.schema.specs.Texts.{Texts}
 use Rattle.schema.specs.Schema.{Attr, Particle, Node, leaf, group, another, Nodes, none, _▸_}
 use Rattle.schemas.specs.FieldTexts.{empty, supportoSociale, autonomia, gradoMobilita, disturbo, rischioInfettivo, bisogno, regioneErogazione, codASL, tipoTrasmissione, patologia, patologiaPrevalente}
@@ -35,7 +35,7 @@ maybe-all-of n attrs ns = group (times 0 1 n attrs) ns
 abbrev pub any-number-of : string.String → List Attr → Nodes → Node
 any-number-of n attrs ns = group (times 0 0 n attrs) ns
 
--- "Only the four kinds of event count", and "more than 128 events" are too many (answer 7)
+-- S23: "no other element counts", and F7: "more than 128 events" are too many
 abbrev pub event : Node → Node
 event (group h ns) = group (record { named = h .named; least = h .least; most = h .most; attrs = h .attrs; counted = true }) ns
 event (leaf h t) = leaf h t
@@ -44,7 +44,7 @@ event (another h) = another h
 abbrev pub mostEvents : ℕ
 mostEvents = 128
 
--- "the root's beginning `xmlns` or `xsi:`"
+-- S7: "any whose name begins with the bytes `xmlns` or `xsi:`"
 abbrev pub rootFree : List (List ℕ)
 rootFree = bytes "xmlns" ∷ bytes "xsi:" ∷ []
 

@@ -1,6 +1,6 @@
--- Track 1 (document 000, 4.5.2), element by element.
+-- Track 1 (SIAD 6.4, 4.5.2), element by element.
 use mathlib.Core.List.{[], _∷_}
-use Rattle.laws.specs.Text.{bytes}
+use Rattle.laws.specs.Lists.{bytes}
 use Rattle.schema.specs.Texts.{date}
 use Rattle.schema.specs.Schema.{Node, group, another, none, _▸_, Schema}
 use Rattle.schemas.specs.FieldTexts
@@ -47,7 +47,7 @@ valutazione =
     Parts.all-of "Valutazione" (Parts.required "data" date ∷ [])
     (Parts.valued (Parts.all-of "Disturbi" [] Parts.disturbi) "TerSottocutIntraMusInfus")
 
--- "Trasmissione, Assistito, Conviventi, Erogatore, Eventi (PresaInCarico, Valutazione)"
+-- S3: "Trasmissione, Assistito, Conviventi, Erogatore and Eventi, and in Eventi PresaInCarico and Valutazione"
 abbrev pub assistenza : Node
 assistenza =
     group (Parts.times 1 0 "Assistenza" [])

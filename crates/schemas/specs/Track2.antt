@@ -1,6 +1,6 @@
--- Track 2 (document 000, 4.6.2), element by element.
+-- Track 2 (SIAD 6.4, 4.6.2), element by element.
 use mathlib.Core.List.{[], _∷_}
-use Rattle.laws.specs.Text.{bytes}
+use Rattle.laws.specs.Lists.{bytes}
 use Rattle.schema.specs.Texts.{date}
 use Rattle.schema.specs.Schema.{Node, group, another, Nodes, none, _▸_, Schema}
 use Rattle.schemas.specs.FieldTexts
@@ -41,11 +41,11 @@ conclusione =
     Parts.event
     (Parts.maybe-all-of "Conclusione" (Parts.required "dataAD" date ∷ []) (Parts.one "Motivazione" FieldTexts.motivazioneConclusione ▸ none))
 
--- "PresaInCarico, any number of Rivalutazione, then Erogazione, then Sospensione, and at most one Conclusione"
+-- S4: "PresaInCarico, any number of Rivalutazione, of Erogazione and of Sospensione, and at most one Conclusione"
 abbrev pub eventi : Nodes
 eventi = presaInCarico ▸ rivalutazione ▸ erogazione ▸ sospensione ▸ conclusione ▸ none
 
--- "Trasmissione, Erogatore, Eventi"
+-- S4: "A record of Track 2 has Trasmissione, Erogatore and Eventi"
 abbrev pub assistenza : Node
 assistenza =
     group (Parts.times 1 0 "Assistenza" [])

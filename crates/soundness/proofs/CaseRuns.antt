@@ -128,7 +128,7 @@ module _ (own : ℕ → ℕ) where
   grouped rules [] (x ∷ m) = false
   grouped rules (c ∷ cs) m = goodRun rules (c .key) (runOf own (c .key) m) && grouped rules cs (restOf (c .key) m)
 
-  -- the paper's two conditions
+  -- the two conditions, V6 and V7
   abbrev pub apart : (ℕ → Map ℕ → Bool) → Map ℕ → Map ℕ → Bool
   apart tog cs m = all (λ e. has (own (e .key)) cs) m && all (λ c. tog (c .key) (keep (λ k. eqb (own k) (c .key)) m)) cs
 

@@ -1,13 +1,13 @@
 -- The walk over a case's events, at places of a register.
 use Prim.Native.Nat.{ℕ, suc, _+_, _-_, _*_, _/_, _%_, _^_, _<_, max}
-use mathlib.Core.Path.{_≡_, sym, ap, ap₂, _∙_}
+use mathlib.Core.Path.{_≡_, sym, ap, ap₂, _∙_, subst}
 use mathlib.Core.Bool.{Bool, true, false, cond, _&&_}
 use mathlib.Core.List.{List, [], _∷_}
 use native.Mathlib.Nat.{mod-lt}
 use native.Mathlib.Numerals.{add-one}
 use native.Mathlib.Omega.{arith}
 use lib.Dec.{eqb, ltb, leb}
-use lib.ListN.{length}
+use lib.ListN.{length, take, drop}
 use lib.Pow.{pow-pos, shr-shr}
 use borrow.Author.Tests.{ltb-true}
 use Rattle.laws.proofs.Order.{Tri, below, equal, above, tri}
@@ -19,98 +19,110 @@ use Rattle.register.specs.Layout.{caseNamed, caseRest, eventRest, rowIn}
 use Rattle.register.specs.State.{split, eventsFrom}
 use Rattle.register.specs.Search.{keyAt, probeKey}
 use Rattle.register.proofs.Walks.{from-next, from-none, from-every}
-use Rattle.home_care.specs.Row.{siad, takenIn, eventNumberIn, eventKeyOf, rowBytes, keyBits}
-use Rattle.home_care.specs.Allowed.{eventRowAllowed}
-use Rattle.soundness.specs.Walk.{runOf, ran}
-use Rattle.soundness.specs.declared.together.Run.{Run}
-use Rattle.soundness.specs.declared.together.Run.the-variants.{End, Bad}
+use Rattle.home_care.specs.Row.{homeCare, takenIn, eventNumberInWide, eventZerosWide, eventKeyOf, keyBits, dayBits, ownBits, pastOwn}
+use Rattle.home_care.specs.Fits.{RowWidth, asEvent}
+use Rattle.home_care.specs.Allowed.{eventRowAllowedWide}
+use Rattle.home_care.proofs.RowFields.{takenAt, taken-is, cut-low}
+use Rattle.soundness.specs.Walk.{runOf, caseAt, ran}
+use Rattle.soundness.specs.declared.one_case.Run.{Run}
+use Rattle.soundness.specs.declared.one_case.Run.the-variants.{End, Bad}
 use Rattle.soundness.proofs.EventFacts.{fits, late}
 use Rattle.soundness.proofs.CaseRuns.{run-own, run-part}
 use Rattle.soundness.proofs.CaseEvents.{Mine, follow, follow-is}
 
--- the key of the case in row i
-abbrev pub caseAt : List ℕ → ℕ → ℕ
-caseAt reg i = rowIn siad reg i / 2 ^ caseRest siad
+module _ (w : ℕ) where
+  -- the row that the code cuts out
+  pub row-number : (reg row : List ℕ) (i : ℕ) → row ≡ take w (drop (4 + w * i) reg) → num row ≡ rowIn (homeCare w) reg i
+  unfolding rowIn
+  row-number reg row i e = ap num e
 
--- the day of taking in that the code reads in a case's row
-pub taken-at : (reg row : List ℕ) (i r : ℕ) → num row ≡ rowIn siad reg i → length row ≡ rowBytes → r ≡ fieldAt (8 * length row - (29 + 17)) 17 (num row) →
-    r ≡ takenIn (caseAt reg i)
-taken-at reg row i r e l h =
-    h ∙ ap₂ (λ (k n : ℕ). fieldAt (8 * k - 46) 17 n) l e ∙ ap (λ (z : ℕ). z % 2 ^ 17) (sym (shr-shr (rowIn siad reg i) 66 616))
+  -- the day of taking in that the code reads in a case's row
+  pub taken-at : RowWidth w → (reg row : List ℕ) (i r : ℕ) → num row ≡ rowIn (homeCare w) reg i → length row ≡ w → r ≡ fieldAt (8 * length row - (takenAt + dayBits)) dayBits (num row) →
+      r ≡ takenIn (caseAt w reg i)
+  taken-at wide reg row i r e l h =
+      taken-is row (subst RowWidth (sym l) wide) r h ∙ ap₂ (λ (k n : ℕ). takenIn (n / 2 ^ caseRest (homeCare k))) l e
 
-module _ (reg : List ℕ) (i j rows : ℕ) where
-  abbrev eventRow : ℕ → Row ℕ
-  eventRow k = split (eventRest siad) (rowIn siad reg k)
+  -- the bits of a row past an event's own key are its other fields and the zero bits
+  rest-small : RowWidth w → (n : ℕ) → n % 2 ^ eventRest (homeCare w) / 2 ^ eventZerosWide w < 2 ^ pastOwn
+  rest-small wide n =
+      let e : eventRest (homeCare w) ≡ pastOwn + eventZerosWide w = omega arith in
+      subst (λ (z : ℕ). z < 2 ^ pastOwn) (sym (cut-low _ pastOwn (eventZerosWide w) n e)) (mod-lt (n / 2 ^ eventZerosWide w) (pow-pos pastOwn))
 
-  -- the rows of the case at the front of those from k on
-  abbrev run : ℕ → Map ℕ
-  run k = runOf (caseNamed siad) (caseAt reg i) (eventsFrom siad reg k (rows - k))
+  module _ (reg : List ℕ) (i j rows : ℕ) where
+    abbrev eventRow : ℕ → Row ℕ
+    eventRow k = split (eventRest (homeCare w)) (rowIn (homeCare w) reg k)
 
-  abbrev answer : Run
-  answer = ran (caseAt reg i) j (eventsFrom siad reg j (rows - j))
+    -- the rows of the case at the front of those from k on
+    abbrev run : ℕ → Map ℕ
+    run k = runOf (caseNamed (homeCare w)) (caseAt w reg i) (eventsFrom (homeCare w) reg k (rows - k))
 
-  -- the rows from k on give the same as the whole
-  abbrev pub Onward : ℕ → ℕ → ℕ → ℕ → ℕ → Type 0
-  Onward t b p m k = answer ≡ cond (follow t b p m (run k)) (End (k + length (run k))) Bad
+    abbrev answer : Run
+    answer = ran w (caseAt w reg i) j (eventsFrom (homeCare w) reg j (rows - j))
 
-  pub walk-start : (t : ℕ) → t ≡ takenIn (caseAt reg i) → Onward t 0 0 0 j
-  walk-start t e =
-      let c = caseAt reg i in
-      let m = eventsFrom siad reg j (rows - j) in
-      let g : Every (Mine c) (run j) =
-      every-both (run j) (λ r o s. record { own = o; small = s }) (run-own (caseNamed siad) c m)
-      (run-part (caseNamed siad) (λ r. r .val < 2 ^ 47) c m (from-every eventRow (λ r. r .val < 2 ^ 47) j (rows - j) (λ k x y. mod-lt (rowIn siad reg k) (pow-pos 47)))) in
-      ap (λ (z : Bool). cond z (End (j + length (run j))) Bad) (sym (ap (λ (d : ℕ). follow d 0 0 0 (run j)) e ∙ follow-is c (takenIn c) (run j) g))
+    -- the rows from k on give the same as the whole
+    abbrev pub Onward : ℕ → ℕ → ℕ → ℕ → ℕ → Type 0
+    Onward t b p m k = answer ≡ cond (follow w t b p m (run k)) (End (k + length (run k))) Bad
 
-  module _ (case : List ℕ) (k : ℕ) (stand : Bool) (own : num case ≡ rowIn siad reg i) (told : stand ≡ ltb k rows && eqb (keyAt rowBytes keyBits reg k) (probeKey rowBytes keyBits case)) where
-    case-key : keyAt rowBytes keyBits reg k ≡ caseNamed siad (eventRow k .key)
-    unfolding keyAt rowIn
-    case-key = sym (shr-shr (rowIn siad reg k) 47 19)
+    pub walk-start : RowWidth w → (t : ℕ) → t ≡ takenIn (caseAt w reg i) → Onward t 0 0 0 j
+    walk-start wide t e =
+        let c = caseAt w reg i in
+        let m = eventsFrom (homeCare w) reg j (rows - j) in
+        let g : Every (Mine w c) (run j) =
+        every-both (run j) (λ r o s. record { own = o; small = s }) (run-own (caseNamed (homeCare w)) c m)
+        (run-part (caseNamed (homeCare w)) (λ r. r .val / 2 ^ eventZerosWide w < 2 ^ pastOwn) c m (from-every eventRow (λ r. r .val / 2 ^ eventZerosWide w < 2 ^ pastOwn) j (rows - j) (λ k x y. rest-small wide (rowIn (homeCare w) reg k)))) in
+        ap (λ (z : Bool). cond z (End (j + length (run j))) Bad) (sym (ap (λ (d : ℕ). follow w d 0 0 0 (run j)) e ∙ follow-is w c (takenIn c) (run j) g))
 
-    probe : probeKey rowBytes keyBits case ≡ caseAt reg i
-    unfolding probeKey
-    probe = ap (λ (n : ℕ). n / 2 ^ caseRest siad) own
+    module _ (wide : RowWidth w) (case : List ℕ) (k : ℕ) (stand : Bool) (own : num case ≡ rowIn (homeCare w) reg i) (told : stand ≡ ltb k rows && eqb (keyAt w keyBits reg k) (probeKey w keyBits case)) where
+      case-key : keyAt w keyBits reg k ≡ caseNamed (homeCare w) (eventRow k .key)
+      unfolding keyAt rowIn
+      case-key =
+          let e : 8 * w - keyBits ≡ eventRest (homeCare w) + ownBits = omega arith in
+          ap (λ (z : ℕ). rowIn (homeCare w) reg k / 2 ^ z) e ∙ sym (shr-shr (rowIn (homeCare w) reg k) (eventRest (homeCare w)) ownBits)
 
-    test : stand ≡ ltb k rows && eqb (caseNamed siad (eventRow k .key)) (caseAt reg i)
-    test = told ∙ ap₂ (λ (x y : ℕ). ltb k rows && eqb x y) case-key probe
+      probe : probeKey w keyBits case ≡ caseAt w reg i
+      unfolding probeKey
+      probe = ap (λ (n : ℕ). n / 2 ^ caseRest (homeCare w)) own
 
-    pub stands-within : stand ≡ true → k < rows
-    stands-within s = ltb-true k rows (and-left (ltb k rows) _ (sym test ∙ s))
+      test : stand ≡ ltb k rows && eqb (caseNamed (homeCare w) (eventRow k .key)) (caseAt w reg i)
+      test = told ∙ ap₂ (λ (x y : ℕ). ltb k rows && eqb x y) case-key probe
 
-    run-more : stand ≡ true → run k ≡ eventRow k ∷ run (k + 1)
-    unfolding runOf
-    run-more s =
-        ap (runOf (caseNamed siad) (caseAt reg i)) (from-next eventRow k rows (stands-within s))
-        ∙ rw (and-right (ltb k rows) (eqb (caseNamed siad (eventRow k .key)) (caseAt reg i)) (sym test ∙ s))
+      pub stands-within : stand ≡ true → k < rows
+      stands-within s = ltb-true k rows (and-left (ltb k rows) _ (sym test ∙ s))
 
-    run-none : stand ≡ false → run k ≡ []
-    unfolding runOf
-    run-none s = go (tri k rows)
-      where
-        go : Tri k rows → run k ≡ []
-        go (below l e _) =
-            let o : eqb (caseNamed siad (eventRow k .key)) (caseAt reg i) ≡ false = rw e at (sym test ∙ s) in
-            ap (runOf (caseNamed siad) (caseAt reg i)) (from-next eventRow k rows l) ∙ rw o
-        go (equal l _ _) = ap (runOf (caseNamed siad) (caseAt reg i)) (from-none eventRow k rows (omega arith))
-        go (above l _ _) = ap (runOf (caseNamed siad) (caseAt reg i)) (from-none eventRow k rows (omega arith))
+      run-more : stand ≡ true → run k ≡ eventRow k ∷ run (k + 1)
+      unfolding runOf
+      run-more s =
+          ap (runOf (caseNamed (homeCare w)) (caseAt w reg i)) (from-next eventRow k rows (stands-within s))
+          ∙ rw (and-right (ltb k rows) (eqb (caseNamed (homeCare w) (eventRow k .key)) (caseAt w reg i)) (sym test ∙ s))
 
-    module _ (t b p m : ℕ) (inv : Onward t b p m k) where
-      pub walk-end : stand ≡ false → End k ≡ answer
-      unfolding follow
-      walk-end s = let z : k + 0 ≡ k = omega arith in sym (inv ∙ rw (run-none s, z))
+      run-none : stand ≡ false → run k ≡ []
+      unfolding runOf
+      run-none s = go (tri k rows)
+        where
+          go : Tri k rows → run k ≡ []
+          go (below l e _) =
+              let o : eqb (caseNamed (homeCare w) (eventRow k .key)) (caseAt w reg i) ≡ false = rw e at (sym test ∙ s) in
+              ap (runOf (caseNamed (homeCare w)) (caseAt w reg i)) (from-next eventRow k rows l) ∙ rw o
+          go (equal l _ _) = ap (runOf (caseNamed (homeCare w)) (caseAt w reg i)) (from-none eventRow k rows (omega arith))
+          go (above l _ _) = ap (runOf (caseNamed (homeCare w)) (caseAt w reg i)) (from-none eventRow k rows (omega arith))
 
-      module _ (row : List ℕ) (e : ℕ) (row-good fit : Bool) (s : stand ≡ true) (here : num row ≡ rowIn siad reg k) (read : e ≡ eventNumberIn (split (eventRest siad) (num row)))
-          (allowed : row-good ≡ eventRowAllowed (split (eventRest siad) (num row))) (f : fit ≡ leb b (eventKeyOf e) && fits t p m e) where
-        step : answer ≡ cond ((row-good && fit) && follow t (suc (eventKeyOf e)) e (max m (late e)) (run (k + 1))) (End (k + 1 + length (run (k + 1)))) Bad
+      module _ (t b p m : ℕ) (inv : Onward t b p m k) where
+        pub walk-end : stand ≡ false → End k ≡ answer
         unfolding follow
-        step =
-            let q : e ≡ eventNumberIn (eventRow k) = read ∙ ap (λ (n : ℕ). eventNumberIn (split (eventRest siad) n)) here in
-            let a : row-good ≡ eventRowAllowed (eventRow k) = allowed ∙ ap (λ (n : ℕ). eventRowAllowed (split (eventRest siad) n)) here in
-            let z : k + suc (length (run (k + 1))) ≡ k + 1 + length (run (k + 1)) = omega arith in
-            inv ∙ rw (run-more s, ← a, ← q, ← f, z)
+        walk-end s = let z : k + 0 ≡ k = omega arith in sym (inv ∙ rw (run-none s, z))
 
-        pub walk-bad : row-good && fit ≡ false → Bad ≡ answer
-        walk-bad g = sym (step ∙ rw g)
+        module _ (row : List ℕ) (e : ℕ) (row-good fit : Bool) (s : stand ≡ true) (here : num row ≡ rowIn (homeCare w) reg k) (long : length row ≡ w)
+            (read : e ≡ eventNumberInWide (length row) (asEvent row)) (allowed : row-good ≡ eventRowAllowedWide (length row) (asEvent row)) (f : fit ≡ leb b (eventKeyOf e) && fits t p m e) where
+          step : answer ≡ cond ((row-good && fit) && follow w t (suc (eventKeyOf e)) e (max m (late e)) (run (k + 1))) (End (k + 1 + length (run (k + 1)))) Bad
+          unfolding follow
+          step =
+              let q : e ≡ eventNumberInWide w (eventRow k) = read ∙ ap₂ (λ (v n : ℕ). eventNumberInWide v (split (eventRest (homeCare v)) n)) long here in
+              let a : row-good ≡ eventRowAllowedWide w (eventRow k) = allowed ∙ ap₂ (λ (v n : ℕ). eventRowAllowedWide v (split (eventRest (homeCare v)) n)) long here in
+              let z : k + suc (length (run (k + 1))) ≡ k + 1 + length (run (k + 1)) = omega arith in
+              inv ∙ rw (run-more s, ← a, ← q, ← f, z)
 
-        pub walk-on : (b' p' m' : ℕ) → b' ≡ eventKeyOf e + 1 → p' ≡ e → m' ≡ max m (late e) → row-good && fit ≡ true → Onward t b' p' m' (k + 1)
-        walk-on b' p' m' x y z g = step ∙ rw (g, x ∙ add-one (eventKeyOf e), y, z)
+          pub walk-bad : row-good && fit ≡ false → Bad ≡ answer
+          walk-bad g = sym (step ∙ rw g)
+
+          pub walk-on : (b' p' m' : ℕ) → b' ≡ eventKeyOf e + 1 → p' ≡ e → m' ≡ max m (late e) → row-good && fit ≡ true → Onward t b' p' m' (k + 1)
+          walk-on b' p' m' x y z g = step ∙ rw (g, x ∙ add-one (eventKeyOf e), y, z)

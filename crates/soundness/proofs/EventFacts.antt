@@ -38,7 +38,7 @@ after-late c e = go (eqb (endOf e) never) refl
     go true h = rw h (ap (λ (b : Bool). isConclusion c && b) (day (dateOf c) (dateOf e)))
     go false h = rw h (ap (λ (b : Bool). isConclusion c && b) (days (dateOf c) (dateOf e) (endOf e)))
 
--- what the code asks of an event: the paper's tests of it, of it and the event p before it, and of the latest day m so far
+-- what the code asks of an event: the rules' tests of it, of it and the event p before it, and of the latest day m so far
 abbrev pub fits : ℕ → ℕ → ℕ → ℕ → Bool
 fits t p m e =
     leb t (dateOf e)

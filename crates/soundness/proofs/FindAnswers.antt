@@ -9,7 +9,8 @@ use Rattle.model.specs.Map.{has, keep}
 use Rattle.register.specs.Layout.{rowAt}
 use Rattle.register.specs.State.{stateOf}
 use Rattle.home_care.specs.Row.{keyNumber, siad}
-use Rattle.soundness.specs.Sound.{Found, textsAllowed, keyOfTexts, found, isSound}
+use Rattle.soundness.specs.Finding.{Found, textsAllowed, keyOfTexts, found}
+use Rattle.soundness.specs.Sound.{isSound}
 
 module _ (reg region asl date id : List ℕ) where
   pub unsound : isSound reg ≡ false → record { answer = 3; place = 0 } ≡ found reg region asl date id

@@ -19,8 +19,8 @@ use Rattle.register.specs.Sound.{ascending}
 use Rattle.register.proofs.From.{from-length, from-cut}
 use Rattle.register.proofs.Walks.{from-next, from-none, from-every}
 use Rattle.register.proofs.Ascending.{asc-told, asc-part}
-use Rattle.home_care.specs.Row.{siad, rowBytes, keyBits}
-use Rattle.soundness.specs.Sound.{Found}
+use Rattle.home_care.specs.Row.{homeCare, keyBits}
+use Rattle.soundness.specs.Finding.{Found}
 use Rattle.soundness.proofs.CaseRuns.{keep-append, keep-every, keep-none}
 
 module _ (rows : ℕ → Row ℕ) where
@@ -105,27 +105,27 @@ module _ (rows : ℕ → Row ℕ) where
         go (above l e _) = absurd (omega arith)
 
 -- what finding answers, by the place and whether the key stands there
-module _ (reg probe : List ℕ) (cases i : ℕ) (stand : Bool) (held : cases ≡ casesHeld reg) (p : Placed (keyAt rowBytes keyBits reg) (probeKey rowBytes keyBits probe + 0) 0 cases i)
-    (told : stand ≡ ltb i cases && eqb (keyAt rowBytes keyBits reg i) (probeKey rowBytes keyBits probe)) (up : ascending (stateOf siad reg .cases) ≡ true) where
+module _ (w : ℕ) (reg probe : List ℕ) (cases i : ℕ) (stand : Bool) (held : cases ≡ casesHeld reg) (p : Placed (keyAt w keyBits reg) (probeKey w keyBits probe + 0) 0 cases i)
+    (told : stand ≡ ltb i cases && eqb (keyAt w keyBits reg i) (probeKey w keyBits probe)) (up : ascending (stateOf (homeCare w) reg .cases) ≡ true) where
   abbrev caseRow : ℕ → Row ℕ
-  caseRow j = split (caseRest siad) (rowIn siad reg j)
+  caseRow j = split (caseRest (homeCare w)) (rowIn (homeCare w) reg j)
 
   abbrev key : ℕ
-  key = probeKey rowBytes keyBits probe
+  key = probeKey w keyBits probe
 
   abbrev answer : Found
   answer =
-      cond (has key (stateOf siad reg .cases)) (record { answer = 0; place = rowAt siad (length (keep (λ k. ltb k key) (stateOf siad reg .cases))) })
+      cond (has key (stateOf (homeCare w) reg .cases)) (record { answer = 0; place = rowAt (homeCare w) (length (keep (λ k. ltb k key) (stateOf (homeCare w) reg .cases))) })
       (record { answer = 30; place = 0 })
 
-  row-key : (k : ℕ) → keyAt rowBytes keyBits reg k ≡ caseRow k .key
+  row-key : (k : ℕ) → keyAt w keyBits reg k ≡ caseRow k .key
   unfolding keyAt rowIn
   row-key k = refl
 
   asc : Asc 0 (from caseRow 0 cases)
-  asc = rw held (asc-told (stateOf siad reg .cases) up)
+  asc = rw held (asc-told (stateOf (homeCare w) reg .cases) up)
 
-  rises : Rises (keyAt rowBytes keyBits reg) 0 cases
+  rises : Rises (keyAt w keyBits reg) 0 cases
   rises a b x y z =
       let q : caseRow a .key < caseRow b .key = keys-rise caseRow 0 0 cases asc a b x y (omega arith) in
       rw (row-key a, row-key b) (omega arith)
@@ -136,14 +136,14 @@ module _ (reg probe : List ℕ) (cases i : ℕ) (stand : Bool) (held : cases ≡
   over : (k : ℕ) → i ≤ k → k < cases → key ≤ caseRow k .key
   over k h g = let q = p .over rises k h g in subst (λ (z : ℕ). key ≤ z) (row-key k) (omega arith)
 
-  stood : has key (stateOf siad reg .cases) ≡ stand
+  stood : has key (stateOf (homeCare w) reg .cases) ≡ stand
   stood =
       rw (← held) (stands-is caseRow key cases i asc (p .high) under over ∙ sym (told ∙ ap (λ (k : ℕ). ltb i cases && eqb k key) (row-key i)))
 
-  counted : length (keep (λ k. ltb k key) (stateOf siad reg .cases)) ≡ i
+  counted : length (keep (λ k. ltb k key) (stateOf (homeCare w) reg .cases)) ≡ i
   counted = rw (← held) (count-smaller caseRow key cases i asc (p .high) under over)
 
-  pub found-at : stand ≡ true → record { answer = 0; place = 4 + rowBytes * i } ≡ answer
+  pub found-at : stand ≡ true → record { answer = 0; place = 4 + w * i } ≡ answer
   found-at e = rw (stood ∙ e, counted)
 
   pub found-not : stand ≡ false → record { answer = 30; place = 0 } ≡ answer

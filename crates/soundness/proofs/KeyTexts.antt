@@ -1,7 +1,7 @@
 -- The text of a case's region, as finding reads it.
 use Prim.Native.Nat.{ℕ}
 use mathlib.Core.Path.{_≡_, _∙_}
-use mathlib.Core.Bool.{Bool, true, false, cond, _&&_}
+use mathlib.Core.Bool.{true, false, cond, _&&_}
 use mathlib.Core.List.{List}
 use native.Mathlib.Omega.{arith}
 use lib.Dec.{eqb}
@@ -9,7 +9,7 @@ use lib.ListN.{length}
 use borrow.Author.Tests.{eq-eqb, ne-eqb}
 use Rattle.laws.specs.Decimal.{decimal, isDigit}
 use Rattle.laws.specs.Lists.{all}
-use Rattle.codes.specs.Digits.{upTo}
+use Rattle.codes.specs.Capped.{upTo}
 use Rattle.codes.proofs.Decimals.{four-digits}
 
 abbrev pub regionOf : List ℕ → ℕ

@@ -1,3 +1,4 @@
+pub mod Within
 pub mod EventFacts
 pub mod Neighbours
 pub mod CaseRuns

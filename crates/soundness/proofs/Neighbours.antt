@@ -49,7 +49,7 @@ passes-of t p m (e ∷ es) f n =
     and-tell (fits t p m e) _ (fits-tell t p m e (f .0) (n .0))
     (passes-of t e (max m (late e)) es (f .2) (every-both es (λ g a k. record { days = a .days; single = a .single; last = λ y. let i = a .last y in let j = k .last y in omega arith }) (f .1) (n .1)))
 
--- ---- the paper's tests
+-- ---- the rules' tests
 
 -- the five are false
 record Tests (t : ℕ) (es : List ℕ) : Type 0 where

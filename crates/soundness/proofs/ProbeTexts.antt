@@ -12,11 +12,9 @@ use borrow.Author.Tests.{eqb-true, not-false}
 use Rattle.laws.specs.Decimal.{decimal, isDigit}
 use Rattle.laws.specs.Lists.{all, any}
 use Rattle.laws.proofs.Truth.{and-left, and-right, and-false}
-use Rattle.codes.specs.Ranges.{Range, inRanges}
-use Rattle.codes.specs.Chars.{alnums, idChars}
-use Rattle.codes.specs.Codes.{regions}
+use Rattle.codes.specs.CodesAndCharacters.{Range, inRanges, alnums, idChars, regions}
 use Rattle.codes.proofs.Ranges.{ranges-below}
-use Rattle.days.specs.Calendar.{dayCount}
+use Rattle.days.specs.DayNumbers.{dayCount}
 use Rattle.days.specs.Dates.{isDate, dayOf, dated, undated, dateAt}
 use Rattle.days.specs.View.{viewDate, okDate}
 use Rattle.days.specs.declared.dates.Date.{Date}
@@ -24,9 +22,9 @@ use Rattle.days.specs.declared.dates.Date.the-variants as read
 use Rattle.rows.specs.Packing.{packs, num, each, Fit, rowNumber}
 use Rattle.register.specs.Search as search
 use Rattle.home_care.specs.Fits.{keyWith, KeyFits}
-use Rattle.home_care.specs.Row.{keyFields, keyNumber, rowBytes, keyBits}
+use Rattle.home_care.specs.Row.{keyFields, keyNumber, keyBits}
 use Rattle.home_care.proofs.Table.{key-width}
-use Rattle.soundness.specs.Sound.{textsAllowed, keyOfTexts}
+use Rattle.soundness.specs.Finding.{textsAllowed, keyOfTexts}
 use Rattle.soundness.proofs.KeyTexts.{regionOf}
 
 -- ---- sizes of what is allowed
@@ -161,9 +159,9 @@ module _ (region asl date id : List ℕ) where
             go false e =
                 absurd (false≢true (sym (region-is ∙ rw e) ∙ sym (el ∙ ap (inRanges regions) en) ∙ is-listed))
 
-        pub key-made : (out : List ℕ) (n : ℕ) → n ≡ rowBytes → num out ≡ rowNumber n (keyFields (keyWith number asl day id)) → search.probeKey rowBytes keyBits out ≡ keyNumber (keyOfTexts region asl date id)
+        pub key-made : (out : List ℕ) (n : ℕ) → num out ≡ rowNumber n (keyFields (keyWith number asl day id)) → search.probeKey n keyBits out ≡ keyNumber (keyOfTexts region asl date id)
         unfolding search.probeKey
-        key-made out n l e =
-            ap (λ (z : ℕ). z / 2 ^ 66) (e ∙ ap (λ (k : ℕ). rowNumber k (keyFields (keyWith number asl day id))) l ∙ ap (λ (w : ℕ). packs (keyFields (keyWith number asl day id)) 0 * 2 ^ (8 * rowBytes - w)) (key-width (keyWith number asl day id) key-fits))
-            ∙ shl-shr (packs (keyFields (keyWith number asl day id)) 0) 66
+        key-made out n e =
+            ap (λ (z : ℕ). z / 2 ^ (8 * n - keyBits)) (e ∙ ap (λ (k : ℕ). packs (keyFields (keyWith number asl day id)) 0 * 2 ^ (8 * n - k)) (key-width (keyWith number asl day id) key-fits))
+            ∙ shl-shr (packs (keyFields (keyWith number asl day id)) 0) (8 * n - keyBits)
             ∙ ap₂ (λ (a d : ℕ). keyNumber (keyWith a asl d id)) number-is (day-read .1)

@@ -1,4 +1,4 @@
--- What soundness means of the home-care register: "some valid state has exactly these bytes".
+-- What soundness means of the home-care register (RULES.md, 5 Sound means): some valid state has exactly these bytes.
 use Prim.Native.Nat.{ℕ, _-_, _≤_}
 use mathlib.Core.Path.{_≡_}
 use mathlib.Core.Logic.{_↔_}
@@ -10,29 +10,46 @@ use borrow.Author.Tests.{le-leb}
 use Rattle.laws.specs.Lists.{all}
 use Rattle.model.specs.Flow.{State, empty}
 use Rattle.rows.specs.Packing.{each, Fit}
-use Rattle.register.specs.Layout.{room}
+use Rattle.register.specs.RoomAndEmptying.{room}
 use Rattle.register.specs.State.{stateOf}
 use Rattle.register.specs.Sound.{ascending, valid}
 use Rattle.register.specs.Stored.{Stored}
 use Rattle.register.proofs.States.{stored-empty}
 use Rattle.register.proofs.SoundLaws.{sound-of, sound-stored, sound-valid}
-use Rattle.home_care.specs.Row.{siad}
-use Rattle.home_care.proofs.Laid.{laid-siad}
-use Rattle.soundness.specs.Sound.{siadRules, isSound}
+use Rattle.home_care.specs.Row.{rowBytes, homeCare, siad}
+use Rattle.home_care.specs.Fits.{RowWidth}
+use Rattle.home_care.proofs.Laid.{laid-wide, row-width, widest, widest-width}
+use Rattle.soundness.specs.Sound.{homeCareRules, siadRules, isSoundWide, isSound}
 
--- sound: some valid state has exactly these bytes
+-- in rows of any width that has the fields
+module _ (w : ℕ) (wide : RowWidth w) where
+  -- sound: some valid state has exactly these bytes
+  pub wide-iff : (reg : List ℕ) → Fit (each 8 reg) → isSoundWide w reg ≡ true ↔ ((s : State ℕ ℕ) × Stored (homeCare w) reg s × (valid (homeCare w) (homeCareRules w) (length reg) s ≡ true))
+  wide-iff reg f = (
+    λ h. (stateOf (homeCare w) reg, sound-stored (homeCare w) (laid-wide w wide) (homeCareRules w) reg f h, sound-valid (homeCare w) (laid-wide w wide) (homeCareRules w) reg f h),
+    λ v. sound-of (homeCare w) (laid-wide w wide) (homeCareRules w) reg (v .0) (v .1) (v .2),
+  )
+
+  -- R31: "An emptied register is zero in every byte; it is sound"
+  pub wide-zero : (n : ℕ) → 4 ≤ n → isSoundWide w (replicate n 0) ≡ true
+  unfolding all ascending
+  wide-zero n h =
+      sound-of (homeCare w) (laid-wide w wide) (homeCareRules w) (replicate n 0) empty (stored-empty (homeCare w) n h)
+      (rw (le-leb 0 (room (homeCare w) (length (replicate {A = ℕ} n 0))) (omega arith)))
+
+-- in the register's own rows
 pub sound-iff : (reg : List ℕ) → Fit (each 8 reg) → isSound reg ≡ true ↔ ((s : State ℕ ℕ) × Stored siad reg s × (valid siad siadRules (length reg) s ≡ true))
 unfolding isSound
-sound-iff reg f = (
-  λ h. (stateOf siad reg, sound-stored siad laid-siad siadRules reg f h, sound-valid siad laid-siad siadRules reg f h),
-  λ v. sound-of siad laid-siad siadRules reg (v .0) (v .1) (v .2),
-)
+sound-iff reg f = wide-iff rowBytes row-width reg f
 
 pub sound-is-stored : (reg : List ℕ) → Fit (each 8 reg) → isSound reg ≡ true → Stored siad reg (stateOf siad reg)
 unfolding isSound
-sound-is-stored reg f h = sound-stored siad laid-siad siadRules reg f h
+sound-is-stored reg f h = sound-stored siad (laid-wide rowBytes row-width) siadRules reg f h
 
--- "A zero register .. is sound"
 pub zero-sound : (n : ℕ) → 4 ≤ n → isSound (replicate n 0) ≡ true
-unfolding isSound all ascending
-zero-sound n h = sound-of siad laid-siad siadRules (replicate n 0) empty (stored-empty siad n h) (rw (le-leb 0 (room siad (length (replicate {A = ℕ} n 0))) (omega arith)))
+unfolding isSound
+zero-sound n h = wide-zero rowBytes row-width n h
+
+-- and in the widest
+pub zero-widest : (n : ℕ) → 4 ≤ n → isSoundWide widest (replicate n 0) ≡ true
+zero-widest n h = wide-zero widest widest-width n h

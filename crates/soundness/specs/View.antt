@@ -1,9 +1,9 @@
 -- What the code's answers say.
-use Rattle.soundness.specs.Sound.{Found}
+use Rattle.soundness.specs.Finding.{Found}
 use Rattle.soundness.specs.declared.find.Lookup.{Lookup}
 use Rattle.soundness.specs.declared.find.Lookup.the-variants.{At, Unsound, Nowhere}
 
--- the paper's number and place for each answer of finding
+-- the number and the place for each answer of finding (C9 to C12)
 abbrev pub viewFind : Lookup → Found
 viewFind (At p) = record { answer = 0; place = p }
 viewFind Unsound = record { answer = 3; place = 0 }

@@ -1,7 +1,7 @@
-// Finding a case by the texts of its key (document 01, "What is built").
+// Finding a case by the texts of its key (RULES.md, C9 to C13).
 ghost use mathlib.Core.Path.{_≡_};
 ghost use mathlib.Core.Bool.{true, cond, _&&_};
-ghost use Prim.Native.Nat.{_≤_};
+ghost use Prim.Native.Nat.{_*_, _≤_};
 ghost use lib.Dec.{eqb, ltb};
 ghost use lib.ListN.{length};
 ghost use Rattle.laws.specs.Decimal.{decimal, isDigit};
@@ -12,8 +12,9 @@ ghost use Rattle.register.specs.Layout.{rowAt, casesHeld};
 ghost use Rattle.register.specs.State.{stateOf};
 ghost use Rattle.register.specs.Search.{probeKey};
 ghost use Rattle.register.specs.Sound.{ascending};
-ghost use Rattle.home_care.specs.Row.{rowBytes, keyBits, keyNumber, siad};
-ghost use Rattle.soundness.specs.Sound.{textsAllowed, keyOfTexts, found};
+ghost use Rattle.home_care.specs.Row.{keyBits, keyNumber, homeCare};
+ghost use Rattle.home_care.specs.Fits.{RowWidth};
+ghost use Rattle.soundness.specs.Finding.{textsAllowed, keyOfTexts, found};
 ghost use Rattle.soundness.specs.View.{viewFind};
 use crate::sound::sound;
 use codes::digits::read_digits;
@@ -44,20 +45,23 @@ fn region_of(s: &[u8]) -> u64
     read.number
 }
 
-// The case with the probe's key.
-fn find_key(reg: &[u8], probe: &[u8]) -> Lookup
-    requires { ⌜ (4 ≤ length (now reg)) × (rowAt siad (casesHeld (now reg)) ≤ length (now reg)) × (length (now probe) ≡ rowBytes) ⌝ }
-    ensures { λ r. ⌜ (ascending (stateOf siad (now (reg .entry)) .cases) ≡ true
-        → viewFind r ≡ cond (has (probeKey rowBytes keyBits (now (probe .entry))) (stateOf siad (now (reg .entry)) .cases))
-        (record { answer = 0; place = rowAt siad (length (keep (λ k. ltb k (probeKey rowBytes keyBits (now (probe .entry)))) (stateOf siad (now (reg .entry)) .cases))) })
+// The case with the probe's key, where rows have w bytes.
+fn find_key(reg: &[u8], w: usize, probe: &[u8]) -> Lookup
+    requires { ⌜ RowWidth w × (4 ≤ length (now reg)) × (rowAt (homeCare w) (casesHeld (now reg)) ≤ length (now reg)) × (length (now probe) ≡ w) ⌝ }
+    ensures { λ r. ⌜ (ascending (stateOf (homeCare w) (now (reg .entry)) .cases) ≡ true
+        → viewFind r ≡ cond (has (probeKey w keyBits (now (probe .entry))) (stateOf (homeCare w) (now (reg .entry)) .cases))
+        (record {
+          answer = 0;
+          place = rowAt (homeCare w) (length (keep (λ k. ltb k (probeKey w keyBits (now (probe .entry)))) (stateOf (homeCare w) (now (reg .entry)) .cases)));
+        })
         (record { answer = 30; place = 0 })) ⌝ }
 {
     let cases = count(reg, 0);
-    let i = place(reg, ROW, 0, cases, probe, CASE_KEY, 0);
-    if !stands(reg, ROW, i, cases, probe, CASE_KEY) {
+    let i = place(reg, w, 0, cases, probe, CASE_KEY, 0);
+    if !stands(reg, w, i, cases, probe, CASE_KEY) {
         return Lookup::Nowhere;
     }
-    Lookup::At(4 + ROW * i)
+    Lookup::At(4 + w * i)
 }
 
 // The probe row of the texts' key, where they are allowed.
@@ -69,16 +73,17 @@ fn probe_of(
     date: &[u8],
     id: &[u8],
 ) -> bool
-    requires { ⌜ Firsts (now t) × (length (now out) ≡ rowBytes) ⌝ }
+    requires { ⌜ Firsts (now t) × (keyBits ≤ 8 * length (now out)) ⌝ }
     ensures { λ r. ⌜ (r ≡ textsAllowed (now (region .entry)) (now (asl .entry)) (now (date .entry)) (now (id .entry)))
-        × (r ≡ true → probeKey rowBytes keyBits (now (out .exit)) ≡ keyNumber (keyOfTexts (now (region .entry)) (now (asl .entry)) (now (date .entry)) (now (id .entry)))) ⌝ }
+        × (r ≡ true → probeKey (length (now (out .entry))) keyBits (now (out .exit))
+        ≡ keyNumber (keyOfTexts (now (region .entry)) (now (asl .entry)) (now (date .entry)) (now (id .entry)))) ⌝ }
 {
     if (asl.len() != 3) | ((date.len() != 10) | (id.len() != 88)) {
         return false;
     }
     let number = region_of(region);
-    if !(codes::lists::is_region(number)
-        & (codes::chars::all_alnum(asl) & codes::chars::all_id(id))) {
+    if !(codes::code_lists::is_region(number)
+        & (codes::characters::all_alnum(asl) & codes::characters::all_id(id))) {
         return false;
     }
     let read = days::dates::read_date(t, date, 0);
@@ -110,5 +115,5 @@ pub fn find(
     if !probe_of(t, &mut probe, region, asl, date, id) {
         return Lookup::Nowhere;
     }
-    find_key(reg, &probe)
+    find_key(reg, ROW, &probe)
 }

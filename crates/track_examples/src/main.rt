@@ -1,11 +1,13 @@
-// The XML examples of document 000 (4.5.1 and 4.6.1), one after the other on the input, with the line breaks that the page put into long values removed and
-// `PresaInCarico` for `PresainCarico`: prints the fields that a person reads there.
+// The XML examples of SIAD 6.4 (4.5.1 and 4.6.1), one after the other on the input, with the line breaks that the page put into long values removed and
+// `PresaInCarico` for `PresainCarico`: prints the fields that a person reads there. Each is held against its schema first, as a file that is taken is.
 use markup::Cursor;
 use markup::Move;
 use markup::bytes::part;
 use nodes::Node;
+use nodes::Six;
 use nodes::Span;
 use nodes::children::child;
+use schema::file::ShapeAnswer;
 use tracks::events::EventsRead;
 use tracks::events::events;
 use tracks::record::AdmissionRead;
@@ -13,7 +15,15 @@ use tracks::record::HeadRead;
 use tracks::record::admission;
 use tracks::record::head;
 use tracks::record::top_of;
+use tracks::shapes::shape_of;
 ghost use Rattle.days.specs.Table.{Firsts};
+ghost use Rattle.track_examples.specs.FirstRecord.{IsFirst};
+
+// The children of a file's first record, and the place past the file's root.
+pub enum First {
+    Record { top: Six, next: usize },
+    Nothing,
+}
 
 fn line() {
     io::write_all(1, b"\n");
@@ -115,32 +125,48 @@ fn show_events(e: EventsRead, out: [u64; 128]) {
     }
 }
 
+// The first record of the file whose root stands at a place, where that file is of a track's shape.
+fn first_record(track: u64, s: &[u8], root: usize) -> First
+    ensures { λ r. ⌜ IsFirst track (now (s .entry)) r ⌝ }
+{
+    let here = Cursor { at: root };
+    let Move::To(end) = here.element(s, 12) else {
+        return First::Nothing;
+    };
+    let ShapeAnswer::Fine(_) = shape_of(track, s, root) else {
+        return First::Nothing;
+    };
+    let root_node = Node {
+        at: root,
+        levels: 12,
+    };
+    let one = child(s, root_node, b"Assistenza");
+    if one.levels != 11 {
+        return First::Nothing;
+    }
+    let walked = top_of(s, one.at);
+    let top = walked.found;
+    First::Record { top, next: end.at }
+}
+
 fn run(t: &[u32; 2400], s: &[u8])
     requires { ⌜ Firsts (now t) ⌝ }
 {
-    let top = Cursor { at: 0 };
-    let Move::To(end) = top.element(s, 12) else {
+    let First::Record { top, next } = first_record(1, s, 0) else {
         return;
     };
-    let Move::To(next) = end.misc(s) else {
+    show_head(s, head(t, s, top));
+    show_admission(s, admission(s, top));
+    let between = Cursor { at: next };
+    let Move::To(second) = between.misc(s) else {
         return;
     };
-    let one = child(s, Node { at: 0, levels: 12 }, b"Assistenza");
-    let first = top_of(s, one.at);
-    show_head(s, head(t, s, first.found));
-    show_admission(s, admission(s, first.found));
-    let two = child(
-        s,
-        Node {
-            at: next.at,
-            levels: 12,
-        },
-        b"Assistenza",
-    );
-    let second = top_of(s, two.at);
-    show_head(s, head(t, s, second.found));
+    let First::Record { top: other, .. } = first_record(2, s, second.at) else {
+        return;
+    };
+    show_head(s, head(t, s, other));
     let mut out = [0u64; 128];
-    let e = events(t, s, second.found, &mut out);
+    let e = events(t, s, other, &mut out);
     show_events(e, out);
 }
 

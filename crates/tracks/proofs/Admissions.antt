@@ -9,10 +9,8 @@ use native.Mathlib.Omega.{arith}
 use lib.Dec.{leb}
 use borrow.Author.Tests.{leb-true, le-leb}
 use Rattle.laws.specs.Decimal.{decimalAfter, decimal}
-use Rattle.laws.specs.Lists.{all, same}
-use Rattle.laws.specs.Text.{bytes}
-use Rattle.codes.specs.Ranges.{Range, inRanges}
-use Rattle.codes.specs.Chars.{letters, alnums}
+use Rattle.laws.specs.Lists.{all, same, bytes}
+use Rattle.codes.specs.CodesAndCharacters.{Range, inRanges, letters, alnums}
 use Rattle.markup.specs.Elements.{Tree}
 use Rattle.schema.specs.Texts.{Texts, chars, fitsText}
 use Rattle.schema.specs.Schema.{Particle, Node, leaf, group, another, Nodes, none, _▸_}
@@ -23,7 +21,7 @@ use Rattle.nodes.proofs.Legible.{Legible}
 use Rattle.schemas.specs.FieldTexts
 use Rattle.schemas.specs.Parts
 use Rattle.schemas.specs.Track1
-use Rattle.tracks.specs.Record.{_▹_, admissionOf, headOf}
+use Rattle.tracks.specs.RecordFields.{_▹_, admissionOf, headOf}
 use Rattle.tracks.specs.WellRead.{WellHead, WellCase, WellResidence, WellAdmission, WellPrevalente, Spelled}
 use Rattle.tracks.proofs.Sets.{written-below}
 use Rattle.tracks.proofs.Texts.{spelled, one-digit, wide-fit, four-digits}

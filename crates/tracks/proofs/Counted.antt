@@ -7,15 +7,14 @@ use native.Mathlib.Omega.{arith}
 use lib.Dec.{eqb}
 use lib.ListN.{length}
 use borrow.Author.Tests.{le-ltb}
-use Rattle.laws.specs.Lists.{any, same}
-use Rattle.laws.specs.Text.{bytes}
-use Rattle.markup.specs.Reading.Read.{read}
+use Rattle.laws.specs.Lists.{any, same, bytes}
+use Rattle.markup.specs.NamesAndValues.Read.{read}
 use Rattle.markup.specs.Elements.{Tree, element, mk, kids}
 use Rattle.markup.specs.Elements.Inside.{end}
 use Rattle.reading.specs.Everywhere.{Every}
 use Rattle.schema.specs.Schema.{Node}
 use Rattle.schema.specs.Shape.{faultOf, recordsOf, Shape, fine, faulty, shapeOf}
-use Rattle.schema.specs.Counted.{countOf, firstOver, heldBy, heldOf}
+use Rattle.schema.specs.CountedElements.{countOf, firstOver, Held, good, over, heldBy, heldOf, heldAnswer, isFaulty}
 use Rattle.nodes.proofs.Present.{nodeOf, owed}
 use Rattle.nodes.proofs.Counting.{unmarked, hollow-none, sumOver, eachNode, count-named, count-child}
 use Rattle.nodes.proofs.Placed.{Placed, all-placed}
@@ -23,7 +22,8 @@ use Rattle.nodes.proofs.Records.{shaped}
 use Rattle.schemas.specs.Track1
 use Rattle.schemas.specs.Track2
 use Rattle.schemas.specs.Schemas.{schemaOf}
-use Rattle.tracks.specs.Record.{_▹_, saidOf, isEvent, saidIn, allSaid, tooMany, crowdedIn}
+use Rattle.tracks.specs.RecordFields.{_▹_, saidOf, isEvent, saidIn, allSaid}
+use Rattle.tracks.specs.TooMany.{tooMany, crowdedIn}
 use Rattle.tracks.proofs.Shaped.{Clean, far, clean, group-in, events-2}
 
 -- ---- one record
@@ -94,3 +94,15 @@ module _ (t : Tree) (d : ℕ) (l m : List ℕ) (e : element d l ≡ read t m) wh
           → heldBy x (firstOver (schemaOf track .each) (schemaOf track .most) 0 (recordsOf (schemaOf track) t)) ≡ heldBy x (crowdedIn track t)
       go (fine n) f = ap (heldBy (fine n)) (crowded-by track n f)
       go (faulty i z) f = refl
+
+-- answers 6 and 7 by their numbers
+pub answered : {h : Held} (s : Shape) (k : ℕ) → h ≡ heldBy s k → (h ≡ heldBy s k) × (heldAnswer h ≡ cond (isFaulty s) 6 (cond (eqb k 0) 0 7))
+answered s k e = (e, ap heldAnswer e ∙ by s)
+  where
+    by : (s : Shape) → heldAnswer (heldBy s k) ≡ cond (isFaulty s) 6 (cond (eqb k 0) 0 7)
+    by (faulty i z) = refl
+    by (fine n) = split-good (eqb k 0)
+      where
+        split-good : (b : Bool) → heldAnswer (cond b (good n) (over k)) ≡ cond b 0 7
+        split-good true = refl
+        split-good false = refl

@@ -3,10 +3,8 @@ use Prim.Native.Nat.{ℕ}
 use mathlib.Core.Path.{_≡_, refl}
 use mathlib.Core.Bool.{Bool, true, false, cond, _||_, false≢true}
 use mathlib.Core.List.{List, [], _∷_}
-use native.Mathlib.Omega.{arith}
-use Rattle.laws.specs.Lists.{any, same}
-use Rattle.laws.specs.Text.{bytes}
-use Rattle.codes.specs.Codes.{revaluation}
+use Rattle.laws.specs.Lists.{any, same, bytes}
+use Rattle.codes.specs.CodesAndCharacters.{revaluation}
 use Rattle.markup.specs.Elements.{Tree}
 use Rattle.reading.specs.Everywhere.{Every}
 use Rattle.reading.proofs.Places.{every-map}
@@ -15,8 +13,9 @@ use Rattle.nodes.proofs.Taken.{Meets, Taken}
 use Rattle.nodes.proofs.Present.{nodeOf, only, absent, owed, by-node}
 use Rattle.nodes.proofs.Fields.{attrNamed}
 use Rattle.schemas.specs.Track2
-use Rattle.tracks.specs.Wordings
-use Rattle.tracks.specs.Wordings.{Wording, wordings, wordingIn}
+use Rattle.tracks.specs.EventElements
+use Rattle.tracks.specs.EventElements.{Wording, wordings, wordingIn}
+use Rattle.tracks.specs.Typed.{Each}
 use Rattle.tracks.proofs.Worded.{Field, in-child, in-attribute, Tells}
 
 -- a Valutazione stands in no other event than a Rivalutazione
@@ -31,11 +30,7 @@ pub record Kind (w : Wording) : Type 0 where
   pub tells : Tells w head nodes
   pub values : Valued (w .kind) nodes
 
-abbrev pub Each : (Wording → Type 0) → List Wording → Type 0
-Each q [] = Unit
-Each q (w ∷ ws) = q w × Each q ws
-
-rivalutazione : Kind Wordings.rivalutazione
+rivalutazione : Kind EventElements.rivalutazione
 unfolding nodeOf owed attrNamed same
 rivalutazione =
     record {
@@ -46,7 +41,7 @@ rivalutazione =
       values = valued refl refl;
     }
 
-erogazione : Kind Wordings.erogazione
+erogazione : Kind EventElements.erogazione
 unfolding nodeOf owed attrNamed same
 erogazione =
     record {
@@ -57,7 +52,7 @@ erogazione =
       values = unvalued refl;
     }
 
-sospensione : Kind Wordings.sospensione
+sospensione : Kind EventElements.sospensione
 unfolding nodeOf owed attrNamed same
 sospensione =
     record {
@@ -68,7 +63,7 @@ sospensione =
       values = unvalued refl;
     }
 
-conclusione : Kind Wordings.conclusione
+conclusione : Kind EventElements.conclusione
 unfolding nodeOf owed attrNamed same
 conclusione =
     record {

@@ -2,8 +2,7 @@
 use mathlib.Core.Path.{_≡_, refl, sym, ap, _∙_}
 use mathlib.Core.Bool.{Bool, true, false, cond, true≢false}
 use mathlib.Core.List.{List, [], _∷_}
-use Rattle.laws.specs.Lists.{same}
-use Rattle.laws.specs.Text.{bytes}
+use Rattle.laws.specs.Lists.{same, bytes}
 use Rattle.markup.specs.Elements.{Tree, kids}
 use Rattle.reading.specs.Everywhere.{Every}
 use Rattle.schema.specs.Schema.{Particle, group, Nodes}
@@ -14,12 +13,13 @@ use Rattle.nodes.proofs.Legible.{Legible}
 use Rattle.schemas.specs.Parts
 use Rattle.schemas.specs.Track2
 use Rattle.home_care.specs.Row.{eventNumber}
-use Rattle.tracks.specs.Wordings.{Wording, wordings}
-use Rattle.tracks.specs.Record.{_▹_, headOf, eventBy, saidWith, saidOf, isEvent, saidIn, allSaid}
+use Rattle.tracks.specs.EventElements.{Wording, wordings}
+use Rattle.tracks.specs.RecordFields.{_▹_, headOf, eventBy, saidWith, saidOf, isEvent, saidIn, allSaid}
 use Rattle.tracks.specs.WellRead.{WellHead, WellSaid, WellEach}
 use Rattle.tracks.proofs.Paths.{Clean, far, head-read, prevalente-read}
-use Rattle.tracks.proofs.Worded.{Worded, worded}
-use Rattle.tracks.proofs.EachKind.{Valued, Kind, Each, kinds, by-name, each-child}
+use Rattle.tracks.specs.Typed.{Worded, Each}
+use Rattle.tracks.proofs.Worded.{worded}
+use Rattle.tracks.proofs.EachKind.{Valued, Kind, kinds, by-name, each-child}
 
 -- ---- an event with its prevalente
 

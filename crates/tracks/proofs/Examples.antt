@@ -4,9 +4,8 @@ use mathlib.Core.Path.{_≡_, refl}
 use mathlib.Core.List.{List, [], _∷_, map}
 use lib.ListN.{replicate}
 use Rattle.laws.specs.Decimal.{decimalAfter}
-use Rattle.laws.specs.Lists.{all, any, same}
-use Rattle.laws.specs.Text.{bytes}
-use Rattle.days.specs.Calendar.{firstOf}
+use Rattle.laws.specs.Lists.{all, any, same, bytes}
+use Rattle.days.specs.DayNumbers.{firstOf}
 use Rattle.days.specs.Dates.{isDate, dayOf}
 use Rattle.markup.specs.Tags.{Pair}
 use Rattle.markup.specs.Elements.{Inside, Tree, mk}
@@ -18,8 +17,8 @@ use Rattle.schemas.specs.Track1
 use Rattle.schemas.specs.Track2
 use Rattle.rows.specs.Packing.{packs}
 use Rattle.home_care.specs.Row.{never, eventNumber}
-use Rattle.tracks.specs.Wordings.{wordingIn}
-use Rattle.tracks.specs.Record.{admissionOf, saidIn, allSaid}
+use Rattle.tracks.specs.EventElements.{wordingIn}
+use Rattle.tracks.specs.RecordFields.{admissionOf, saidIn, allSaid}
 
 abbrev _is_ : string.String → string.String → Pair
 k is v = record { key = bytes k; val = bytes v }

@@ -1,4 +1,4 @@
--- What is well read fits a row's fields (document 01, "The register", the table).
+-- What is well read fits a row's fields (RULES.md, R10 to R29).
 use Prim.Native.Nat.{ℕ, _^_, _≤_, _<_}
 use Prim.Native.Char.{code}
 use mathlib.Core.Path.{_≡_, refl}
@@ -10,14 +10,11 @@ use lib.Dec.{eqb, ltb, leb}
 use lib.ListN.{length, drop, replicate, take-append-drop, length-append, length-take, length-replicate}
 use borrow.Author.Tests.{leb-true, eqb-true, ltb-true, lt-ltb}
 use Rattle.laws.specs.Lists.{all}
-use Rattle.laws.proofs.Truth.{and-left, and-right}
+use Rattle.laws.proofs.Truth.{and-left, and-right, either}
 use Rattle.laws.proofs.Lists.{all-join, all-left, all-map}
-use Rattle.codes.specs.Ranges.{Range, inRanges}
-use Rattle.codes.specs.Chars.{alnums, idChars}
-use Rattle.codes.specs.Codes.{regions}
+use Rattle.codes.specs.CodesAndCharacters.{Range, inRanges, alnums, idChars, regions}
 use Rattle.codes.proofs.Ranges.{ranges-below}
 use Rattle.markup.specs.Bytes.{isAllowed, inFile, isText}
-use Rattle.nodes.proofs.Same.{either}
 use Rattle.rows.specs.Packing.{each, Fit}
 use Rattle.home_care.specs.Row.{Key, Case}
 use Rattle.home_care.specs.Fits.{KeyFits, CaseFits}

@@ -1,19 +1,23 @@
--- The events of Eventi's children one after the other: a tally and a buffer that each child moves on.
+-- The events of Eventi's children one after the other: a tally and a buffer that each child moves on, and the children ahead worded as their names say.
 use Prim.Native.Nat.{ℕ, suc, _+_}
-use mathlib.Core.Path.{_≡_, refl, sym, ap, _∙_}
+use mathlib.Core.Path.{_≡_, refl, sym, ap, _∙_, subst}
 use mathlib.Core.Bool.{Bool, true, false, cond, _||_}
 use mathlib.Core.List.{List, [], _∷_, map}
 use native.Mathlib.Numerals.{add-one}
 use native.Mathlib.Omega.{arith}
 use lib.ListN.{length, set, length-set}
 use Rattle.laws.specs.Lists.{any}
-use Rattle.markup.specs.Elements.{Inside, Tree, kids}
+use Rattle.markup.specs.NamesAndValues.Read.{read}
+use Rattle.markup.specs.Elements.{Inside, Tree, element, kids}
 use Rattle.markup.specs.Elements.Inside.{end}
+use Rattle.markup.specs.View.{left}
+use Rattle.reading.specs.Everywhere.{Every}
+use Rattle.nodes.specs.Stands.{Holds, Ahead}
 use Rattle.home_care.specs.Record.{Said}
 use Rattle.home_care.specs.Anomalies.{zeroWritten, badConferma}
-use Rattle.tracks.specs.Record.{isEvent}
-use Rattle.tracks.specs.Defaults.{saidElse, saidElseIn, told, happenedAt, counted, kept}
-use Rattle.tracks.specs.View.{laid, IsEvents}
+use Rattle.tracks.specs.RecordFields.{saidOf, isEvent, saidIn}
+use Rattle.tracks.specs.Typed.{WordedByName}
+use Rattle.tracks.specs.View.{laid, IsEvents, told, happenedAt, counted, kept}
 use Rattle.tracks.specs.declared.events.EventsRead.{EventsRead}
 use Rattle.tracks.specs.declared.events.Happened.{Happened}
 use Rattle.tracks.specs.declared.events.Happened.the-variants as happened
@@ -68,16 +72,16 @@ abbrev sum : EventsRead → List ℕ → List Said → Gathered
 sum r b es =
     gathered (tallied (r .count + length es) (r .«bad_conferma» || any badConferma es) (r .«zero_prevalente» || any zeroWritten es)) (stored (r .count) b (numbers es))
 
-gather-is : (r : EventsRead) (b : List ℕ) (ts : List Tree) → gather r b ts ≡ sum r b (saidElseIn ts)
-unfolding gather saidElseIn stored any happenedAt
+gather-is : (r : EventsRead) (b : List ℕ) (ts : List Tree) → gather r b ts ≡ sum r b (saidIn ts)
+unfolding gather saidIn stored any happenedAt
 gather-is r b [] = let z : r .count ≡ r .count + 0 = omega arith in same-tally b z (sym (or-false (r .«bad_conferma»))) (sym (or-false (r .«zero_prevalente»)))
 gather-is r b (t ∷ ts) = go (isEvent t) (λ q c. gather-is q c ts)
   where
     e : Said
-    e = saidElse t
+    e = saidOf t
 
     es : List Said
-    es = saidElseIn ts
+    es = saidIn ts
 
     go : (p : Bool) → ((q : EventsRead) (c : List ℕ) → gather q c ts ≡ sum q c es)
         → gather (counted (cond p (told e) happened.Other) r) (kept (cond p (told e) happened.Other) (r .count) b) ts ≡ sum r b (cond p (e ∷ es) es)
@@ -104,13 +108,13 @@ stored-is [] (e ∷ es) = stored-none 1 es
 stored-is (x ∷ b) [] = refl
 stored-is (x ∷ b) (e ∷ es) = stored-suc 0 e b es ∙ ap (λ (l : List ℕ). e ∷ l) (stored-is b es)
 
-pub gather-all : {r : EventsRead} {a : List ℕ} (b : List ℕ) (ts : List Tree) → gather (tallied 0 false false) b ts ≡ gathered r a → IsEvents r b a (saidElseIn ts)
+pub gather-all : {r : EventsRead} {a : List ℕ} (b : List ℕ) (ts : List Tree) → gather (tallied 0 false false) b ts ≡ gathered r a → IsEvents r b a (saidIn ts)
 gather-all {r} {a} b ts e =
-    let k : gathered r a ≡ sum (tallied 0 false false) b (saidElseIn ts) = sym e ∙ gather-is (tallied 0 false false) b ts in
-    let z : 0 + length (saidElseIn ts) ≡ length (saidElseIn ts) = omega arith in
+    let k : gathered r a ≡ sum (tallied 0 false false) b (saidIn ts) = sym e ∙ gather-is (tallied 0 false false) b ts in
+    let z : 0 + length (saidIn ts) ≡ length (saidIn ts) = omega arith in
     record {
       count = ap (λ (g : Gathered). g .tally .count) k ∙ z;
-      numbers = ap (λ (g : Gathered). g .buffer) k ∙ stored-is b (numbers (saidElseIn ts));
+      numbers = ap (λ (g : Gathered). g .buffer) k ∙ stored-is b (numbers (saidIn ts));
       bad = ap (λ (g : Gathered). g .tally .«bad_conferma») k;
       zero = ap (λ (g : Gathered). g .tally .«zero_prevalente») k;
     }
@@ -120,6 +124,26 @@ nil-laid : (b : List ℕ) → b ≡ laid [] b
 nil-laid [] = refl
 nil-laid (x ∷ xs) = refl
 
-pub none-told : {i : Inside} (b : List ℕ) → i ≡ end → IsEvents (tallied 0 false false) b b (saidElseIn (kids i))
-unfolding saidElseIn any
+pub none-told : {i : Inside} (b : List ℕ) → i ≡ end → IsEvents (tallied 0 false false) b b (saidIn (kids i))
+unfolding saidIn any
 none-told b e = rw e (record { count = refl; numbers = nil-laid b; bad = refl; zero = refl })
+
+-- ---- the children ahead
+
+pub record Ready (d : ℕ) (n l : List ℕ) : Type 0 where
+  pub inside : Inside
+  pub holds : Holds d n l inside
+  pub worded : Every WordedByName (kids inside)
+
+module _ {d : ℕ} {n l : List ℕ} (r : Ready d n l) {m : List ℕ} (a : Ahead d n m (kids (r .inside))) where
+  here-and-on : WordedByName (a .tree) × Every WordedByName (kids (a .more))
+  here-and-on = subst (Every WordedByName) (a .all) (r .worded)
+
+  pub ready-here : WordedByName (a .tree)
+  ready-here = here-and-on .0
+
+  pub ready-past : {k : List ℕ} → read tt k ≡ left (element d m) → Ready d n k
+  ready-past {k} y =
+      let w = rw (a .reads) at y in
+      let e : a .after ≡ k = cc in
+      record { inside = a .more; holds = rw e at (a .holds); worded = here-and-on .1 }

@@ -9,7 +9,7 @@ pub mod WellRead
 pub mod Fits
 pub mod Padded
 pub mod Examples
-pub mod Totals
+pub mod Written
 pub mod Happening
 pub mod Gathering
 pub mod Filling

@@ -7,8 +7,7 @@ use native.Mathlib.Omega.{arith}
 use lib.Dec.{eqb}
 use lib.ListN.{length, take, drop}
 use borrow.Author.Tests.{ne-eqb}
-use Rattle.laws.specs.Lists.{all, any, same}
-use Rattle.laws.specs.Text.{bytes}
+use Rattle.laws.specs.Lists.{all, any, same, bytes}
 use Rattle.laws.proofs.Truth.{and-left, and-right}
 use Rattle.markup.specs.Bytes.{inFile, isText}
 use Rattle.home_care.specs.Record.{padded}
@@ -32,7 +31,7 @@ by-length (a ∷ b ∷ c ∷ d ∷ []) h k = four a b c d
 by-length (a ∷ b ∷ c ∷ d ∷ e ∷ []) h k = five a b c d e
 by-length (a ∷ b ∷ c ∷ d ∷ e ∷ f ∷ t) h k = absurd (omega arith)
 
--- "3 to 5 characters, any that a text may hold", then zeros
+-- V3: "3 to 5 characters that a text may hold, then zeros"
 abbrev pub filled : List ℕ → ℕ → Bool
 filled p n = all (λ b. inFile b && isText b) (take n p) && all (λ b. eqb b 0) (drop n p)
 

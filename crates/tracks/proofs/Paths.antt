@@ -3,10 +3,9 @@ use Prim.Native.Nat.{ℕ, _<_}
 use mathlib.Core.Path.{_≡_, refl}
 use mathlib.Core.Bool.{true}
 use mathlib.Core.List.{List, [], _∷_}
-use Rattle.laws.specs.Lists.{same}
-use Rattle.laws.specs.Text.{bytes}
-use Rattle.codes.specs.Chars.{alnums, idChars, anyChars}
-use Rattle.days.specs.Calendar.{dayCount}
+use Rattle.laws.specs.Lists.{same, bytes}
+use Rattle.codes.specs.CodesAndCharacters.{alnums, idChars, anyChars}
+use Rattle.days.specs.DayNumbers.{dayCount}
 use Rattle.days.specs.Dates.{dayOf}
 use Rattle.markup.specs.Elements.{Tree}
 use Rattle.schema.specs.Texts.{Texts, date, fitsText}
@@ -18,7 +17,7 @@ use Rattle.nodes.proofs.Fields.{given, attrNamed, leaf-text, leaf-attrs, attr-o
 use Rattle.nodes.proofs.Legible.{Legible}
 use Rattle.schemas.specs.FieldTexts
 use Rattle.schemas.specs.Parts
-use Rattle.tracks.specs.Record.{_▹_, headOf}
+use Rattle.tracks.specs.RecordFields.{_▹_, headOf}
 use Rattle.tracks.specs.WellRead.{WellHead, WellPrevalente}
 use Rattle.tracks.proofs.Texts.{chars-fit, spelled, one-char, wide-fit, date-fit}
 

@@ -1,21 +1,18 @@
 -- What a record without a fault has at the places that are read: each text is of its type.
-use Prim.Native.Nat.{ℕ, _-_, _<_, _≤_}
+use Prim.Native.Nat.{ℕ, _-_, _<_}
 use Prim.Native.Char.{code}
 use mathlib.Core.Path.{_≡_, refl}
 use mathlib.Core.Bool.{Bool, true, false, cond}
-use mathlib.Core.List.{List, []}
+use mathlib.Core.List.{List, [], _∷_}
 use native.Mathlib.Omega.{arith}
 use lib.Dec.{leb, eqb}
 use lib.ListN.{length}
 use borrow.Author.Tests.{leb-true}
-use Rattle.laws.specs.Decimal.{decimalAfter, decimal}
-use Rattle.laws.specs.Lists.{same}
-use Rattle.laws.specs.Text.{bytes}
-use Rattle.codes.specs.Ranges.{Range, inRanges}
-use Rattle.codes.specs.Chars.{alnums, idChars}
-use Rattle.codes.proofs.Decimals.{digits-below}
+use Rattle.laws.specs.Decimal.{isDigit, decimalAfter, decimal}
+use Rattle.laws.specs.Lists.{all, same, bytes}
+use Rattle.codes.specs.CodesAndCharacters.{Range, inRanges, alnums, idChars}
 use Rattle.days.specs.Dates.{isDate}
-use Rattle.markup.specs.Reading.Read.{read}
+use Rattle.markup.specs.NamesAndValues.Read.{read}
 use Rattle.markup.specs.Elements.{Tree, element}
 use Rattle.schema.specs.Texts.{Texts, chars, date, fitsText}
 use Rattle.schema.specs.Schema.{Attr, Particle, Node, leaf, group, Nodes, none, _▸_}
@@ -23,15 +20,16 @@ use Rattle.schema.specs.Shape.{faultOf}
 use Rattle.nodes.specs.Lookup.{childOf, attrOf, textOf}
 use Rattle.nodes.proofs.Taken.{Meets}
 use Rattle.nodes.proofs.Present.{nodeOf, only, owed, MayLack, lacks, has, child-one, child-maybe, group-attrs}
-use Rattle.nodes.proofs.Fields.{given, attrNamed, leaf-text, attr-one}
+use Rattle.nodes.proofs.Fields.{given, attrNamed, leaf-text, leaf-attrs, attr-one}
 use Rattle.nodes.proofs.Placed.{Placed, all-placed}
 use Rattle.schemas.specs.FieldTexts
 use Rattle.schemas.specs.Parts
 use Rattle.schemas.specs.Track1
 use Rattle.schemas.specs.Track2
-use Rattle.tracks.specs.Record.{_▹_}
+use Rattle.tracks.specs.RecordFields.{_▹_}
+use Rattle.tracks.specs.Typed.{IsNumber, IsScale}
 use Rattle.tracks.specs.View.{eachOf}
-use Rattle.tracks.proofs.Texts.{spelled, one-digit, wide-fit, date-is}
+use Rattle.tracks.proofs.Texts.{chars-fit, spelled, chars-digits, one-digit, region-number, date-is}
 
 -- an element that was read, without a fault by its node
 abbrev pub Clean : Node → Tree → Type 0
@@ -54,34 +52,42 @@ module _ {h : Particle} {ns : Nodes} {t : Tree} (m : Clean (group h ns) t) where
   value-in a e r = attr-one (h .attrs) t (group-attrs Placed far m) (a .named) a e r
 
   -- a scale that may be missing
-  pub scale-in : (x : List ℕ) (d : Particle) (rs : List Range) → nodeOf x ns ≡ only (leaf d (chars rs 1 1)) → ((b : ℕ) → inRanges rs b ≡ true → leb (b - code "0") 3 ≡ true)
-      → decimal (textOf (childOf x t)) ≤ 3
-  unfolding decimalAfter
+  pub scale-in : (x : List ℕ) (d : Particle) (rs : List Range) → nodeOf x ns ≡ only (leaf d (chars rs 1 1))
+      → ((b : ℕ) → inRanges rs b ≡ true → (isDigit b ≡ true) × (leb (b - code "0") 3 ≡ true)) → IsScale (textOf (childOf x t))
+  unfolding decimalAfter all
   scale-in x d rs e h = go (child-maybe Placed far m x (leaf d (chars rs 1 1)) e)
     where
-      go : MayLack Placed (leaf d (chars rs 1 1)) x t → decimal (textOf (childOf x t)) ≤ 3
-      go (lacks u v) = rw v (omega arith)
-      go (has u v) = leb-true (decimal (textOf (childOf x t))) 3 (one-digit rs (λ n. leb n 3) (textOf (childOf x t)) h (leaf-text Placed far v))
+      go : MayLack Placed (leaf d (chars rs 1 1)) x t → IsScale (textOf (childOf x t))
+      go (lacks u v) = rw v (record { number = record { digits = refl; small = omega arith }; most = omega arith })
+      go (has u v) =
+          let y = leaf-text Placed far v in
+          let l = leb-true (decimal (textOf (childOf x t))) 3 (one-digit rs (λ n. leb n 3) (textOf (childOf x t)) (λ b i. h b i .1) y) in
+          record { number = record { digits = chars-digits rs 1 1 (textOf (childOf x t)) (λ b i. h b i .0) y; small = omega (arith, l) }; most = l }
 
 -- ---- the head
 
 pub record HeadShaped (a : Tree) : Type 0 where
-  pub region : decimal (textOf (a ▹ "Erogatore" ▹ "CodiceRegione")) < 10000
+  pub tipo : 0 < length (attrOf (bytes "tipo") (a ▹ "Trasmissione"))
+  pub region : IsNumber (textOf (a ▹ "Erogatore" ▹ "CodiceRegione"))
   pub asl : length (textOf (a ▹ "Erogatore" ▹ "CodiceASL")) ≡ 3
   pub taken : isDate (attrOf (bytes "data") (a ▹ "Eventi" ▹ "PresaInCarico")) ≡ true
   pub id : length (textOf (a ▹ "Eventi" ▹ "PresaInCarico" ▹ "Id_Rec")) ≡ 88
 
-region-below : (t : List ℕ) → fitsText FieldTexts.regioneErogazione t ≡ true → decimal t < 10000
-region-below t e = let w = wide-fit 3 _ t e .0 in let b = digits-below t (w .bytes) in let q = rw (w .long) at b in omega arith
-
-module _ (a : Tree) (erogatore : Clean Parts.erogatore (a ▹ "Erogatore")) {h : Particle}
+module _ (a : Tree) (trasmissione : Clean Parts.trasmissione (a ▹ "Trasmissione")) (erogatore : Clean Parts.erogatore (a ▹ "Erogatore")) {h : Particle}
     (presa : Clean (group h (Parts.one "Id_Rec" FieldTexts.idRec ▸ none)) (a ▹ "Eventi" ▹ "PresaInCarico"))
     (dated : attrNamed (bytes "data") (h .attrs) ≡ given (Parts.required "data" date)) where
+  typed : fitsText FieldTexts.tipoTrasmissione (attrOf (bytes "tipo") (a ▹ "Trasmissione")) ≡ true
+  unfolding attrNamed same
+  typed =
+      attr-one (Parts.required "tipo" FieldTexts.tipoTrasmissione ∷ []) (a ▹ "Trasmissione") (leaf-attrs Placed far trasmissione) (bytes "tipo")
+      (Parts.required "tipo" FieldTexts.tipoTrasmissione) refl refl
+
   head-by : HeadShaped a
   unfolding nodeOf owed same
   head-by =
       record {
-        region = region-below (textOf (a ▹ "Erogatore" ▹ "CodiceRegione")) (leaf-in erogatore (bytes "CodiceRegione") _ FieldTexts.regioneErogazione refl refl);
+        tipo = let c = chars-fit _ 1 1 (attrOf (bytes "tipo") (a ▹ "Trasmissione")) typed .low in omega arith;
+        region = region-number _ (textOf (a ▹ "Erogatore" ▹ "CodiceRegione")) (leaf-in erogatore (bytes "CodiceRegione") _ FieldTexts.regioneErogazione refl refl);
         asl = spelled alnums 3 (textOf (a ▹ "Erogatore" ▹ "CodiceASL")) (leaf-in erogatore (bytes "CodiceASL") _ FieldTexts.codASL refl refl) .long;
         taken = date-is (attrOf (bytes "data") (a ▹ "Eventi" ▹ "PresaInCarico")) (value-in presa (Parts.required "data" date) dated refl);
         id = spelled idChars 88 (textOf (a ▹ "Eventi" ▹ "PresaInCarico" ▹ "Id_Rec")) (leaf-in presa (bytes "Id_Rec") _ FieldTexts.idRec refl refl) .long;
@@ -98,13 +104,13 @@ head-1 : (a : Tree) → Clean Track1.assistenza a → HeadShaped a
 unfolding nodeOf owed attrNamed same
 head-1 a m =
     let es = group-in m (bytes "Eventi") events-1 refl refl in
-    head-by a (group-in m (bytes "Erogatore") Parts.erogatore refl refl) (group-in es (bytes "PresaInCarico") Track1.presaInCarico refl refl) refl
+    head-by a (group-in m (bytes "Trasmissione") Parts.trasmissione refl refl) (group-in m (bytes "Erogatore") Parts.erogatore refl refl) (group-in es (bytes "PresaInCarico") Track1.presaInCarico refl refl) refl
 
 head-2 : (a : Tree) → Clean Track2.assistenza a → HeadShaped a
 unfolding nodeOf owed attrNamed same
 head-2 a m =
     let es = group-in m (bytes "Eventi") events-2 refl refl in
-    head-by a (group-in m (bytes "Erogatore") Parts.erogatore refl refl) (group-in es (bytes "PresaInCarico") Track2.presaInCarico refl refl) refl
+    head-by a (group-in m (bytes "Trasmissione") Parts.trasmissione refl refl) (group-in m (bytes "Erogatore") Parts.erogatore refl refl) (group-in es (bytes "PresaInCarico") Track2.presaInCarico refl refl) refl
 
 pub head-shaped : (track : ℕ) (a : Tree) (d : ℕ) (l m : List ℕ) → element d l ≡ read a m → faultOf (eachOf track) a ≡ 0 → HeadShaped a
 unfolding Track1.track1 Track2.track2

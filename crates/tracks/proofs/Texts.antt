@@ -11,16 +11,16 @@ use borrow.Author.Tests.{leb-true, eqb-true}
 use Rattle.laws.specs.Decimal.{isDigit, decimalAfter, decimal}
 use Rattle.laws.specs.Lists.{all}
 use Rattle.laws.proofs.Truth.{and-left, and-right}
-use Rattle.days.specs.Calendar.{realDay, dayCount}
+use Rattle.days.specs.DayNumbers.{realDay, dayCount}
 use Rattle.days.specs.Dates.{yearText, monthText, dayText, hasDateForm, isDate, dayOf}
 use Rattle.days.proofs.Months.{real}
 use Rattle.days.proofs.Firsts.{day-found}
 use Rattle.laws.proofs.Lists.{all-map}
-use Rattle.codes.specs.Ranges.{Range, inRanges}
-use Rattle.codes.specs.Chars.{digits}
+use Rattle.codes.specs.CodesAndCharacters.{Range, inRanges, digits}
 use Rattle.codes.proofs.Decimals.{digits-below}
 use Rattle.schema.specs.Texts.{chars, number, date, plain, wide, digitsIn, unpadded, fitsText}
 use Rattle.tracks.specs.WellRead.{Spelled}
+use Rattle.tracks.specs.Typed.{IsNumber}
 use Rattle.tracks.proofs.Sets.{digit-in}
 
 -- ---- characters of a set
@@ -58,6 +58,10 @@ one-digit rs q (b ∷ []) h e =
     rw z (h b (and-left (inRanges rs b) true (chars-fit rs 1 1 (b ∷ []) e .bytes)))
 one-digit rs q (b ∷ c ∷ t) h e = let c = chars-fit rs 1 1 (b ∷ c ∷ t) e in absurd (omega (arith, c .high))
 
+pub chars-digits : (rs : List Range) (a z : ℕ) (t : List ℕ) → ((b : ℕ) → inRanges rs b ≡ true → isDigit b ≡ true) → fitsText (chars rs a z) t ≡ true
+    → all isDigit t ≡ true
+chars-digits rs a z t h e = all-map (inRanges rs) isDigit h t (chars-fit rs a z t e .bytes)
+
 -- ---- numbers
 
 digits-number : (rs : List Range) (t : List ℕ) → digitsIn rs t ≡ true → (all isDigit t ≡ true) × (inRanges rs (decimal t) ≡ true)
@@ -69,6 +73,10 @@ pub plain-fit : (rs : List Range) (t : List ℕ) → fitsText (number plain rs) 
 unfolding fitsText
 plain-fit rs t e = digits-number rs t (and-right (unpadded t) (digitsIn rs t) e) .1
 
+pub plain-digits : (rs : List Range) (t : List ℕ) → fitsText (number plain rs) t ≡ true → all isDigit t ≡ true
+unfolding fitsText
+plain-digits rs t e = digits-number rs t (and-right (unpadded t) (digitsIn rs t) e) .0
+
 pub wide-fit : (n : ℕ) (rs : List Range) (t : List ℕ) → fitsText (number (wide n) rs) t ≡ true → Spelled isDigit n t × (inRanges rs (decimal t) ≡ true)
 unfolding fitsText
 wide-fit n rs t e =
@@ -77,6 +85,15 @@ wide-fit n rs t e =
 
 pub four-digits : (t : List ℕ) → fitsText (chars digits 4 4) t ≡ true → decimal t < 10000
 four-digits t e = let s = spelled digits 4 t e in rw (s .long) at (digits-below t (all-map (inRanges digits) isDigit digit-in t (s .bytes)))
+
+pub year-number : (t : List ℕ) → fitsText (chars digits 4 4) t ≡ true → IsNumber t
+year-number t e = record { digits = chars-digits digits 4 4 t digit-in e; small = four-digits t e }
+
+pub region-number : (rs : List Range) (t : List ℕ) → fitsText (number (wide 3) rs) t ≡ true → IsNumber t
+region-number rs t e =
+    let w = wide-fit 3 rs t e .0 in
+    let b = rw (w .long) at (digits-below t (w .bytes)) in
+    record { digits = w .bytes; small = omega arith }
 
 -- ---- dates
 

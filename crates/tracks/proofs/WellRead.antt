@@ -2,7 +2,7 @@
 use Prim.Native.Nat.{ℕ}
 use mathlib.Core.Path.{_≡_}
 use mathlib.Core.List.{List}
-use Rattle.markup.specs.Reading.Read.{read}
+use Rattle.markup.specs.NamesAndValues.Read.{read}
 use Rattle.markup.specs.Elements.{Tree, alone}
 use Rattle.markup.specs.Document.{document}
 use Rattle.reading.specs.Everywhere.{Every, Deeply}
@@ -12,7 +12,7 @@ use Rattle.nodes.proofs.Legible.{Legible, document-legible}
 use Rattle.nodes.proofs.Records.{shaped}
 use Rattle.schemas.specs.Track1
 use Rattle.schemas.specs.Track2
-use Rattle.tracks.specs.Record.{recordOf}
+use Rattle.tracks.specs.RecordFields.{recordOf}
 use Rattle.tracks.specs.WellRead.{WellRead}
 use Rattle.tracks.proofs.Paths.{Clean}
 use Rattle.tracks.proofs.Admissions.{head-1, admission-read}

@@ -1,19 +1,17 @@
 -- An event whose node in the schema has the fields that its kind's wording names: ONE PROOF for every kind.
-use Prim.Native.Nat.{ℕ, _%_, _<_}
+use Prim.Native.Nat.{ℕ, _<_}
 use mathlib.Core.Path.{_≡_, refl, sym}
 use mathlib.Core.Bool.{Bool, true, false, cond, _&&_, _||_, false≢true}
 use mathlib.Core.List.{List, [], _∷_}
 use native.Mathlib.Omega.{arith}
 use lib.Dec.{eqb, ltb, leb}
 use borrow.Author.Tests.{eq-eqb, lt-ltb, le-leb}
-use Rattle.laws.specs.Decimal.{decimalAfter, decimal}
+use Rattle.laws.specs.Decimal.{isDigit, decimalAfter, decimal}
 use Rattle.laws.specs.Lists.{all}
 use Rattle.laws.proofs.Truth.{cond-both}
-use Rattle.codes.specs.Ranges.{_to_, inRanges}
-use Rattle.codes.specs.Codes.{revaluation, service, suspension, revaluations, codesOf, confirmations}
+use Rattle.codes.specs.CodesAndCharacters.{_to_, inRanges, revaluation, service, suspension, revaluations, codesOf, confirmations}
 use Rattle.codes.proofs.Ranges.{ranges-below}
-use Rattle.codes.proofs.Decimals.{up-to-low}
-use Rattle.days.specs.Calendar.{dayCount}
+use Rattle.days.specs.DayNumbers.{dayCount}
 use Rattle.days.specs.Dates.{isDate, dayOf}
 use Rattle.markup.specs.Elements.{Tree}
 use Rattle.schema.specs.Texts.{Texts, number, plain, date}
@@ -25,13 +23,12 @@ use Rattle.nodes.proofs.Present.{nodeOf, only, owed, child-one, group-attrs}
 use Rattle.nodes.proofs.Fields.{given, attrNamed, leaf-text, attr-one, AttrMayLack, attr-maybe}
 use Rattle.schemas.specs.FieldTexts
 use Rattle.home_care.specs.Row.{never}
-use Rattle.home_care.specs.Allowed.{eventAllowed}
 use Rattle.home_care.proofs.EventAllowed.{event-allowed, event-fits}
-use Rattle.tracks.specs.Wordings.{Wording, valueAt, standsAt, textAt}
-use Rattle.tracks.specs.Record.{eventBy}
-use Rattle.tracks.specs.Defaults.{dayElse, numberElse, eventElseBy}
-use Rattle.tracks.proofs.Sets.{written}
-use Rattle.tracks.proofs.Texts.{one-digit, plain-fit, date-fit, date-is}
+use Rattle.tracks.specs.EventElements.{Wording, valueAt, standsAt, textAt}
+use Rattle.tracks.specs.RecordFields.{eventBy}
+use Rattle.tracks.specs.Typed.{Worded}
+use Rattle.tracks.proofs.Sets.{written, written-digit}
+use Rattle.tracks.proofs.Texts.{one-digit, chars-digits, plain-fit, plain-digits, date-fit, date-is}
 
 -- ---- what the schema says of a kind
 
@@ -56,11 +53,6 @@ pub record Tells (w : Wording) (h : Particle) (ns : Nodes) : Type 0 where
   pub conferma : Field (h .attrs) true FieldTexts.confermaPrecedente (eqb (w .kind) revaluation ≡ false) (w .kind ≡ revaluation) (w .conferma)
 
 -- ---- so its fields are of their types
-
-pub record Worded (w : Wording) (t : Tree) : Type 0 where
-  pub dated : isDate (attrOf (w .date) t) ≡ true
-  pub ended : standsAt (w .end) t ≡ true → isDate (valueAt (w .end) t) ≡ true
-  pub allowed : eventAllowed (eventBy w t) ≡ true
 
 or-true : (a : Bool) → a || true ≡ true
 or-true true = refl
@@ -119,37 +111,44 @@ module _ (p : Tree → Type 0) (far : (c : Tree) → p c → 0 < c .from) {w : W
       (one-digit _ (inRanges confirmations) (attrOf (b ∷ x) t) (written 1 2)
       (attr-one (h .attrs) t fits (b ∷ x) (attr (b ∷ x) true FieldTexts.confermaPrecedente) e refl))
 
+  -- each number's text is of digits; a missing one has none
+  coded-digits : (c : Bool) (x : List ℕ) → Coded (w .kind) (h .attrs) ns c x → all isDigit (textAt c x t) ≡ true
+  coded-digits true x (in-child {d = d} e o) =
+      plain-digits (codesOf (w .kind)) (textOf (childOf x t)) (leaf-text p far (child-one p far m x (leaf d (number plain (codesOf (w .kind)))) e o))
+  coded-digits false [] (in-attribute q (none u)) = absurd u
+  coded-digits false (b ∷ x) (in-attribute q (one u e)) =
+      chars-digits _ 1 1 (attrOf (b ∷ x) t) (written-digit 1 2 (omega arith))
+      (attr-one (h .attrs) t fits (b ∷ x) (attr (b ∷ x) true FieldTexts.motivoRivalutazione) e refl)
+
+  visits-digits : (x : List ℕ) → Field (h .attrs) false FieldTexts.numAccessi Unit (w .kind ≡ service) x → all isDigit (valueAt x t) ≡ true
+  unfolding all
+  visits-digits [] (none u) = refl
+  visits-digits (b ∷ x) (one u e) = go (attr-maybe (h .attrs) t fits (b ∷ x) (attr (b ∷ x) false FieldTexts.numAccessi) e)
+    where
+      go : AttrMayLack (attr (b ∷ x) false FieldTexts.numAccessi) t → all isDigit (attrOf (b ∷ x) t) ≡ true
+      go (AttrMayLack.lacks _ v) = rw v
+      go (AttrMayLack.has _ f) = plain-digits _ (attrOf (b ∷ x) t) f
+
+  confirmed-digits : (x : List ℕ) → Field (h .attrs) true FieldTexts.confermaPrecedente (eqb (w .kind) revaluation ≡ false) (w .kind ≡ revaluation) x
+      → all isDigit (valueAt x t) ≡ true
+  unfolding all
+  confirmed-digits [] (none u) = refl
+  confirmed-digits (b ∷ x) (one u e) =
+      chars-digits _ 1 1 (attrOf (b ∷ x) t) (written-digit 1 2 (omega arith))
+      (attr-one (h .attrs) t fits (b ∷ x) (attr (b ∷ x) true FieldTexts.confermaPrecedente) e refl)
+
   pub worded : Worded w t
   worded =
       let d = attr-one (h .attrs) t fits (w .date) (attr (w .date) true date) (k .day) refl in
+      let e =
+      event-allowed (eventBy w t) (date-fit (attrOf (w .date) t) d) (ends (w .end) (k .end) .0) (coded (w .child) (w .code) (k .code))
+      (visits (w .accesses) (k .accesses)) (confirmed (w .conferma) (k .conferma)) in
+      let f = event-fits (eventBy w t) e in
       record {
         dated = date-is (attrOf (w .date) t) d;
         ended = ends (w .end) (k .end) .1;
-        allowed =
-            event-allowed (eventBy w t) (date-fit (attrOf (w .date) t) d) (ends (w .end) (k .end) .0) (coded (w .child) (w .code) (k .code))
-            (visits (w .accesses) (k .accesses)) (confirmed (w .conferma) (k .conferma));
+        code = record { digits = coded-digits (w .child) (w .code) (k .code); small = omega (arith, f .code) };
+        accesses = record { digits = visits-digits (w .accesses) (k .accesses); small = omega (arith, f .accesses) };
+        conferma = record { digits = confirmed-digits (w .conferma) (k .conferma); small = omega (arith, f .conferma) };
+        allowed = e;
       }
-
--- ---- and the code reads them
-
-same-end : (b : Bool) (x : List ℕ) → (b ≡ true → isDate x ≡ true) → cond b (dayElse x) never ≡ cond b (dayOf x) never
-same-end true x h = rw (h refl)
-same-end false x h = refl
-
-low-7 : (x : List ℕ) → decimal x < 128 → numberElse x % 128 ≡ decimal x
-low-7 x h = rw (up-to-low 9999 (decimal x) (omega arith)) (omega arith)
-
-pub low-2 : (x : List ℕ) → decimal x < 4 → numberElse x % 4 ≡ decimal x
-low-2 x h = rw (up-to-low 9999 (decimal x) (omega arith)) (omega arith)
-
-pub agrees : (w : Wording) (t : Tree) → Worded w t → eventElseBy w t ≡ eventBy w t
-unfolding eventElseBy
-agrees w t g =
-    let f = event-fits (eventBy w t) (g .allowed) in
-    rw (
-      g .dated,
-      same-end (standsAt (w .end) t) (valueAt (w .end) t) (g .ended),
-      low-7 (textAt (w .child) (w .code) t) (f .code),
-      low-7 (valueAt (w .accesses) t) (f .accesses),
-      low-2 (valueAt (w .conferma) t) (f .conferma),
-    )

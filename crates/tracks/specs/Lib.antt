@@ -1,6 +1,7 @@
-pub mod Wordings
-pub mod Record
+pub mod EventElements
+pub mod RecordFields
 pub mod WellRead
-pub mod Defaults
+pub mod Typed
 pub mod View
 pub mod Top
+pub mod TooMany

@@ -1,18 +1,22 @@
 -- What the code's answers say of a record of the file s.
 use Prim.Native.Nat.{ℕ, _+_}
 use mathlib.Core.Path.{_≡_}
-use mathlib.Core.Bool.{cond}
+use mathlib.Core.Bool.{cond, _||_}
 use mathlib.Core.List.{List, _++_, map}
 use lib.Dec.{eqb}
-use lib.ListN.{length, take, drop}
+use lib.ListN.{length, take, drop, set}
 use Rattle.laws.specs.Lists.{any}
+use Rattle.markup.specs.Elements.{Tree}
 use Rattle.markup.specs.View.{part}
 use Rattle.schema.specs.Schema.{Node}
 use Rattle.home_care.specs.Record.{Head, Admission, Said}
 use Rattle.home_care.specs.Anomalies.{zeroWritten, badConferma}
 use Rattle.schemas.specs.Track1.{track1}
 use Rattle.schemas.specs.Track2.{track2}
+use Rattle.tracks.specs.RecordFields.{saidOf, isEvent}
 use Rattle.tracks.specs.declared.events.EventsRead.{EventsRead}
+use Rattle.tracks.specs.declared.events.Happened.{Happened}
+use Rattle.tracks.specs.declared.events.Happened.the-variants as happened
 use Rattle.tracks.specs.declared.record.HeadRead.{HeadRead}
 use Rattle.tracks.specs.declared.record.AdmissionRead.{AdmissionRead}
 
@@ -48,3 +52,20 @@ pub record IsEvents (r : EventsRead) (before after : List ℕ) (es : List Said) 
   pub numbers : after ≡ laid (map (λ e. e .event) es) before
   pub bad : r .«bad_conferma» ≡ any badConferma es
   pub zero : r .«zero_prevalente» ≡ any zeroWritten es
+
+-- what the code tells of an event, of any child of Eventi
+abbrev pub told : Said → Happened
+told e = happened.Event (e .event) (badConferma e) (zeroWritten e)
+
+unfoldable pub happenedAt : Tree → Happened
+happenedAt t = cond (isEvent t) (told (saidOf t)) happened.Other
+
+-- what the code has of the events after one more child, and the buffer; past the buffer's end nothing is kept
+abbrev pub counted : Happened → EventsRead → EventsRead
+counted (happened.Event w b z) r =
+    record { count = r .count + 1; «bad_conferma» = r .«bad_conferma» || b; «zero_prevalente» = r .«zero_prevalente» || z }
+counted happened.Other r = r
+
+abbrev pub kept : Happened → ℕ → List ℕ → List ℕ
+kept (happened.Event w b z) n out = set out n w
+kept happened.Other n out = out

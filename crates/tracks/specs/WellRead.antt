@@ -1,4 +1,4 @@
--- What reading guarantees of a record that is of the shape (document 01, "The shape of a record"): its fields' ranges.
+-- What reading guarantees of a record that is of the shape (RULES.md, 2 The shape of a record): its fields' ranges.
 use Prim.Native.Nat.{ℕ, _≤_, _<_}
 use mathlib.Core.Path.{_≡_}
 use mathlib.Core.Bool.{Bool, true, false, _&&_}
@@ -8,10 +8,8 @@ use lib.Dec.{leb}
 use lib.ListN.{length, getD}
 use Rattle.laws.specs.Decimal.{isDigit, decimal}
 use Rattle.laws.specs.Lists.{all}
-use Rattle.codes.specs.Ranges.{inRanges}
-use Rattle.codes.specs.Chars.{letters, alnums, idChars, transmissions}
-use Rattle.codes.specs.Codes.{regions, residences, revaluation}
-use Rattle.days.specs.Calendar.{dayCount}
+use Rattle.codes.specs.CodesAndCharacters.{inRanges, letters, alnums, idChars, transmissions, regions, residences, revaluation}
+use Rattle.days.specs.DayNumbers.{dayCount}
 use Rattle.markup.specs.Bytes.{inFile, isText}
 use Rattle.home_care.specs.Row.{Key, Case, Event, eventNumber}
 use Rattle.home_care.specs.Allowed.{eventAllowed}
@@ -22,25 +20,25 @@ pub record Spelled (set : ℕ → Bool) (n : ℕ) (t : List ℕ) : Type 0 where
   pub long : length t ≡ n
   pub bytes : all set t ≡ true
 
--- "Erogatore's region is one of 010, 020, ..; ASL: three letters or digits"; "Dates are .. real Gregorian days"; "Id_Rec: 88 characters .."
+-- S12: "Erogatore's region is one of 010, 020, .."; S13: "An ASL has three letters or digits"; S18: "Every date is a date by D3"; S16: "88 characters"
 pub record WellKey (k : Key) : Type 0 where
   pub region : inRanges regions (k .region) ≡ true
   pub asl : Spelled (inRanges alnums) 3 (k .asl)
   pub taken : k .taken < dayCount
   pub id : Spelled (inRanges idChars) 88 (k .id)
 
--- "`tipo` is I, V or C"
+-- S11: "`tipo` is I (insertion), V (variation) or C (cancellation)"
 pub record WellHead (h : Head) : Type 0 where
   pub tipo : inRanges transmissions (h .tipo) ≡ true
   pub key : WellKey (h .key)
 
--- "Patologia prevalente: 3 to 5 characters, any that a text may hold"
+-- S15: "A Prevalente has 3 to 5 bytes", "any that a text may hold"
 pub record WellPrevalente (t : List ℕ) : Type 0 where
   pub least : 3 ≤ length t
   pub most : length t ≤ 5
   pub bytes : all (λ b. inFile b && isText b) t ≡ true
 
--- "AnnoNascita: four digits"; prevalente padded to five; RischioInfettivo is 0 to 2, the other five 0 to 3 (0 = missing)
+-- S19: "AnnoNascita has four digits"; prevalente padded to five (R15); RischioInfettivo is 0 to 2, the other five 0 to 3, and "0 is missing" (R16)
 pub record WellCase (c : Case) : Type 0 where
   pub birth : c .birth < 10000
   pub written : List ℕ
@@ -50,7 +48,7 @@ pub record WellCase (c : Case) : Type 0 where
   pub scales : all (λ n. leb n 3) (c .scales) ≡ true
   pub last : getD (c .scales) 5 0 ≤ 2
 
--- "residence also allows 999"; "Comune: six letters or digits. StatoEstero: two letters, may be missing"
+-- S12: "a residence's may also be 999"; S13: "An ASL has three letters or digits, a Comune six"; S14: "StatoEstero is two letters of any case or missing"
 pub record WellResidence (r : Residence) : Type 0 where
   pub region : Spelled isDigit 3 (r .region)
   pub listed : inRanges residences (decimal (r .region)) ≡ true

@@ -4,29 +4,28 @@ ghost use mathlib.Core.List.{List};
 ghost use Prim.Native.Nat.{ℕ, _+_, _≤_, _<_};
 ghost use lib.ListN.{drop};
 ghost use Rattle.days.specs.Table.{Firsts};
-ghost use Rattle.markup.specs.Reading.Read.{read};
+ghost use Rattle.markup.specs.NamesAndValues.Read.{read};
 ghost use Rattle.markup.specs.Elements.{Inside, Tree, element, kids};
 ghost use Rattle.markup.specs.View.{part};
-ghost use Rattle.schema.specs.Shape.{faultOf};
+ghost use Rattle.reading.specs.Everywhere.{Every};
 ghost use Rattle.nodes.specs.Stands.{Stands, Holds};
-ghost use Rattle.schemas.specs.Track2.{track2};
 ghost use Rattle.home_care.specs.Row.{eventNumber};
-ghost use Rattle.tracks.specs.Wordings.{wording};
-ghost use Rattle.tracks.specs.Record.{saidWith, allSaid};
-ghost use Rattle.tracks.specs.Defaults.{eventElseBy, saidElseIn, told, happenedAt, counted, kept};
-ghost use Rattle.tracks.specs.Top.{TopOf};
-ghost use Rattle.tracks.specs.View.{IsEvents};
+ghost use Rattle.tracks.specs.EventElements.{wording};
+ghost use Rattle.tracks.specs.RecordFields.{eventBy, saidWith, saidIn, allSaid};
+ghost use Rattle.tracks.specs.Typed.{Found, Worded, WordedByName};
+ghost use Rattle.tracks.specs.Top.{OfShape};
+ghost use Rattle.tracks.specs.View.{IsEvents, told, happenedAt, counted, kept};
 use crate::fields::attr_day;
 use crate::fields::attr_end;
 use crate::fields::attr_number;
 use crate::fields::child_text;
 use crate::fields::text_number_at;
-use codes::lists::CONCLUSION;
-use codes::lists::REVALUATION;
-use codes::lists::SERVICE;
-use codes::lists::SUSPENSION;
-use home_care::event::conferma_of;
-use home_care::event::kind_of;
+use codes::code_lists::CONCLUSION;
+use codes::code_lists::REVALUATION;
+use codes::code_lists::SERVICE;
+use codes::code_lists::SUSPENSION;
+use home_care::event_bits::conferma_of;
+use home_care::event_bits::kind_of;
 use home_care::pack::event_number;
 use markup::Move;
 use markup::bytes::part;
@@ -89,20 +88,20 @@ fn event(
     accesses: &[u8],
     conferma: &[u8],
 ) -> Happened
-    requires { ⌜ Firsts (now t) × (kind < 4) ⌝ }
-    ensures { λ r. ⌜ ((tree : Tree) (x : List ℕ) → Stands (n .levels) (drop (n .at) (now (s .entry))) tree → r ≡ told (saidWith (eventNumber (eventElseBy (wording kind x (now (date .entry)) (now (end .entry)) «in_child» (now (code .entry)) (now (accesses .entry)) (now (conferma .entry))) tree)) tree)) ⌝ }
+    requires { ⌜ Firsts (now t) × ((x : List ℕ) × Found (now s) n (Worded (wording kind x (now date) (now end) «in_child» (now code) (now accesses) (now conferma)))) ⌝ }
+    ensures { λ r. ⌜ ((tree : Tree) (x : List ℕ) → Stands (n .levels) (drop (n .at) (now (s .entry))) tree → r ≡ told (saidWith (eventNumber (eventBy (wording kind x (now (date .entry)) (now (end .entry)) «in_child» (now (code .entry)) (now (accesses .entry)) (now (conferma .entry))) tree)) tree)) ⌝ }
 {
     let day = attr_day(t, s, n, date);
     let last = attr_end(t, s, n, end);
-    let what = text_number_at(s, n, in_child, code) % 128;
-    let times = attr_number(s, n, accesses) % 128;
-    let confirmed = attr_number(s, n, conferma) % 4;
+    let what = text_number_at(s, n, in_child, code);
+    let times = attr_number(s, n, accesses);
+    let confirmed = attr_number(s, n, conferma);
     said(s, n, event_number(kind, day, last, what, times, confirmed))
 }
 
 // The event that a child of Eventi is.
 fn event_at(t: &[u32; 2400], s: &[u8], at: usize, levels: usize) -> Happened
-    requires { ⌜ Firsts (now t) ⌝ }
+    requires { ⌜ Firsts (now t) × ((tree : Tree) × (m : List ℕ) × (element levels (drop at (now s)) ≡ read tree m) × WordedByName tree) ⌝ }
     ensures { λ r. ⌜ ((tree : Tree) (m : List ℕ) → element levels (drop at (now (s .entry))) ≡ read tree m → r ≡ happenedAt tree) ⌝ }
 {
     let n = Node { at, levels };
@@ -200,8 +199,8 @@ fn events_from(
     name_end: usize,
     out: &mut [u64],
 ) -> EventsRead
-    requires { ⌜ Firsts (now t) ⌝ }
-    ensures { λ r. ⌜ ((i : Inside) → Holds levels (part (now (s .entry)) name «name_end») (drop from (now (s .entry))) i → IsEvents r (now (out .entry)) (now (out .exit)) (saidElseIn (kids i))) ⌝ }
+    requires { ⌜ Firsts (now t) × ((i : Inside) × Holds levels (part (now s) name «name_end») (drop from (now s)) i × Every WordedByName (kids i)) ⌝ }
+    ensures { λ r. ⌜ ((i : Inside) → Holds levels (part (now (s .entry)) name «name_end») (drop from (now (s .entry))) i → IsEvents r (now (out .entry)) (now (out .exit)) (saidIn (kids i))) ⌝ }
 {
     let mut at = from;
     let mut tally = EventsRead {
@@ -224,8 +223,8 @@ fn events_from(
 
 // The events of a record: their 52 bits in order, as many as the buffer has room for, their number, and the two tests.
 pub fn events(t: &[u32; 2400], s: &[u8], top: Six, out: &mut [u64]) -> EventsRead
-    requires { ⌜ Firsts (now t) ⌝ }
-    ensures { λ r. ⌜ ((at : ℕ) (a : Tree) → TopOf (now (s .entry)) at a top → faultOf (track2 .each) a ≡ 0 → IsEvents r (now (out .entry)) (now (out .exit)) (allSaid a)) ⌝ }
+    requires { ⌜ Firsts (now t) × ((a : Tree) × OfShape 2 (now s) top a) ⌝ }
+    ensures { λ r. ⌜ ((a : Tree) → OfShape 2 (now (s .entry)) top a → IsEvents r (now (out .entry)) (now (out .exit)) (allSaid a)) ⌝ }
 {
     let all = top.d;
     let Entry::Open {

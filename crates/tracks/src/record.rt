@@ -1,24 +1,23 @@
 // A record's children and its end, its head, and a record of Track 1.
 ghost use mathlib.Core.Path.{_≡_};
 ghost use mathlib.Core.List.{List};
-ghost use Prim.Native.Nat.{ℕ, _%_, _≤_, _<_};
+ghost use Prim.Native.Nat.{ℕ, _≤_, _<_};
 ghost use lib.ListN.{drop};
-ghost use Rattle.days.specs.Calendar.{dayCount};
+ghost use Rattle.laws.specs.Decimal.{decimal};
+ghost use Rattle.days.specs.DayNumbers.{dayCount};
 ghost use Rattle.days.specs.Table.{Firsts};
-ghost use Rattle.markup.specs.Reading.Read.{read};
+ghost use Rattle.markup.specs.NamesAndValues.Read.{read};
 ghost use Rattle.markup.specs.Elements.{Tree, element};
 ghost use Rattle.markup.specs.View.{part, viewMove, okMove, left};
 ghost use Rattle.reading.specs.Many.{belowRoot};
-ghost use Rattle.schema.specs.Shape.{faultOf};
 ghost use Rattle.nodes.specs.Stands.{Stands};
 ghost use Rattle.nodes.specs.Several.{Unfinished};
 ghost use Rattle.nodes.specs.Lookup.{textOf};
 ghost use Rattle.home_care.specs.Record.{padded};
-ghost use Rattle.schemas.specs.Track1.{track1};
-ghost use Rattle.tracks.specs.Record.{_▹_, headOf, admissionOf};
-ghost use Rattle.tracks.specs.Defaults.{numberElse, scalesElse};
-ghost use Rattle.tracks.specs.Top.{TopOf};
-ghost use Rattle.tracks.specs.View.{eachOf, IsHead, IsAdmission};
+ghost use Rattle.tracks.specs.RecordFields.{_▹_, headOf, admissionOf};
+ghost use Rattle.tracks.specs.Typed.{Found, IsScale, Scaled, scalesOf};
+ghost use Rattle.tracks.specs.Top.{TopOf, OfShape};
+ghost use Rattle.tracks.specs.View.{IsHead, IsAdmission};
 use crate::fields::attr_byte;
 use crate::fields::attr_day;
 use crate::fields::child_number;
@@ -87,8 +86,8 @@ pub fn record_end(s: &[u8], at: usize, rest: usize) -> Move
 
 // The head of a record.
 pub fn head(t: &[u32; 2400], s: &[u8], top: Six) -> HeadRead
-    requires { ⌜ Firsts (now t) ⌝ }
-    ensures { λ r. ⌜ ((track at : ℕ) (a : Tree) → TopOf (now (s .entry)) at a top → faultOf (eachOf track) a ≡ 0 → IsHead (now (s .entry)) r (headOf a)) × (r .region < 10000) × (r .day < dayCount) ⌝ }
+    requires { ⌜ Firsts (now t) × ((track : ℕ) × (a : Tree) × OfShape track (now s) top a) ⌝ }
+    ensures { λ r. ⌜ ((track : ℕ) (a : Tree) → OfShape track (now (s .entry)) top a → IsHead (now (s .entry)) r (headOf a)) × (r .day < dayCount) ⌝ }
 {
     let taken = child(s, top.d, b"PresaInCarico");
     let asl = child_text(s, top.c, b"CodiceASL");
@@ -111,9 +110,13 @@ fn filled(x: &[u8]) -> [u8; 5]
 
 // A scale from 1 to 3, and 0 where it is missing.
 fn scale(s: &[u8], n: Node) -> u8
-    ensures { λ r. ⌜ ((tree : Tree) → Stands (n .levels) (drop (n .at) (now (s .entry))) tree → r ≡ numberElse (textOf tree) % 4) ⌝ }
+    requires { ⌜ Found (now s) n (λ tree. IsScale (textOf tree)) ⌝ }
+    ensures { λ r. ⌜ ((tree : Tree) → Stands (n .levels) (drop (n .at) (now (s .entry))) tree → r ≡ decimal (textOf tree)) ⌝ }
 {
-    (text_number(s, n) % 4) as u8
+    if n.levels == 0 {
+        return 0;
+    }
+    text_number(s, n) as u8
 }
 
 // What is read of a Valutazione: the text of its Patologia's Prevalente, and its six scales.
@@ -123,7 +126,8 @@ pub struct ValueRead {
 }
 
 fn valued(s: &[u8], value: Node) -> ValueRead
-    ensures { λ r. ⌜ ((tree : Tree) → Stands (value .levels) (drop (value .at) (now (s .entry))) tree → (part (now (s .entry)) (r .main .start) (r .main .end) ≡ textOf (tree ▹ "Patologia" ▹ "Prevalente")) × (r .scales ≡ scalesElse tree)) ⌝ }
+    requires { ⌜ Found (now s) value Scaled ⌝ }
+    ensures { λ r. ⌜ ((tree : Tree) → Stands (value .levels) (drop (value .at) (now (s .entry))) tree → (part (now (s .entry)) (r .main .start) (r .main .end) ≡ textOf (tree ▹ "Patologia" ▹ "Prevalente")) × (r .scales ≡ scalesOf tree)) ⌝ }
 {
     let v = several(
         s,
@@ -154,7 +158,8 @@ fn valued(s: &[u8], value: Node) -> ValueRead
 
 // The case and the residence of a record.
 pub fn admission(s: &[u8], top: Six) -> AdmissionRead
-    ensures { λ r. ⌜ ((at : ℕ) (a : Tree) → TopOf (now (s .entry)) at a top → faultOf (track1 .each) a ≡ 0 → IsAdmission (now (s .entry)) r (admissionOf a)) × (r .birth < 10000) ⌝ }
+    requires { ⌜ ((a : Tree) × OfShape 1 (now s) top a) ⌝ }
+    ensures { λ r. ⌜ ((a : Tree) → OfShape 1 (now (s .entry)) top a → IsAdmission (now (s .entry)) r (admissionOf a)) ⌝ }
 {
     let person = child(s, top.b, b"DatiAnagrafici");
     let p = several(

@@ -3,7 +3,7 @@ use borrow.Author.Needs.{needs}
 use Rattle.register.specs.Search.{probeKey}
 use Rattle.home_care.specs.Row.{rowBytes, keyBits}
 use Rattle.home_care.specs.Fits.{caseWith}
-use Rattle.checks.specs.Flow.{typeOf}
+use Rattle.home_care.specs.Record.{typeOf}
 use Rattle.apply.proofs.Records.{case-gone, case-out, case-in, case-applied}
 use Rattle.apply.proofs.apply_case.Statement.{statement}
 use Rattle.apply.proofs.apply_case.Tie as tie

@@ -2,7 +2,7 @@ use mathlib.Core.Path.{sym, _∙_}
 use borrow.Author.Needs.{needs}
 use Rattle.register.specs.Search.{probeKey}
 use Rattle.home_care.specs.Row.{rowBytes, keyBits}
-use Rattle.checks.specs.Flow.{typeOf}
+use Rattle.home_care.specs.Record.{typeOf}
 use Rattle.apply.proofs.Records.{done-in, done-out, done-over, events-applied}
 use Rattle.apply.proofs.apply_events.Statement.{statement}
 use Rattle.apply.proofs.apply_events.Tie as tie

@@ -1,13 +1,8 @@
 use mathlib.Core.Path.{ap, _∙_}
 use borrow.Author.Needs.{needs}
-use Rattle.days.proofs.table.make.Reads as make-reads
-use Rattle.soundness.specs.Sound.{Found}
-use Rattle.soundness.proofs.find.find.Reads as find-reads
+use Rattle.soundness.specs.Finding.{Found}
 use Rattle.exports.proofs.siad_find.Statement.{statement}
 use Rattle.exports.proofs.siad_find.Tie as tie
-use Rattle.exports.proofs.siad_find.Reads as reads
-use Rattle.exports.proofs.siad_find.Lts as lts
-use Rattle.exports.proofs.told.Reads as told-reads
 
 make-requires : tie.Need-make-requires
 make-requires c κs = search needs

@@ -1,7 +1,7 @@
 use mathlib.Core.Path.{sym, ap, _∙_}
 use denote.Ref.{now}
 use Rattle.laws.specs.Decimal.{decimal}
-use Rattle.codes.specs.Digits.{upTo}
+use Rattle.codes.specs.Capped.{upTo}
 use Rattle.line.proofs.Reading.{number-empty, number-long, number-unmarked, number-is, value-below, mark-inside}
 use borrow.Author.Needs.{needs}
 use native.Mathlib.Omega.{arith}

@@ -1,13 +1,13 @@
 -- The invariant: the rest of the text, after the number so far, gives the same number up to the most asked for.
 use Prim.Native.Nat.{_+_, _-_, _≤_}
-use mathlib.Core.Path.{_≡_, refl, sym, ap, _∙_}
+use mathlib.Core.Path.{_≡_, refl, ap, _∙_}
 use mathlib.Core.Bool.{_&&_}
 use denote.Ref.{now}
 use lib.ListN.{length, drop}
 use Rattle.laws.specs.Decimal.{isDigit, decimalAfter, decimal}
 use Rattle.laws.specs.Lists.{all}
 use Rattle.laws.proofs.Folding.{fold-step, fold-end}
-use Rattle.codes.specs.Digits.{upTo}
+use Rattle.codes.specs.Capped.{upTo}
 use Rattle.codes.proofs.Decimals.{digits-on, digits-over}
 use borrow.Author.Needs.{needs}
 use native.Mathlib.Omega.{arith}

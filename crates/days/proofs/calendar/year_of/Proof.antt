@@ -1,15 +1,12 @@
 use Prim.Native.Nat.{ℕ, _≤_}
 use mathlib.Core.Path.{_≡_, sym, ap}
 use mathlib.Core.Logic.{⊎-elim}
-use Rattle.days.specs.Calendar.{yearsTo}
+use Rattle.days.specs.DayNumbers.{yearsTo}
 use Rattle.days.proofs.Years.{search-start, search-down, search-found, search-end}
 use borrow.Author.Needs.{needs}
 use native.Mathlib.Omega.{arith}
 use Rattle.days.proofs.calendar.year_of.Statement.{statement}
 use Rattle.days.proofs.calendar.year_of.Tie as tie
-use Rattle.days.proofs.calendar.year_of.Reads as reads
-use Rattle.days.proofs.calendar.year_of.Lts as lts
-use Rattle.days.proofs.table.first_of.Reads as first-of-reads
 
 abbrev Inv-loop : tie.InvT-loop
 Inv-loop t day k₀ k = (k ≤ 199) × (yearsTo 199 day ≡ yearsTo k day)

@@ -1,5 +1,5 @@
 use mathlib.Core.Path.{_≡_, sym, _∙_}
-use mathlib.Core.Bool.{true}
+use mathlib.Core.Bool.{true, false}
 use borrow.Author.Tests.{not-true, not-false}
 use Rattle.days.specs.Quarters.{isPeriod}
 use Rattle.days.proofs.Periods.{period, first-real, last-real}
@@ -17,7 +17,9 @@ is-period-requires : tie.Need-is-period-requires
 is-period-requires c κs = search needs
 
 returns : tie.Need-returns
-returns c = rw (sym (c .before .is-period .ensures) ∙ not-true _ (c .if1 .taken))
+returns c =
+    let e : isPeriod (c .before .before .args .year) (c .before .before .args .quarter) ≡ false = sym (c .before .is-period .ensures) ∙ not-true _ (c .if1 .taken) in
+    (rw e, rw e)
 
 cast-y : tie.Need-cast-y
 cast-y c = let p = period (c .before .before .args .year) (c .before .before .args .quarter) (sym (c .before .is-period .ensures) ∙ not-false _ (c .if1 .left)) in record { fits = omega arith }
@@ -47,7 +49,7 @@ numbered-requires-2 c κs =
 returns-2 : tie.Need-returns-2
 returns-2 c =
     let e : isPeriod (c .before .before .before .before .before .args .year) (c .before .before .before .before .before .args .quarter) ≡ true = sym (c .before .before .before .before .is-period .ensures) ∙ not-false _ (c .before .before .before .if1 .left) in
-    rw (e, c .before .before .numbered .ensures .0, c .numbered2 .ensures .0, c .before .month-length .ensures)
+    (rw (e, c .before .before .numbered .ensures .0, c .numbered2 .ensures .0, c .before .month-length .ensures), rw e)
 
 pub quarter-days-spec : {M : Type 1} → statement M
 quarter-days-spec =

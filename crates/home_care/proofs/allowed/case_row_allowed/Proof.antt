@@ -1,11 +1,9 @@
-use Prim.Native.Nat.{_/_, _^_}
 use mathlib.Core.Path.{_∙_, ap}
 use borrow.Author.Tests.{not-true, not-false}
 use borrow.Author.Needs.{needs}
-use Rattle.days.specs.Calendar.{yearOf}
-use Rattle.rows.specs.Packing.{num}
-use Rattle.register.specs.Layout.{caseRest}
-use Rattle.home_care.specs.Row.{siad, keyIn}
+use Rattle.days.specs.DayNumbers.{yearOf}
+use Rattle.home_care.specs.Row.{keyIn}
+use Rattle.home_care.specs.Fits.{asCase}
 use Rattle.home_care.proofs.RowFields.{taken-is, taken-day, case-bad, case-good}
 use Rattle.home_care.proofs.allowed.case_row_allowed.Statement.{statement}
 use Rattle.home_care.proofs.allowed.case_row_allowed.Tie as tie
@@ -35,7 +33,7 @@ rest-allowed-requires c κs = search needs
 returns-2 : tie.Need-returns-2
 returns-2 c =
     case-good (c .before .before .before .before .before .before .args .row .now) (c .before .before .before .before .before .before .pre .1) _ _ (c .before .before .before .before .key-allowed .ensures) (not-false _ (c .before .before .before .if1 .left))
-    (c .rest-allowed .ensures (keyIn (num (c .before .before .before .before .before .before .args .row .now) / 2 ^ caseRest siad)) (c .before .year-of .ensures ∙ ap yearOf (taken-is (c .before .before .before .before .before .before .args .row .now) (c .before .before .before .before .before .before .pre .1) _ (c .before .before .get .ensures .value))))
+    (c .rest-allowed .ensures (keyIn (asCase (c .before .before .before .before .before .before .args .row .now) .key)) (c .before .year-of .ensures ∙ ap yearOf (taken-is (c .before .before .before .before .before .before .args .row .now) (c .before .before .before .before .before .before .pre .1) _ (c .before .before .get .ensures .value))))
 
 pub case-row-allowed-spec : {M : Type 1} → statement M
 case-row-allowed-spec =

@@ -15,6 +15,12 @@ get-requires c κs = search needs
 get-requires-2 : tie.Need-get-requires-2
 get-requires-2 c κs = search needs
 
+mul-get : tie.Need-mul-get
+mul-get c = search needs
+
+sub-get : tie.Need-sub-get
+sub-get c = search needs
+
 get-requires-3 : tie.Need-get-requires-3
 get-requires-3 c κs = search needs
 
@@ -35,6 +41,8 @@ rest-allowed-spec =
     read-run-requires
     get-requires
     get-requires-2
+    mul-get
+    sub-get
     get-requires-3
     slice-aggregate-prevalente-allowed
     prevalente-allowed-requires

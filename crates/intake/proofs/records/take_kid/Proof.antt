@@ -15,7 +15,7 @@ use Rattle.home_care.specs.Record.{Record}
 use Rattle.judge.specs.View.{contextIn}
 use Rattle.intake.specs.Driving.{Driver}
 use Rattle.intake.specs.Taking.{Here, assistenza, siadDriver}
-use Rattle.intake.specs.Kids.{Next}
+use Rattle.intake.specs.Steps.{Next}
 use Rattle.intake.proofs.Along.{kid-passed, kid-accepted, kid-discarded}
 use Rattle.intake.proofs.SiadDriver.{next-here, next-fits}
 use Rattle.intake.proofs.records.take_kid.Statement.{statement}

@@ -1,6 +1,6 @@
 -- The file's root, once `document` has found it, is what `shape_of` and `taken` are told.
-use Rattle.intake.specs.Submitted.{Call}
-use Rattle.intake.specs.Kids.{callWith}
+use Rattle.intake.specs.FileAnswers.{Call}
+use Rattle.intake.specs.Steps.{callWith}
 use Rattle.intake.proofs.Submitting.{Rooted, rooted, says-5, says-6, says-7, says-8, whole-file, says-0}
 use denote.Ref.{now}
 use borrow.Author.Needs.{needs}
@@ -21,7 +21,7 @@ begun q = start (q .before .before)
 root : (q : tie.After-c) → Rooted (now (begun q .args .sub)) (q .c .given .0 .0 .at)
 root q =
     let d = rw (q .c .given .1) at (q .before .before .document .ensures) in
-    rooted (now (begun q .args .sub)) (q .c .given .0 .0 .at) (d .0) (d .1 .1)
+    rooted (now (begun q .args .sub)) (q .c .given .0 .0 .at) (d .0) (d .2 .1)
 
 document-requires : tie.Need-document-requires
 document-requires c κs = search needs
@@ -70,7 +70,7 @@ taken-requires c κs =
     let s = begun q in
     let o = root q in
     let k = rw (e .before .before .records .given .1) at (p .shape-of .ensures) in
-    ((o .tree, whole-file (s .args .track) o (s .pre .0) (k .0 (o .tree) (o .after) (o .reads)) (e .if1 .left)), s .pre .1, s .pre .2)
+    ((o .tree, whole-file (s .args .track) o (s .pre .0) (k .0 (o .tree) (o .after) (o .reads) .0) (e .if1 .left)), s .pre .1, s .pre .2)
 
 returns-2 : tie.Need-returns-2
 returns-2 c =
@@ -78,7 +78,7 @@ returns-2 c =
     let q = p .before .before in
     let o = root q in
     let k = rw (c .before .before .number .given .1) at (p .shape-of .ensures) in
-    λ x _. says-6 (called (begun q) x) (now (begun q .args .reg)) o (k .0 (o .tree) (o .after) (o .reads)) (c .refused2 .ensures)
+    λ x _. says-6 (called (begun q) x) (now (begun q .args .reg)) o (k .0 (o .tree) (o .after) (o .reads) .0) (c .refused2 .ensures)
 
 returns-3 : tie.Need-returns-3
 returns-3 c =
@@ -86,7 +86,7 @@ returns-3 c =
     let q = p .before .before in
     let o = root q in
     let k = rw (c .before .before .number2 .given .1) at (p .shape-of .ensures) in
-    λ x _. says-7 (called (begun q) x) (now (begun q .args .reg)) o (k .0 (o .tree) (o .after) (o .reads)) (c .refused3 .ensures)
+    λ x _. says-7 (called (begun q) x) (now (begun q .args .reg)) o (k .0 (o .tree) (o .after) (o .reads) .0) (c .refused3 .ensures)
 
 returns-4 : tie.Need-returns-4
 returns-4 c =
@@ -95,7 +95,7 @@ returns-4 c =
     let s = begun q in
     let o = root q in
     let k = rw (c .before .before .before .records .given .1) at (p .shape-of .ensures) in
-    λ x _. says-8 (called s x) (now (s .args .reg)) o (s .pre .0) (k .0 (o .tree) (o .after) (o .reads)) (c .before .if1 .taken) (c .refused4 .ensures)
+    λ x _. says-8 (called s x) (now (s .args .reg)) o (s .pre .0) (k .0 (o .tree) (o .after) (o .reads) .0) (c .before .if1 .taken) (c .refused4 .ensures)
 
 same-length : tie.Need-same-length
 same-length c = search needs
@@ -111,7 +111,7 @@ returns-5 c =
     let s = begun q in
     let o = root q in
     let k = rw (e .before .before .records .given .1) at (p .shape-of .ensures) in
-    let h = k .0 (o .tree) (o .after) (o .reads) in
+    let h = k .0 (o .tree) (o .after) (o .reads) .0 in
     λ x w. says-0 (called s x) (now (s .args .reg)) o (s .pre .0) h (e .if1 .left) (c .before .before .before .before .taken .ensures (o .tree) x (whole-file (s .args .track) o (s .pre .0) h (e .if1 .left)) w)
 
 pub by-markup-spec : {M : Type 1} → statement M

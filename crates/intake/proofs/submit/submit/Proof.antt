@@ -8,7 +8,7 @@ use borrow.Author.Needs.{needs}
 use borrow.Author.Tests.{not-true, not-false}
 use Rattle.days.specs.Quarters.{isPeriod, firstDay, lastDay}
 use Rattle.soundness.specs.Sound.{isSound}
-use Rattle.intake.specs.Submitted.{Call, callOf}
+use Rattle.intake.specs.FileAnswers.{Call, callOf}
 use Rattle.intake.proofs.Submitting.{no-period, a-period, context-is, says-1, says-2, says-3, says-4, says-on}
 use Rattle.intake.proofs.submit.submit.Statement.{statement}
 use Rattle.intake.proofs.submit.submit.Tie as tie
@@ -27,7 +27,7 @@ in-1 p = start (p .before .before)
 period : (p : tie.After-first) → (isPeriod (in-1 p .args .year) (in-1 p .args .quarter) ≡ true)
     × (p .first .given .0 .0 ≡ firstDay (in-1 p .args .year) (in-1 p .args .quarter))
     × (p .first .given .0 .1 .0 ≡ lastDay (in-1 p .args .year) (in-1 p .args .quarter))
-period p = a-period (in-1 p .args .year) (in-1 p .args .quarter) (rw (p .first .given .1) at (p .before .before .quarter-days .ensures))
+period p = a-period (in-1 p .args .year) (in-1 p .args .quarter) (rw (p .first .given .1) at (p .before .before .quarter-days .ensures .0))
 
 -- ---- 2
 
@@ -66,7 +66,7 @@ returns : tie.Need-returns
 returns c =
     let p = c .before .before .before in
     let s = start p in
-    says-1 (called s) (now (s .args .reg)) (no-period (s .args .year) (s .args .quarter) (rw (c .before .enum-told .given .1) at (p .quarter-days .ensures))) (c .refused .ensures)
+    says-1 (called s) (now (s .args .reg)) (no-period (s .args .year) (s .args .quarter) (rw (c .before .enum-told .given .1) at (p .quarter-days .ensures .0))) (c .refused .ensures)
 
 refused-requires-2 : tie.Need-refused-requires-2
 refused-requires-2 c κs = search needs

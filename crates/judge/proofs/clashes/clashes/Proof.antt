@@ -5,8 +5,8 @@ use mathlib.Core.Bool.{false}
 use lib.ListN.{length, drop, getD, drop-of-length-le}
 use Rattle.laws.specs.Lists.{any}
 use Rattle.laws.proofs.Places.{front}
-use Rattle.judge.specs.Against.{clash, fresh}
-use Rattle.judge.specs.Standing.{standingIn, Settled}
+use Rattle.judge.specs.ByNumber.{clash, fresh}
+use Rattle.judge.specs.CaseRows.{standingIn, Settled}
 use Rattle.judge.proofs.Scan.{hit, miss, past}
 use Rattle.judge.proofs.Rows.{next-row, no-row}
 use Rattle.judge.proofs.Clashing.{unreplaced, freshFrom, fresh-end, fresh-later, rival-stands, no-rival}

@@ -5,7 +5,7 @@ use borrow.Author.Needs.{needs}
 use native.Mathlib.Omega.{arith}
 use Rattle.register.proofs.Halving.{Bracket, start, up, down, met}
 use Rattle.home_care.specs.Row.{eventKeyOf}
-use Rattle.judge.specs.Standing.{eventKeyAt}
+use Rattle.judge.specs.CaseRows.{eventKeyAt}
 use Rattle.judge.proofs.standing.event_place.Statement.{statement}
 use Rattle.judge.proofs.standing.event_place.Tie as tie
 

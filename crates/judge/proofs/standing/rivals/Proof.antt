@@ -1,4 +1,4 @@
-use Rattle.judge.specs.Against.{clash}
+use Rattle.judge.specs.ByNumber.{clash}
 use Rattle.judge.proofs.Rivals.{all-rows, none-clash, sharing-clash, conclusions-clash}
 use borrow.Author.Needs.{needs}
 use Rattle.judge.proofs.standing.rivals.Statement.{statement}

@@ -8,7 +8,7 @@ use native.Mathlib.Omega.{arith}
 use borrow.Fn.Kinds.{In}
 use borrow.Fn.PlainCycle.{Measures, is, falls, and}
 use Rattle.laws.proofs.Reach.{Reach, reach-start}
-use Rattle.markup.specs.Reading.Read.{refused}
+use Rattle.markup.specs.NamesAndValues.Read.{refused}
 use Rattle.markup.specs.Elements.{contentStep, content, element as elementOf}
 use Rattle.markup.specs.View.{part, left}
 use Rattle.markup.proofs.AtElements.{content-text, content-note, content-child, content-close, content-bad, content-no-child, element-none, element-bad, element-shut, element-open}

@@ -6,7 +6,7 @@ use lib.ListN.{length, drop, length-drop}
 use borrow.Author.Needs.{needs}
 use native.Mathlib.Omega.{arith}
 use Rattle.laws.proofs.Reach.{Reach, reach-start, reach-next, reach-stop, reach-to}
-use Rattle.markup.specs.Reading.Read.{refused}
+use Rattle.markup.specs.NamesAndValues.Read.{refused}
 use Rattle.markup.specs.Tags.{attributesStep, attributes}
 use Rattle.markup.specs.View.{endingOf, viewEnding}
 use Rattle.markup.proofs.AtTags.{attributes-none, ending-before, ending-done, okEnding-back}

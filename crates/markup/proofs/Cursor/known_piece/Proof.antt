@@ -3,7 +3,7 @@ use mathlib.Core.Path.{refl}
 use denote.Ref.{now}
 use lib.ListN.{drop}
 use Rattle.laws.proofs.Places.{byte-inside}
-use Rattle.markup.specs.Reading.Read.{refused, read}
+use Rattle.markup.specs.NamesAndValues.Read.{refused, read}
 use Rattle.markup.specs.View.{part}
 use Rattle.markup.proofs.AtElements.{known-close}
 use native.Mathlib.Omega.{arith}

@@ -4,6 +4,7 @@ use borrow.Author.Tests.{eq-eqb, ne-eqb}
 use native.Mathlib.Omega.{arith}
 use borrow.Author.Needs.{needs}
 use Rattle.laws.proofs.Places.{byte-inside}
+use Rattle.markup.proofs.AtBytes.{run-onward}
 use Rattle.markup.proofs.AtFile.{misc-at}
 use Rattle.markup.proofs.Cursor.misc_step.Statement.{statement}
 use Rattle.markup.proofs.Cursor.misc_step.Tie as tie
@@ -51,12 +52,12 @@ returns-2 c =
 returns-3 : tie.Need-returns-3
 returns-3 c =
     let m = misc-at (now (c .before .before .before .before .before .before .args .s)) (c .before .before .before .before .before .before .args .self .at) _ (c .before .before .before .before .run-end .ensures) in
-    (rw (m, ← c .before .before .before .peek .ensures, eq-eqb _ _ (c .before .before .if1 .taken), ← c .before .peek2 .ensures, ne-eqb _ _ (c .if2 .left)), omega (arith, c .before .before .before .before .run-end .ensures))
+    (rw (m, ← c .before .before .before .peek .ensures, eq-eqb _ _ (c .before .before .if1 .taken), ← c .before .peek2 .ensures, ne-eqb _ _ (c .if2 .left)), run-onward _ _ _ _ (c .before .before .before .before .run-end .ensures))
 
 returns-4 : tie.Need-returns-4
 returns-4 c =
     let m = misc-at (now (c .before .before .before .before .args .s)) (c .before .before .before .before .args .self .at) _ (c .before .before .run-end .ensures) in
-    (rw (m, ← c .before .peek .ensures, ne-eqb _ _ (c .if1 .left)), omega (arith, c .before .before .run-end .ensures))
+    (rw (m, ← c .before .peek .ensures, ne-eqb _ _ (c .if1 .left)), run-onward _ _ _ _ (c .before .before .run-end .ensures))
 
 pub misc-step-spec : {M : Type 1} → statement M
 misc-step-spec =

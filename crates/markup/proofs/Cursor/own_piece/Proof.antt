@@ -4,7 +4,7 @@ use denote.Ref.{now}
 use lib.ListN.{drop}
 use borrow.Author.Tests.{not-true, not-false}
 use Rattle.laws.proofs.Places.{byte-inside}
-use Rattle.markup.specs.Reading.Read.{refused, read}
+use Rattle.markup.specs.NamesAndValues.Read.{refused, read}
 use Rattle.markup.specs.View.{part}
 use Rattle.markup.proofs.AtOwn.{own-other, own-close}
 use native.Mathlib.Omega.{arith}

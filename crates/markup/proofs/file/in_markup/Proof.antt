@@ -16,7 +16,7 @@ enum-told-2 c = search needs
 returns : tie.Need-returns
 returns c =
     let x = rw (c .enum-told .given .1) at (c .before .before .document .ensures) in
-    sym (x .1 .1)
+    sym (x .2 .1)
 
 returns-2 : tie.Need-returns-2
 unfolding inMarkup

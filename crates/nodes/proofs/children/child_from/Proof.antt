@@ -6,7 +6,7 @@ use lib.ListN.{drop, length}
 use mathlib.Core.Path.{_∙_, refl, sym}
 use native.Mathlib.Omega.{arith}
 use Rattle.markup.specs.Elements.{Inside, kids}
-use Rattle.markup.specs.Names.{name}
+use Rattle.markup.specs.NamesAndValues.{name}
 use Rattle.markup.specs.View.{part}
 use Rattle.nodes.proofs.Naming.{first-hit, first-none, first-on}
 use Rattle.nodes.proofs.Walking.{Look, look-gone, look-here, look-past, look-start, look-stuck}

@@ -5,7 +5,7 @@ use lib.ListN.{drop, length}
 use mathlib.Core.List.{List}
 use native.Mathlib.Omega.{arith}
 use Rattle.markup.specs.Elements.{Inside, Tree, kids}
-use Rattle.markup.specs.Names.{name}
+use Rattle.markup.specs.NamesAndValues.{name}
 use Rattle.markup.specs.View.{part}
 use Rattle.nodes.proofs.Walking.{Look, holds-bad, holds-kid, look-close, look-note, look-start, look-words}
 use Rattle.nodes.specs.Stands.{Holds}

@@ -6,7 +6,7 @@ use denote.Ref.{now}
 use lib.ListN.{drop, length}
 use borrow.Author.Needs.{needs}
 use native.Mathlib.Omega.{arith}
-use Rattle.markup.specs.Reading.Read.{read}
+use Rattle.markup.specs.NamesAndValues.Read.{read}
 use Rattle.markup.specs.Elements.{Inside, content, element, kids}
 use Rattle.markup.specs.View.{part}
 use Rattle.nodes.proofs.Entering.{headed, head-name, not-headed}

@@ -1,7 +1,7 @@
 -- The invariant: what is right to answer from `at` on is right to answer from the start.
 use Prim.Native.Nat.{_-_}
 use Rattle.markup.specs.Bytes.{after}
-use Rattle.markup.specs.Names.{value}
+use Rattle.markup.specs.NamesAndValues.{value}
 use Rattle.markup.specs.View.{viewEnding}
 use Rattle.nodes.proofs.Valuing.{OfPairs, of-done, of-next, valued-here, valued-none, valued-on}
 use Rattle.nodes.specs.Stands.{Valued}

@@ -7,8 +7,8 @@ use lib.ListN.{length, drop}
 use Rattle.laws.proofs.Places.{byte-inside}
 use Rattle.markup.specs.Bytes.{isText, after}
 use Rattle.markup.specs.Classes.{class}
-use Rattle.markup.specs.Reading.Read.{read}
-use Rattle.markup.specs.Names.{byte}
+use Rattle.markup.specs.NamesAndValues.Read.{read}
+use Rattle.markup.specs.NamesAndValues.{byte}
 use Rattle.markup.specs.Elements.{Inside, content, element}
 use Rattle.markup.proofs.AtBytes.{run-after}
 use Rattle.markup.proofs.AtNames.{okMove-back}

@@ -1,18 +1,20 @@
 use Prim.Native.Nat.{ℕ, _+_, _-_, _*_, _/_, _^_, _≤_, _<_}
 use mathlib.Core.Path.{_≡_, refl, ap, _∙_}
 use native.Mathlib.Nat.{mod-lt}
-use lib.ListN.{length, take, length-set}
+use lib.ListN.{length, take, drop, length-set}
+use lib.Seq.{take-set-le, drop-set-lt}
 use lib.Pow.{pow-pos, shr-lt}
 use native.Mathlib.Omega.{arith}
 use Rattle.rows.specs.Packing.{num, packs}
 use Rattle.rows.proofs.Steps.{one-shl, more, stored, flushed, shl-add, shl-add-lt, within}
+use Rattle.rows.proofs.Writing.{later}
 use Rattle.rows.proofs.writer.put.Statement.{statement}
 use Rattle.rows.proofs.writer.put.Tie as tie
 
 abbrev Inv-loop : tie.InvT-loop
 Inv-loop out₀ w v acc₀ have₀ at₀ out acc have at =
     (length out ≡ length out₀) × (have ≤ 63) × (8 * at + have ≡ 8 * at₀ + have₀) × (8 * at + have ≤ 8 * length out) × (acc < 2 ^ have)
-    × (num (take at out) * 2 ^ have + acc ≡ num (take at₀ out₀) * 2 ^ have₀ + acc₀)
+    × (num (take at out) * 2 ^ have + acc ≡ num (take at₀ out₀) * 2 ^ have₀ + acc₀) × (at₀ ≤ at) × (take at₀ out ≡ take at₀ out₀) × (drop at out ≡ drop at out₀)
 
 abbrev μ-loop : tie.MeasureT-loop
 μ-loop out₀ w v acc₀ have₀ at₀ out acc have at = have
@@ -35,7 +37,7 @@ loop-holds c =
     let a = c .before .before .args in
     let p = c .before .before .pre in
     let room : a .s .have + a .w ≤ 63 = omega (arith, p .0 .few, p .1 .0) in
-    (refl, room, refl, omega arith, shl-add-lt 64 (a .s .acc) (a .v) (a .s .have) (a .w) (p .0 .small) (p .1 .0 .1) (omega arith), refl)
+    (refl, room, refl, omega arith, shl-add-lt 64 (a .s .acc) (a .v) (a .s .have) (a .w) (p .0 .small) (p .1 .0 .1) (omega arith), refl, omega arith, refl, refl)
 
 shr-out : tie.Need-shr-out Inv-loop μ-loop
 shr-out c = omega arith
@@ -75,6 +77,9 @@ loop-again c =
       simp length-set (omega arith),
       rw (one-shl 64 (l .have - 8) k) (mod-lt (l .acc) (pow-pos (l .have - 8))),
       rw (one-shl 64 (l .have - 8) k, stored (l .out) (l .at) (l .acc / 2 ^ (l .have - 8)) h) (flushed (num (take (l .at) (l .out))) (l .acc) (l .have - 8) (l .have) e ∙ l .inv .5),
+      omega arith,
+      take-set-le _ (l .out) (l .at) _ (l .inv .6) ∙ l .inv .7,
+      drop-set-lt (l .at + 1) (l .out) (l .at) _ (omega arith) ∙ later (l .at) (l .at + 1) _ (l .out) (omega arith) (l .inv .8),
     )
 
 same-length : tie.Need-same-length Inv-loop μ-loop
@@ -93,6 +98,9 @@ returns c =
         bits = omega arith;
         holds = l .inv .5 ∙ ap (λ (z : ℕ). num (take (a .s .at) (a .out .now)) * 2 ^ (a .s .have + a .w) + z) (shl-add 64 (a .s .acc) (a .v) (a .s .have) (a .w) (p .0 .small) room)
             ∙ more (num (take (a .s .at) (a .out .now))) (a .s .acc) (a .v) (a .s .have) (a .w);
+        same = l .inv .0;
+        before = l .inv .7;
+        behind = l .inv .8;
       },
       omega arith,
     )

@@ -2,7 +2,7 @@ use Rattle.schema.proofs.Pairs.{attrsFrom, attrs-start, attrs-end, attr
 use Rattle.schema.specs.Table.{attrsAt}
 use Rattle.schema.specs.Shape.{attrFits}
 use Rattle.markup.specs.Tags.{Attributes, attributes}
-use Rattle.markup.specs.Reading.Read.{read}
+use Rattle.markup.specs.NamesAndValues.Read.{read}
 use Rattle.laws.specs.Lists.{all}
 use borrow.Author.Tests.{not-true, not-false}
 use lib.ListN.{drop}

@@ -8,11 +8,11 @@ use denote.Ref.{now}
 use lib.ListN.{length, drop}
 use borrow.Fn.Kinds.{In}
 use borrow.Fn.PlainCycle.{Measures, is, falls, and}
-use Rattle.markup.specs.Reading.Read.{read}
+use Rattle.markup.specs.NamesAndValues.Read.{read}
 use Rattle.markup.specs.Elements.{Tree, element as elementOf}
 use Rattle.markup.specs.View.{part}
 use Rattle.schema.specs.Shape.{faultOf}
-use Rattle.schema.specs.Counted.{countOf}
+use Rattle.schema.specs.CountedElements.{countOf}
 use Rattle.schema.specs.Table.{nameAt, nodeAt}
 use Rattle.schema.proofs.Tagged.{has-levels}
 use Rattle.schema.proofs.Group.{walk-wrong, walk-on, walk-fault}

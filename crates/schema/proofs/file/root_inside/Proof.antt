@@ -7,7 +7,7 @@ use denote.Ref.{now}
 use lib.ListN.{length, drop}
 use borrow.Author.Needs.{needs}
 use native.Mathlib.Omega.{arith}
-use Rattle.markup.specs.Reading.Read.{read}
+use Rattle.markup.specs.NamesAndValues.Read.{read}
 use Rattle.markup.specs.Elements.{Inside, content, element as elementOf, kids}
 use Rattle.markup.specs.View.{part}
 use Rattle.reading.specs.Many.{belowRoot}
@@ -109,8 +109,8 @@ loop-again c =
 enum-known-now : tie.Need-enum-known-now Inv-loop μ-loop
 enum-known-now c = search needs
 
-take-record-requires : tie.Need-take-record-requires Inv-loop μ-loop
-take-record-requires c κs = c .before .before .before .before .loop .inv .1
+hold-record-requires : tie.Need-hold-record-requires Inv-loop μ-loop
+hold-record-requires c κs = c .before .before .before .before .loop .inv .1
 
 add-past-child : tie.Need-add-past-child Inv-loop μ-loop
 add-past-child c =
@@ -118,7 +118,7 @@ add-past-child c =
     omega arith
 
 past-child-requires : tie.Need-past-child-requires Inv-loop μ-loop
-past-child-requires c κs = c .take-record .ensures .places
+past-child-requires c κs = c .hold-record .ensures .places
 
 enum-told-3 : tie.Need-enum-told-3 Inv-loop μ-loop
 enum-told-3 c = search needs
@@ -133,7 +133,7 @@ returns-3 c =
       tells = λ i m e h.
           let o = b .inv .2 i m e in
           let w = y .tells (now (a .ranges)) belowRoot (o .left) m (o .reads) in
-          let u = c .before .before .before .take-record .ensures .tells (w .0) (w .2) (w .4) in
+          let u = c .before .before .before .hold-record .ensures .tells (w .0) (w .2) (w .4) in
           let f = walk-fault (now (a .table)) (now (a .pool)) (now (a .ranges)) (now (a .s)) belowRoot (b .at) (c .before .before .before .before .before .before .before .before .before .before .cell .result) (c .before .before .before .before .before .before .before .before .before .cell2 .result) (b .item) o (c .before .before .before .before .before .now .given .0 .0) (c .before .before .before .before .before .now .given .0 .1 .0) w (y .places .0) (λ n. v .tells (w .0) (w .2) (w .4) n (u .1)) in
           inside-bad (schemaAt (now (a .table)) (now (a .pool)) (now (a .ranges)) belowRoot) (a .from) i (f .0) (f .1);
       places = search needs;
@@ -157,15 +157,15 @@ loop-again-2 : tie.Need-loop-again-2 Inv-loop μ-loop
 loop-again-2 c =
     let a = c .before .before .before .before .before .before .before .before .before .before .before .before .before .before .before .before .args in
     let b = c .before .before .before .before .before .before .before .before .before .loop in
-    let r = c .before .before .before .before .take-record .result .seen in
+    let r = c .before .before .before .before .hold-record .result .seen in
     let y = rw (c .before .before .before .before .before .before .now .given .1) at (c .before .before .before .before .before .before .before .before .advance .ensures) in
     let v = rw (c .before .next2 .given .1) at (c .before .before .before .past-child .ensures) in (
       omega arith,
-      further-on r (omega arith) (c .before .before .before .before .take-record .ensures .counts),
+      further-on r (omega arith) (c .before .before .before .before .hold-record .ensures .counts),
       λ i m e.
           let o = b .inv .2 i m e in
           let w = y .tells (now (a .ranges)) belowRoot (o .left) m (o .reads) in
-          let u = c .before .before .before .before .take-record .ensures .tells (w .0) (w .2) (w .4) in
+          let u = c .before .before .before .before .hold-record .ensures .tells (w .0) (w .2) (w .4) in
           walk-child (now (a .table)) (now (a .pool)) (now (a .ranges)) (now (a .s)) belowRoot (b .at) (c .before .before .before .before .before .before .before .before .before .before .before .cell .result) (c .before .before .before .before .before .before .before .before .before .before .cell2 .result) (b .item) o (c .before .before .before .before .before .before .now .given .0 .0) (c .before .before .before .before .before .before .now .given .0 .1 .0) w (y .places .0) (λ j. heldAfter (schemaAt (now (a .table)) (now (a .pool)) (now (a .ranges)) belowRoot) r (kids j)) (λ n. v .tells (w .0) (w .2) (w .4) n (u .1)) (λ _. sym (u .0 (kids (w .1)))),
     )
 
@@ -188,7 +188,7 @@ root-inside-spec =
     loop-less
     loop-again
     enum-known-now
-    take-record-requires
+    hold-record-requires
     add-past-child
     past-child-requires
     enum-told-3

@@ -1,5 +1,5 @@
 use Rattle.schema.specs.Table.{rangesAt}
-use Rattle.codes.specs.Ranges.{inRanges}
+use Rattle.codes.specs.CodesAndCharacters.{inRanges}
 use Rattle.laws.proofs.Places.{all-step, all-end}
 use Rattle.laws.specs.Lists.{all}
 use borrow.Author.Tests.{not-true, not-false}

@@ -1,7 +1,7 @@
 use Rattle.schema.proofs.Ranges.{rangesFrom, ranges-start, ranges-end, ranges-hit, ranges-pass}
 use Rattle.schema.specs.View.{Near}
 use Rattle.schema.specs.Table.{rangesAt}
-use Rattle.codes.specs.Ranges.{inRanges}
+use Rattle.codes.specs.CodesAndCharacters.{inRanges}
 use mathlib.Core.List.{List}
 use mathlib.Core.Path.{_≡_, sym, _∙_}
 use Prim.Native.Nat.{ℕ, _-_}

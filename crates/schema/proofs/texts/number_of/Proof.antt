@@ -1,10 +1,10 @@
 use mathlib.Core.Path.{sym, ap, _∙_}
 use denote.Ref.{now}
-use lib.ListN.{length, drop, length-drop}
+use lib.ListN.{drop, length-drop}
 use borrow.Author.Tests.{not-true, not-false}
 use Rattle.laws.specs.Decimal.{isDigit, decimal}
 use Rattle.laws.specs.Lists.{all}
-use Rattle.codes.specs.Digits.{upTo}
+use Rattle.codes.specs.Capped.{upTo}
 use Rattle.schema.proofs.Digits.{near-up-to, rest-is, digits-none, digits-bad, digits-good}
 use native.Mathlib.Omega.{arith}
 use borrow.Author.Needs.{needs}

@@ -1,9 +1,8 @@
 use mathlib.Core.Path.{_≡_, ap, _∙_}
 use borrow.Author.Needs.{needs}
 use borrow.Author.Tests.{eq-eqb, ne-eqb}
-use Rattle.markup.specs.Elements.{Tree}
 use Rattle.schema.specs.Schema.{Schema}
-use Rattle.schema.specs.Counted.{heldOf}
+use Rattle.schema.specs.CountedElements.{heldOf}
 use Rattle.schema.specs.Table.{rangesAt, attrsAt, headAt, nodeAt, namesAt}
 use Rattle.schemas.specs.Track1.{track1}
 use Rattle.schemas.specs.Track2.{track2}

@@ -2,6 +2,8 @@ use mathlib.Core.Path.{sym, _∙_}
 use borrow.Author.Tests.{not-true, not-false}
 use Rattle.soundness.proofs.Deciding.{sound-told, cases-within}
 use Rattle.soundness.proofs.FindAnswers.{unsound, nowhere, by-key}
+use Rattle.home_care.specs.Row.{rowBytes}
+use Rattle.home_care.proofs.Laid.{row-width}
 use borrow.Author.Needs.{needs}
 use Rattle.soundness.proofs.find.find.Statement.{statement}
 use Rattle.soundness.proofs.find.find.Tie as tie
@@ -27,7 +29,7 @@ slice-aggregate-find-key c = search needs
 find-key-requires : tie.Need-find-key-requires
 find-key-requires c κs =
     let s = sound-told (c .before .before .before .before .before .before .before .before .before .before .before .before .args .reg .now) (sym (c .before .before .before .before .before .before .sound .ensures) ∙ not-false _ (c .before .before .before .before .before .if1 .left)) in
-    (s .long, cases-within (c .before .before .before .before .before .before .before .before .before .before .before .before .args .reg .now) s, c .before .before .before .probe-of .kept .1 .0)
+    (row-width, s .long, cases-within rowBytes (c .before .before .before .before .before .before .before .before .before .before .before .before .args .reg .now) s, c .before .before .before .probe-of .kept .1 .0)
 
 returns-3 : tie.Need-returns-3
 returns-3 c =

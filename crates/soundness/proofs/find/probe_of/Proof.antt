@@ -42,7 +42,7 @@ same-length : tie.Need-same-length
 same-length c = search needs
 
 returns-3 : tie.Need-returns-3
-returns-3 c = (allowed (c .before .before .before .before .before .before .before .before .before .before .before .before .before .before .before .before .before .before .before .args .region .now) (c .before .before .before .before .before .before .before .before .before .before .before .before .before .before .before .before .before .before .before .args .asl .now) (c .before .before .before .before .before .before .before .before .before .before .before .before .before .before .before .before .before .before .before .args .date .now) (c .before .before .before .before .before .before .before .before .before .before .before .before .before .before .before .before .before .before .before .args .id .now) (c .before .before .before .before .before .before .before .before .before .before .before .before .before .if1 .left) _ _ _ _ (c .before .before .before .before .before .before .before .before .before .before .before .before .region-of .ensures) (c .before .before .before .before .before .before .before .before .before .before .before .is-region .ensures) (c .before .before .before .before .before .before .before .before .before .before .all-alnum .ensures) (c .before .before .before .before .before .before .before .before .before .all-id .ensures) (c .before .before .before .before .before .before .before .before .if2 .left) (c .before .before .before .before .before .before .before .read-date .result) (c .before .before .before .before .before .before .before .read-date .ensures .0) _ _ (c .before .before .before .before .before .read .given .1) (c .before .before .before .before .before .before .before .read-date .ensures .1), λ e. key-made (c .before .before .before .before .before .before .before .before .before .before .before .before .before .before .before .before .before .before .before .args .region .now) (c .before .before .before .before .before .before .before .before .before .before .before .before .before .before .before .before .before .before .before .args .asl .now) (c .before .before .before .before .before .before .before .before .before .before .before .before .before .before .before .before .before .before .before .args .date .now) (c .before .before .before .before .before .before .before .before .before .before .before .before .before .before .before .before .before .before .before .args .id .now) (c .before .before .before .before .before .before .before .before .before .before .before .before .before .if1 .left) _ _ _ _ (c .before .before .before .before .before .before .before .before .before .before .before .before .region-of .ensures) (c .before .before .before .before .before .before .before .before .before .before .before .is-region .ensures) (c .before .before .before .before .before .before .before .before .before .before .all-alnum .ensures) (c .before .before .before .before .before .before .before .before .before .all-id .ensures) (c .before .before .before .before .before .before .before .before .if2 .left) (c .before .before .before .before .before .before .before .read-date .result) (c .before .before .before .before .before .before .before .read-date .ensures .0) _ _ (c .before .before .before .before .before .read .given .1) (c .before .before .before .before .before .before .before .read-date .ensures .1) _ _ (c .before .before .before .before .before .before .before .before .before .before .before .before .before .before .before .before .before .before .before .pre .1) (c .before .before .pack-key .ensures))
+returns-3 c = (allowed (c .before .before .before .before .before .before .before .before .before .before .before .before .before .before .before .before .before .before .before .args .region .now) (c .before .before .before .before .before .before .before .before .before .before .before .before .before .before .before .before .before .before .before .args .asl .now) (c .before .before .before .before .before .before .before .before .before .before .before .before .before .before .before .before .before .before .before .args .date .now) (c .before .before .before .before .before .before .before .before .before .before .before .before .before .before .before .before .before .before .before .args .id .now) (c .before .before .before .before .before .before .before .before .before .before .before .before .before .if1 .left) _ _ _ _ (c .before .before .before .before .before .before .before .before .before .before .before .before .region-of .ensures) (c .before .before .before .before .before .before .before .before .before .before .before .is-region .ensures) (c .before .before .before .before .before .before .before .before .before .before .all-alnum .ensures) (c .before .before .before .before .before .before .before .before .before .all-id .ensures) (c .before .before .before .before .before .before .before .before .if2 .left) (c .before .before .before .before .before .before .before .read-date .result) (c .before .before .before .before .before .before .before .read-date .ensures .0) _ _ (c .before .before .before .before .before .read .given .1) (c .before .before .before .before .before .before .before .read-date .ensures .1), λ e. key-made (c .before .before .before .before .before .before .before .before .before .before .before .before .before .before .before .before .before .before .before .args .region .now) (c .before .before .before .before .before .before .before .before .before .before .before .before .before .before .before .before .before .before .before .args .asl .now) (c .before .before .before .before .before .before .before .before .before .before .before .before .before .before .before .before .before .before .before .args .date .now) (c .before .before .before .before .before .before .before .before .before .before .before .before .before .before .before .before .before .before .before .args .id .now) (c .before .before .before .before .before .before .before .before .before .before .before .before .before .if1 .left) _ _ _ _ (c .before .before .before .before .before .before .before .before .before .before .before .before .region-of .ensures) (c .before .before .before .before .before .before .before .before .before .before .before .is-region .ensures) (c .before .before .before .before .before .before .before .before .before .before .all-alnum .ensures) (c .before .before .before .before .before .before .before .before .before .all-id .ensures) (c .before .before .before .before .before .before .before .before .if2 .left) (c .before .before .before .before .before .before .before .read-date .result) (c .before .before .before .before .before .before .before .read-date .ensures .0) _ _ (c .before .before .before .before .before .read .given .1) (c .before .before .before .before .before .before .before .read-date .ensures .1) _ _ (c .before .before .pack-key .ensures))
 
 returns-4 : tie.Need-returns-4
 returns-4 c = (refused (c .before .before .before .before .before .before .before .before .before .before .before .before .before .before .args .region .now) (c .before .before .before .before .before .before .before .before .before .before .before .before .before .before .args .asl .now) (c .before .before .before .before .before .before .before .before .before .before .before .before .before .before .args .date .now) (c .before .before .before .before .before .before .before .before .before .before .before .before .before .before .args .id .now) (c .before .before .before .before .before .before .before .before .if1 .left) _ _ _ _ (c .before .before .before .before .before .before .before .region-of .ensures) (c .before .before .before .before .before .before .is-region .ensures) (c .before .before .before .before .before .all-alnum .ensures) (c .before .before .before .before .all-id .ensures) (c .before .before .before .if2 .left) (c .before .before .read-date .result) (c .before .before .read-date .ensures .0) (c .enum-told .given .1), λ e. absurd (false≢true e))

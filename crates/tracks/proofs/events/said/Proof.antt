@@ -1,6 +1,5 @@
 use Prim.Native.Nat.{ℕ}
-use Rattle.laws.specs.Lists.{same}
-use Rattle.laws.specs.Text.{bytes}
+use Rattle.laws.specs.Lists.{same, bytes}
 use Rattle.nodes.proofs.Naming.{found-child}
 use borrow.Author.Needs.{needs}
 use mathlib.Core.List.{List}

@@ -1,44 +1,20 @@
-use Rattle.tracks.proofs.Totals.{no-day}
-use Rattle.tracks.specs.Defaults.{dayElse}
+use mathlib.Core.Path.{ap, _∙_}
+use Rattle.days.specs.Dates.{isDate, dayOf}
 use borrow.Author.Needs.{needs}
-use mathlib.Core.Path.{_∙_, ap}
-use native.Mathlib.Omega.{arith}
 use Rattle.tracks.proofs.fields.attr_day.Statement.{statement}
 use Rattle.tracks.proofs.fields.attr_day.Tie as tie
 
-attribute-requires : tie.Need-attribute-requires
-attribute-requires c κs = search needs
-
-enum-told : tie.Need-enum-told
-enum-told c = search needs
-
-enum-known-start : tie.Need-enum-known-start
-enum-known-start c = search needs
+attr-text-requires : tie.Need-attr-text-requires
+attr-text-requires c κs = search needs
 
 part-requires : tie.Need-part-requires
 part-requires c κs = search needs
 
 day-of-requires : tie.Need-day-of-requires
-day-of-requires c κs = search needs
+day-of-requires c κs = let k = c .before .before .before .before .pre .1 in (c .before .before .before .before .pre .0, ap isDate (c .part .ensures ∙ c .before .attr-text .ensures (k .0) (k .1)) ∙ k .2)
 
 returns : tie.Need-returns
-returns c =
-    let v = rw (c .enum-told .given .1) at (c .before .before .attribute .ensures) in
-    (λ t h. no-day _ (v .0 t h .0), omega arith)
-
-returns-2 : tie.Need-returns-2
-returns-2 c =
-    let v = rw (c .before .before .before .start .given .1) at (c .before .before .before .before .before .attribute .ensures) in
-    (λ t h. c .day-of .ensures .0 ∙ ap dayElse (c .before .part .ensures ∙ v .0 t h .0), c .day-of .ensures .1)
+returns c = (λ t h. c .day-of .ensures .0 ∙ ap dayOf (c .before .part .ensures ∙ c .before .before .attr-text .ensures t h), c .day-of .ensures .1)
 
 pub attr-day-spec : {M : Type 1} → statement M
-attr-day-spec =
-    tie.close
-    (tie.spec
-    attribute-requires
-    enum-told
-    enum-known-start
-    part-requires
-    day-of-requires
-    returns
-    returns-2)
+attr-day-spec = tie.close (tie.spec attr-text-requires part-requires day-of-requires returns)

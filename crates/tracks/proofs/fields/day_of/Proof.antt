@@ -1,43 +1,84 @@
-use Rattle.tracks.proofs.Totals.{day-read, day-refused, not-long}
-use borrow.Author.Needs.{needs}
+use mathlib.Core.Path.{_∙_}
 use denote.Ref.{now}
-use lib.ListN.{length}
-use mathlib.Core.Path.{_≡_}
+use Rattle.tracks.proofs.Written.{date-parts, real-read, day-read}
 use native.Mathlib.Omega.{arith}
+use borrow.Author.Needs.{needs}
 use Rattle.tracks.proofs.fields.day_of.Statement.{statement}
 use Rattle.tracks.proofs.fields.day_of.Tie as tie
 
-returns : tie.Need-returns
-returns c =
-    (not-long (now (c .before .before .args .x)) (c .if1 .taken), omega arith)
+sub-number : tie.Need-sub-number
+sub-number c = search needs
 
-read-date-requires : tie.Need-read-date-requires
-read-date-requires c κs = search needs
+part-number-start : tie.Need-part-number-start
+part-number-start c = search needs
 
-enum-known-day : tie.Need-enum-known-day
-enum-known-day c = search needs
+part-number-end : tie.Need-part-number-end
+part-number-end c = let d = date-parts (now (c .before .args .x)) (c .before .pre .1) in omega (arith, d .long)
+
+number-requires : tie.Need-number-requires
+number-requires c κs = let d = date-parts (now (c .before .before .args .x)) (c .before .before .pre .1) in d .year
+
+cast-year : tie.Need-cast-year
+cast-year c = let d = date-parts (now (c .before .before .before .args .x)) (c .before .before .before .pre .1) in record { fits = omega (arith, c .number .ensures, d .year .small) }
+
+sub-number-2 : tie.Need-sub-number-2
+sub-number-2 c = search needs
+
+part-number-start-2 : tie.Need-part-number-start-2
+part-number-start-2 c = search needs
+
+part-number-end-2 : tie.Need-part-number-end-2
+part-number-end-2 c = let d = date-parts (now (c .before .before .before .args .x)) (c .before .before .before .pre .1) in omega (arith, d .long)
+
+number-requires-2 : tie.Need-number-requires-2
+number-requires-2 c κs = let d = date-parts (now (c .before .before .before .before .args .x)) (c .before .before .before .before .pre .1) in d .month
+
+cast-month : tie.Need-cast-month
+cast-month c = let d = date-parts (now (c .before .before .before .before .before .args .x)) (c .before .before .before .before .before .pre .1) in record { fits = omega (arith, c .number2 .ensures, d .month .small) }
+
+sub-number-3 : tie.Need-sub-number-3
+sub-number-3 c = search needs
+
+part-number-start-3 : tie.Need-part-number-start-3
+part-number-start-3 c = search needs
+
+part-number-end-3 : tie.Need-part-number-end-3
+part-number-end-3 c = let d = date-parts (now (c .before .before .before .before .before .args .x)) (c .before .before .before .before .before .pre .1) in omega (arith, d .long)
+
+number-requires-3 : tie.Need-number-requires-3
+number-requires-3 c κs = let d = date-parts (now (c .before .before .before .before .before .before .args .x)) (c .before .before .before .before .before .before .pre .1) in d .day
+
+cast-day : tie.Need-cast-day
+cast-day c = let d = date-parts (now (c .before .before .before .before .before .before .before .args .x)) (c .before .before .before .before .before .before .before .pre .1) in record { fits = omega (arith, c .number3 .ensures, d .day .small) }
+
+day-number-requires : tie.Need-day-number-requires
+day-number-requires c κs = let d = date-parts (now (c .before .before .before .before .before .before .before .args .x)) (c .before .before .before .before .before .before .before .pre .1) in (c .before .before .before .before .before .before .before .pre .0, real-read _ d (c .before .before .before .before .number .ensures) (c .before .before .number2 .ensures) (c .number3 .ensures))
 
 cast-result : tie.Need-cast-result
-cast-result c = search needs
+cast-result c = record { fits = omega (arith, c .day-number .ensures .1) }
 
-enum-told : tie.Need-enum-told
-enum-told c = search needs
-
-returns-2 : tie.Need-returns-2
-returns-2 c =
-    let x = now (c .before .before .before .before .before .before .args .x) in
-    let r = rw (c .before .day .given .1) at (c .before .before .before .read-date .ensures) in
-    let l : length x ≡ 10 = omega (arith, c .before .before .before .before .if1 .left) in
-    (day-read x l (r .0), r .1 .0)
-
-returns-3 : tie.Need-returns-3
-returns-3 c =
-    let x = now (c .before .before .before .before .before .args .x) in
-    let r = rw (c .enum-told .given .1) at (c .before .before .read-date .ensures) in
-    let l : length x ≡ 10 = omega (arith, c .before .before .before .if1 .left) in
-    (day-refused x l (r .0), omega arith)
+returns : tie.Need-returns
+returns c = let d = date-parts (now (c .before .before .before .before .before .before .before .before .args .x)) (c .before .before .before .before .before .before .before .before .pre .1) in (c .day-number .ensures .0 ∙ day-read _ d (c .before .before .before .before .before .number .ensures) (c .before .before .before .number2 .ensures) (c .before .number3 .ensures), c .day-number .ensures .1)
 
 pub day-of-spec : {M : Type 1} → statement M
 day-of-spec =
     tie.close
-    (tie.spec returns read-date-requires enum-known-day cast-result enum-told returns-2 returns-3)
+    (tie.spec
+    sub-number
+    part-number-start
+    part-number-end
+    number-requires
+    cast-year
+    sub-number-2
+    part-number-start-2
+    part-number-end-2
+    number-requires-2
+    cast-month
+    sub-number-3
+    part-number-start-3
+    part-number-end-3
+    number-requires-3
+    cast-day
+    day-number-requires
+    cast-result
+    returns)

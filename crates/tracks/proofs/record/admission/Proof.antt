@@ -1,10 +1,8 @@
 use mathlib.Core.Path.{_∙_, ap}
 use denote.Ref.{now}
 use lib.ListN.{drop}
-use native.Mathlib.Omega.{arith}
 use borrow.Author.Needs.{needs}
 use Rattle.reading.specs.Many.{belowRoot}
-use Rattle.codes.proofs.Decimals.{up-to-low}
 use Rattle.home_care.specs.Record.{padded}
 use Rattle.tracks.proofs.ShapedAdmissions.{case-shaped}
 use Rattle.tracks.proofs.record.admission.Statement.{statement}
@@ -65,7 +63,11 @@ child-requires-2 : tie.Need-child-requires-2
 child-requires-2 c κs = search needs
 
 valued-requires : tie.Need-valued-requires
-valued-requires c κs = search needs
+valued-requires c κs =
+    let k = c .before .before .before .before .before .before .before .before .before .before .before .before .before .before .before .before .before .before .before .pre in
+    let x = k .1 in
+    let h = case-shaped (k .0) belowRoot (drop (x .at) (now (c .before .before .before .before .before .before .before .before .before .before .before .before .before .before .before .before .before .before .before .args .s))) (x .tops .after) (x .tops .reads) (x .clean) in
+    (_, c .child2 .ensures _ (x .tops .found .d), h .scales)
 
 part-requires : tie.Need-part-requires
 part-requires c κs = search needs
@@ -86,27 +88,29 @@ text-requires-4 : tie.Need-text-requires-4
 text-requires-4 c κs = search needs
 
 text-number-requires : tie.Need-text-number-requires
-text-number-requires c κs = search needs
+text-number-requires c κs =
+    let k = c .before .before .before .before .before .before .before .before .before .before .before .before .before .before .before .before .before .before .before .before .before .before .before .before .before .before .before .before .pre in
+    let x = k .1 in
+    let h = case-shaped (k .0) belowRoot (drop (x .at) (now (c .before .before .before .before .before .before .before .before .before .before .before .before .before .before .before .before .before .before .before .before .before .before .before .before .before .before .before .before .args .s))) (x .tops .after) (x .tops .reads) (x .clean) in
+    let p = c .before .before .before .before .before .before .before .before .before .before .before .before .before .before .before .before .before .before .several .ensures _ (c .before .before .before .before .before .before .before .before .before .before .before .before .before .before .before .before .before .before .before .before .before .before .before .before .before .child .ensures _ (x .tops .found .b)) in
+    (_, p .a, h .birth)
 
 returns : tie.Need-returns
-returns c = (
-  λ at a k f.
-      let h = case-shaped a belowRoot (drop at (now (c .before .before .before .before .before .before .before .before .before .before .before .before .before .before .before .before .before .before .before .before .before .before .before .before .before .before .before .before .before .args .s))) (k .after) (k .reads) f in
-      let w = k .found in
-      let p = c .before .before .before .before .before .before .before .before .before .before .before .before .before .before .before .before .before .before .before .several .ensures _ (c .before .before .before .before .before .before .before .before .before .before .before .before .before .before .before .before .before .before .before .before .before .before .before .before .before .before .child .ensures _ (w .b)) in
-      let home = c .before .before .before .before .before .before .before .before .before .before .before .before .several2 .ensures _ (p .b) in
-      let v = c .before .before .before .before .before .before .before .before .before .valued .ensures _ (c .before .before .before .before .before .before .before .before .before .before .child2 .ensures _ (w .d)) in
-      record {
-        birth = c .text-number .ensures .0 _ (p .a) ∙ up-to-low 9999 _ (let b = h .birth in omega arith);
-        prevalente = c .before .before .before .before .before .before .filled .ensures ∙ ap padded (c .before .before .before .before .before .before .before .part .ensures ∙ v .0);
-        scales = v .1 ∙ h .scales;
-        region = c .before .before .before .before .text .ensures .0 _ (home .a);
-        asl = c .before .before .before .text2 .ensures .0 _ (home .b);
-        comune = c .before .before .text3 .ensures .0 _ (home .c);
-        stato = c .before .text4 .ensures .0 _ (home .d);
-      },
-  c .text-number .ensures .1,
-)
+returns c =
+    λ a x.
+    let w = x .tops .found in
+    let p = c .before .before .before .before .before .before .before .before .before .before .before .before .before .before .before .before .before .before .before .several .ensures _ (c .before .before .before .before .before .before .before .before .before .before .before .before .before .before .before .before .before .before .before .before .before .before .before .before .before .before .child .ensures _ (w .b)) in
+    let home = c .before .before .before .before .before .before .before .before .before .before .before .before .several2 .ensures _ (p .b) in
+    let v = c .before .before .before .before .before .before .before .before .before .valued .ensures _ (c .before .before .before .before .before .before .before .before .before .before .child2 .ensures _ (w .d)) in
+    record {
+      birth = c .text-number .ensures _ (p .a);
+      prevalente = c .before .before .before .before .before .before .filled .ensures ∙ ap padded (c .before .before .before .before .before .before .before .part .ensures ∙ v .0);
+      scales = v .1;
+      region = c .before .before .before .before .text .ensures .0 _ (home .a);
+      asl = c .before .before .before .text2 .ensures .0 _ (home .b);
+      comune = c .before .before .text3 .ensures .0 _ (home .c);
+      stato = c .before .text4 .ensures .0 _ (home .d);
+    }
 
 pub admission-spec : {M : Type 1} → statement M
 admission-spec =

@@ -1,11 +1,8 @@
-use mathlib.Core.Path.{_∙_}
 use denote.Ref.{now}
 use lib.ListN.{drop}
 use Rattle.reading.specs.Many.{belowRoot}
-use Rattle.codes.proofs.Decimals.{up-to-low}
 use Rattle.tracks.proofs.Filling.{by-place}
 use Rattle.tracks.proofs.Shaped.{head-shaped}
-use native.Mathlib.Omega.{arith}
 use borrow.Author.Needs.{needs}
 use Rattle.tracks.proofs.record.head.Statement.{statement}
 use Rattle.tracks.proofs.record.head.Tie as tie
@@ -32,35 +29,46 @@ slice-aggregate-attr-byte : tie.Need-slice-aggregate-attr-byte
 slice-aggregate-attr-byte c = search needs
 
 attr-byte-requires : tie.Need-attr-byte-requires
-attr-byte-requires c κs = search needs
+attr-byte-requires c κs =
+    let k = c .before .before .before .before .before .before .before .before .pre .1 in
+    let x = k .2 in
+    let h = head-shaped (k .0) (k .1) belowRoot (drop (x .at) (now (c .before .before .before .before .before .before .before .before .args .s))) (x .tops .after) (x .tops .reads) (x .clean) in
+    (_, x .tops .found .a, h .tipo)
 
 slice-aggregate-child-number : tie.Need-slice-aggregate-child-number
 slice-aggregate-child-number c = search needs
 
 child-number-requires : tie.Need-child-number-requires
-child-number-requires c κs = search needs
+child-number-requires c κs =
+    let k = c .before .before .before .before .before .before .before .before .before .before .pre .1 in
+    let x = k .2 in
+    let h = head-shaped (k .0) (k .1) belowRoot (drop (x .at) (now (c .before .before .before .before .before .before .before .before .before .before .args .s))) (x .tops .after) (x .tops .reads) (x .clean) in
+    (_, x .tops .found .c, h .region)
 
 slice-aggregate-attr-day : tie.Need-slice-aggregate-attr-day
 slice-aggregate-attr-day c = search needs
 
 attr-day-requires : tie.Need-attr-day-requires
-attr-day-requires c κs = c .before .before .before .before .before .before .before .before .before .before .before .before .pre
+attr-day-requires c κs =
+    let k = c .before .before .before .before .before .before .before .before .before .before .before .before .pre .1 in
+    let x = k .2 in
+    let h = head-shaped (k .0) (k .1) belowRoot (drop (x .at) (now (c .before .before .before .before .before .before .before .before .before .before .before .before .args .s))) (x .tops .after) (x .tops .reads) (x .clean) in
+    (c .before .before .before .before .before .before .before .before .before .before .before .before .pre .0, (_, c .before .before .before .before .before .before .before .before .before .child .ensures _ (x .tops .found .d), h .taken))
 
 returns : tie.Need-returns
 returns c = (
-  λ track at a k f.
+  λ track a x.
       let s = now (c .before .before .before .before .before .before .before .before .before .before .before .before .before .args .s) in
-      let h = head-shaped track a belowRoot (drop at s) (k .after) (k .reads) f in
-      let w = k .found in
+      let h = head-shaped track a belowRoot (drop (x .at) s) (x .tops .after) (x .tops .reads) (x .clean) in
+      let w = x .tops .found in
       let taken = c .before .before .before .before .before .before .before .before .before .before .child .ensures _ (w .d) in
       record {
         tipo = c .before .before .before .before .attr-byte .ensures _ (w .a);
-        region = c .before .before .child-number .ensures .0 _ (w .c) ∙ up-to-low 9999 _ (let r = h .region in omega arith);
+        region = c .before .before .child-number .ensures _ (w .c);
         asl = by-place s (c .before .before .before .before .before .before .before .before .child-text .result .start) (c .before .before .before .before .before .before .before .before .child-text .result .end) 3 (c .before .before .before .before .before .before .before .before .child-text .ensures .1) (c .before .before .before .before .before .before .before .before .child-text .ensures .0 _ (w .c)) (h .asl);
-        taken = c .attr-day .ensures .0 _ taken ∙ rw (h .taken);
+        taken = c .attr-day .ensures .0 _ taken;
         id = by-place s (c .before .before .before .before .before .before .child-text2 .result .start) (c .before .before .before .before .before .before .child-text2 .result .end) 88 (c .before .before .before .before .before .before .child-text2 .ensures .1) (c .before .before .before .before .before .before .child-text2 .ensures .0 _ taken) (h .id);
       },
-  c .before .before .child-number .ensures .1,
   c .attr-day .ensures .1,
 )
 

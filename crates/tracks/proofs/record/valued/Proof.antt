@@ -42,22 +42,40 @@ child-requires-2 : tie.Need-child-requires-2
 child-requires-2 c κs = search needs
 
 scale-requires : tie.Need-scale-requires
-scale-requires c κs = search needs
+scale-requires c κs =
+    let k = c .before .before .before .before .before .before .before .before .before .before .before .before .before .before .before .pre in
+    let w = c .before .before .before .before .before .before .before .several .ensures (k .0) (k .1) in
+    (_, w .b, k .2 .autonomy)
 
 scale-requires-2 : tie.Need-scale-requires-2
-scale-requires-2 c κs = search needs
+scale-requires-2 c κs =
+    let k = c .before .before .before .before .before .before .before .before .before .before .before .before .before .before .before .before .pre in
+    let w = c .before .before .before .before .before .before .before .before .several .ensures (k .0) (k .1) in
+    (_, w .c, k .2 .mobility)
 
 scale-requires-3 : tie.Need-scale-requires-3
-scale-requires-3 c κs = search needs
+scale-requires-3 c κs =
+    let k = c .before .before .before .before .before .before .before .before .before .before .before .before .before .before .before .before .before .pre in
+    let w = c .before .before .before .before .before .before .before .before .before .several .ensures (k .0) (k .1) in
+    (_, c .before .before .before .before .child .ensures _ (w .d), k .2 .cognitive)
 
 scale-requires-4 : tie.Need-scale-requires-4
-scale-requires-4 c κs = search needs
+scale-requires-4 c κs =
+    let k = c .before .before .before .before .before .before .before .before .before .before .before .before .before .before .before .before .before .before .pre in
+    let w = c .before .before .before .before .before .before .before .before .before .before .several .ensures (k .0) (k .1) in
+    (_, c .before .before .before .child2 .ensures _ (w .d), k .2 .behaviour)
 
 scale-requires-5 : tie.Need-scale-requires-5
-scale-requires-5 c κs = search needs
+scale-requires-5 c κs =
+    let k = c .before .before .before .before .before .before .before .before .before .before .before .before .before .before .before .before .before .before .before .pre in
+    let w = c .before .before .before .before .before .before .before .before .before .before .before .several .ensures (k .0) (k .1) in
+    (_, w .e, k .2 .support)
 
 scale-requires-6 : tie.Need-scale-requires-6
-scale-requires-6 c κs = search needs
+scale-requires-6 c κs =
+    let k = c .before .before .before .before .before .before .before .before .before .before .before .before .before .before .before .before .before .before .before .before .pre in
+    let w = c .before .before .before .before .before .before .before .before .before .before .before .before .several .ensures (k .0) (k .1) in
+    (_, w .f, k .2 .infection)
 
 returns : tie.Need-returns
 returns c =

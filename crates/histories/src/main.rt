@@ -1,0 +1,55 @@
+// Runs each script that its arguments name: several submissions on one register, with soundness, finding and emptying between them. Every answer comes from
+// the exported calls. A script has one command a line, words with one space between; it is printed behind `> `, and its answer below it:
+//   rows N, bytes N                        a register for N rows, of N bytes, all zero (at first: 4 bytes)
+//   load FILE                              a register of the file's bytes
+//   list N                                 an answer list of N bytes from here on (at first: 512)
+//   submit TRACK YEAR QUARTER FILE         submits the file; the lines that the program prints, then `sum`
+//   padded N TRACK YEAR QUARTER FILE       the same, with blanks behind the file up to N bytes
+//   sound, empty, find REGION ASL DATE ID  the other calls; an ID of one character is that character 88 times
+//   # ...                                  a comment
+mod calls;
+mod shown;
+mod words;
+
+use calls::Held;
+use markup::bytes::part;
+use shown::put;
+use words::next;
+use words::past;
+
+// The lines of a script, one after the other, from a register of 4 bytes and the program's answer list.
+fn run(script: &[u8], reg: &mut [u8], sub: &mut [u8]) {
+    exports::siad_empty(reg);
+    let mut held = Held {
+        register: 4,
+        list: 512,
+    };
+    let mut at = 0;
+    while at < script.len() {
+        let end = next(script, at, b'\n');
+        held = calls::command(part(script, at, end), held, reg, sub);
+        at = past(script, at, b'\n');
+    }
+}
+
+fn one(i: usize, reg: &mut [u8; 400000], sub: &mut [u8; 1048577]) {
+    let mut path = io::buffer();
+    let n = os::arg(i, &mut path);
+    put(&path[..n]);
+    put(b":\n");
+    let mut script = io::large_buffer();
+    let long = calls::read(&path[..n], &mut script);
+    run(part(&script, 0, long), reg, sub);
+}
+
+// The buffers are made once: a register of 4,096 rows of up to 97 bytes fits, and the shortest submission that is too long.
+fn main() {
+    let mut reg = [0u8; 400000];
+    let mut sub = [0u8; 1048577];
+    let n = os::arg_count();
+    let mut i = 1;
+    while i < n {
+        one(i, &mut reg, &mut sub);
+        i += 1;
+    }
+}

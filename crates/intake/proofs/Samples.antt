@@ -1,0 +1,226 @@
+-- Three files computed from their bytes on: a Track 1 file with three records of one case, a Track 2 file with that case's events, and one that cancels them.
+use Prim.Native.Nat.{ℕ}
+use Prim.Native.Char.{Char, code}
+use Prim.Native.String as string
+use mathlib.Core.Path.{_≡_, refl, ap, _∙_}
+use mathlib.Core.Bool.{false}
+use mathlib.Core.List.{List, [], _∷_, _++_}
+use lib.ListN.{replicate}
+use Rattle.laws.specs.Lists.{all, any, same, somePair, bytes}
+use Rattle.laws.specs.Loop.{turns, loop}
+use Rattle.laws.specs.Decimal.{decimalAfter}
+use Rattle.days.specs.DayNumbers.{firstOf, yearsTo, dayNumber}
+use Rattle.days.specs.Dates.{isDate, dayOf}
+use Rattle.markup.specs.Bytes.{runLength}
+use Rattle.markup.specs.NamesAndValues.{skipWs, byte, name, value}
+use Rattle.markup.specs.Comments.{comment, dashed, declared}
+use Rattle.markup.specs.Tags.{attribute, attributesStep, attributes, differ, tag, endTag}
+use Rattle.markup.specs.Elements.{piece, content, element}
+use Rattle.markup.specs.Document.{declares, declaration, miscStep, misc, document}
+use Rattle.schema.specs.Shape.{seek, enough, faultIn, namedIn, firstBad, shapeOf}
+use Rattle.schema.specs.Texts.{fitsText}
+use Rattle.nodes.specs.Lookup.{firstNamed, valueIn}
+use Rattle.schemas.specs.Track1.{track1}
+use Rattle.schemas.specs.Track2.{track2}
+use Rattle.model.specs.Map.{find, put, keep, putAll, delAll, anyIn, allIn, twice}
+use Rattle.model.specs.Checks.{first}
+use Rattle.model.specs.Machine.{zeros, others, run, answers}
+use Rattle.model.specs.Log.{calls}
+use Rattle.model.specs.Flow.{State, machine}
+use Rattle.rows.specs.Packing.{packs}
+use Rattle.register.specs.Layout.{rowIn}
+use Rattle.register.specs.State.{from, stateOf, rowsBytes, encode}
+use Rattle.register.specs.RoomAndEmptying.{emptied}
+use Rattle.register.specs.Sound.{ascending}
+use Rattle.home_care.specs.Row.{Key, Case, Event, siad, never, keyNumber, eventNumber, eventRow}
+use Rattle.home_care.specs.Fits.{caseWith, eventWith}
+use Rattle.home_care.specs.Record.{padded, Said, Record, events, eventNumbers}
+use Rattle.tracks.specs.RecordFields.{saidIn, recordOf}
+use Rattle.tracks.specs.TooMany.{tooMany}
+use Rattle.tracks.specs.EventElements.{wordingIn}
+use Rattle.soundness.specs.Sound.{isSound}
+use Rattle.checks.specs.Flow.{caseRow, eventRows}
+use Rattle.intake.specs.FileAnswers.{Call, callOf, Submitted, submitted}
+use Rattle.intake.specs.RecordsIn.{recordsIn}
+use Rattle.intake.specs.Demands.{leftBy}
+use Rattle.intake.specs.Histories.{regAfter}
+
+-- a text in parts
+abbrev parts : List string.String → List ℕ
+parts [] = []
+parts (s ∷ ss) = bytes s ++ parts ss
+
+abbrev opening : Char → List ℕ
+opening tipo = bytes "<Assistenza><Trasmissione tipo=\"" ++ (code tipo ∷ bytes "\"/>")
+
+abbrev sender : List ℕ
+sender = bytes "<Erogatore><CodiceRegione>010</CodiceRegione><CodiceASL>101</CodiceASL></Erogatore>"
+
+abbrev idRec : List ℕ
+idRec = bytes "<Id_Rec>" ++ (replicate 88 (code "A") ++ bytes "</Id_Rec>")
+
+-- Track 1: a record of that type, with that prevalente
+abbrev admitted : Char → string.String → List ℕ
+admitted tipo prevalente =
+    opening tipo ++
+    (parts
+    ("<Assistito><DatiAnagrafici><CUNI>ABC</CUNI><validitaCI>0</validitaCI><tipologiaCI>99</tipologiaCI><AnnoNascita>1951</AnnoNascita><Genere>1</Genere>" ∷
+    "<Cittadinanza>IT</Cittadinanza><StatoCivile>9</StatoCivile><Residenza><Regione>999</Regione><ASL>999</ASL><Comune>999999</Comune>" ∷
+    "<StatoEstero>fr</StatoEstero></Residenza></DatiAnagrafici></Assistito>" ∷
+    "<Conviventi><NucleoFamiliare>2</NucleoFamiliare><AssistenteNonFamiliare>1</AssistenteNonFamiliare></Conviventi>" ∷ []) ++
+    (sender ++
+    (bytes "<Eventi><PresaInCarico data=\"2018-05-01\" soggettoRichiedente=\"1\">" ++
+    (idRec ++
+    parts
+    ("</PresaInCarico><Valutazione data=\"2018-05-02\"><Patologia><Prevalente>" ∷ prevalente ∷ "</Prevalente><Concomitante>015</Concomitante></Patologia>" ∷
+    "<Autonomia>1</Autonomia><GradoMobilita>3</GradoMobilita><Disturbi><Cognitivi>1</Cognitivi><Comportamentali>2</Comportamentali></Disturbi>" ∷
+    "<SupportoSociale>3</SupportoSociale><RischioInfettivo>2</RischioInfettivo><DrenaggioPosturale>1</DrenaggioPosturale>" ∷
+    "<OssigenoTerapia>1</OssigenoTerapia><Ventiloterapia>1</Ventiloterapia><Tracheostomia>1</Tracheostomia>" ∷
+    "<Alimentazione><Assistita>1</Assistita><Enterale>2</Enterale><Parenterale>1</Parenterale></Alimentazione><GestioneStomia>2</GestioneStomia>" ∷
+    "<ElimiUrinariaIntestinale>2</ElimiUrinariaIntestinale><AlterRitmoSonnoVeglia>2</AlterRitmoSonnoVeglia><IntEduTerapeutica>2</IntEduTerapeutica>" ∷
+    "<CuraUlcereCutanee12Grado>2</CuraUlcereCutanee12Grado><CuraUlcereCutanee34Grado>2</CuraUlcereCutanee34Grado>" ∷
+    "<PrelieviVenosiNonOcc>2</PrelieviVenosiNonOcc><ECG>2</ECG><Telemetria>2</Telemetria><TerSottocutIntraMusInfus>2</TerSottocutIntraMusInfus>" ∷
+    "<GestioneCatetere>2</GestioneCatetere><Trasfusioni>2</Trasfusioni><ControlloDolore>2</ControlloDolore>" ∷
+    "<AssistStatoTerminaleOnc>2</AssistStatoTerminaleOnc><AssistStatoTerminaleNonOnc>2</AssistStatoTerminaleNonOnc>" ∷
+    "</Valutazione></Eventi></Assistenza>" ∷ [])))))
+
+-- Track 2: a record of that type, with those events
+abbrev happened : Char → List string.String → List ℕ
+happened tipo these =
+    opening tipo ++
+    (sender ++ (bytes "<Eventi><PresaInCarico data=\"2018-05-01\">" ++ (idRec ++ parts ("</PresaInCarico>" ∷ these) ++ bytes "</Eventi></Assistenza>")))
+
+-- a visit and a suspension
+abbrev two : List string.String
+two =
+    "<Erogazione data=\"2018-05-05\" numAccessi=\"2\"><TipoOperatore>3</TipoOperatore></Erogazione>" ∷
+    "<Sospensione dataInizio=\"2018-05-10\" dataFine=\"2018-05-12\"><Motivazione>1</Motivazione></Sospensione>" ∷
+    []
+
+-- the case is inserted, inserted again, and varied
+abbrev cases : List ℕ
+cases = bytes "<FlsAssDom_1>" ++ (admitted "I" "0101" ++ (admitted "I" "0101" ++ (admitted "V" "0202" ++ bytes "</FlsAssDom_1>")))
+
+-- the two are inserted; then a record without events; and the two are cancelled
+abbrev inserted : List ℕ
+inserted = bytes "<FlsAssDom_2>" ++ (happened "I" two ++ (happened "I" [] ++ bytes "</FlsAssDom_2>"))
+
+abbrev cancelled : List ℕ
+cancelled = bytes "<FlsAssDom_2>" ++ (happened "C" two ++ bytes "</FlsAssDom_2>")
+
+-- all of quarter 2 of 2018, with an answer list of four bytes 9
+abbrev pub admissions : Call
+admissions = callOf cases 1 2018 2 (replicate 4 9)
+
+abbrev pub visits : Call
+visits = callOf inserted 2 2018 2 (replicate 4 9)
+
+abbrev pub cancellation : Call
+cancellation = callOf cancelled 2 2018 2 (replicate 4 9)
+
+-- a register with room for four rows, whatever it held
+abbrev pub register : List ℕ
+register = replicate 368 7
+
+abbrev pub key : Key
+key = record { region = 10; asl = bytes "101"; taken = dayNumber 2018 5 1; id = replicate 88 (code "A") }
+
+-- the case as a record with that prevalente says it
+abbrev pub caseSaid : string.String → Case
+caseSaid prevalente = caseWith 1951 (padded (bytes prevalente)) (1 ∷ 3 ∷ 1 ∷ 2 ∷ 3 ∷ 2 ∷ [])
+
+-- the events as they are said
+abbrev said : Event → Said
+said e = record { event = eventNumber e; valued = false; prevalente = [] }
+
+abbrev pub visit : Event
+visit = eventWith 1 (dayNumber 2018 5 5) never 3 2 0
+
+abbrev pub suspension : Event
+suspension = eventWith 2 (dayNumber 2018 5 10) (dayNumber 2018 5 12) 1 0 0
+
+abbrev pub send : Char → Record
+send tipo = events (record { tipo = code tipo; key = key }) (said visit ∷ said suspension ∷ [])
+
+-- what stands with the case alone, and with its events
+abbrev pub held : string.String → State ℕ ℕ
+held prevalente = record { cases = caseRow key (caseSaid prevalente) ∷ []; events = [] }
+
+abbrev pub standing : State ℕ ℕ
+standing =
+    record {
+      cases = caseRow key (caseSaid "0202") ∷ [];
+      events = eventRow (keyNumber key) (eventNumber visit) ∷ eventRow (keyNumber key) (eventNumber suspension) ∷ [];
+    }
+
+-- that register emptied, and the bytes of a state in it
+abbrev pub begun : List ℕ
+begun = regAfter register []
+
+abbrev pub holding : State ℕ ℕ → List ℕ
+holding s = encode siad 368 s
+
+-- Track 1: accepted, 14, accepted; the case stands as the third record says it
+pub first-gives : submitted admissions begun ≡
+    record { answer = 0; number = 0; records = 3; accepted = 2; discarded = 1; register = holding (held "0202"); answers = 0 ∷ 14 ∷ 0 ∷ 9 ∷ [] }
+unfolding all any same turns loop decimalAfter runLength skipWs byte name value comment dashed declared attribute attributesStep attributes differ tag endTag
+    piece content element declares declaration miscStep misc document namedIn recordOf firstNamed valueIn saidIn wordingIn dayOf track1 track2
+    seek enough faultIn firstBad shapeOf fitsText isDate tooMany
+    somePair firstOf yearsTo find put keep putAll delAll anyIn allIn twice first run answers machine packs eventNumbers eventRows
+    zeros others rowIn from rowsBytes encode emptied calls ascending isSound submitted
+first-gives = refl
+
+-- Track 2: accepted, 20; the accepted record's events stand
+pub second-gives : submitted visits (holding (held "0202")) ≡
+    record { answer = 0; number = 0; records = 2; accepted = 1; discarded = 1; register = holding standing; answers = 0 ∷ 20 ∷ 9 ∷ 9 ∷ [] }
+unfolding all any same turns loop decimalAfter runLength skipWs byte name value comment dashed declared attribute attributesStep attributes differ tag endTag
+    piece content element declares declaration miscStep misc document namedIn recordOf firstNamed valueIn saidIn wordingIn dayOf track1 track2
+    seek enough faultIn firstBad shapeOf fitsText isDate tooMany
+    somePair firstOf yearsTo find put keep putAll delAll anyIn allIn twice first run answers machine packs eventNumbers eventRows
+    zeros others rowIn from rowsBytes encode emptied calls ascending isSound submitted
+second-gives = refl
+
+-- the events cancelled: accepted; every byte is as it was before they were inserted
+pub third-gives : submitted cancellation (holding standing) ≡
+    record { answer = 0; number = 0; records = 1; accepted = 1; discarded = 0; register = holding (held "0202"); answers = 0 ∷ 9 ∷ 9 ∷ 9 ∷ [] }
+unfolding all any same turns loop decimalAfter runLength skipWs byte name value comment dashed declared attribute attributesStep attributes differ tag endTag
+    piece content element declares declaration miscStep misc document namedIn recordOf firstNamed valueIn saidIn wordingIn dayOf track1 track2
+    seek enough faultIn firstBad shapeOf fitsText isDate tooMany
+    somePair firstOf yearsTo find put keep putAll delAll anyIn allIn twice first run answers machine packs eventNumbers eventRows
+    zeros others rowIn from rowsBytes encode emptied calls ascending isSound submitted
+third-gives = refl
+
+-- the records of the second file and of the third
+pub second-records : recordsIn visits ≡ send "I" ∷ events (record { tipo = code "I"; key = key }) [] ∷ []
+unfolding all any same turns loop decimalAfter runLength skipWs byte name value comment dashed declared attribute attributesStep attributes differ tag endTag
+    piece content element declares declaration miscStep misc document namedIn recordOf firstNamed valueIn saidIn wordingIn dayOf track1 track2
+    firstOf packs
+second-records = refl
+
+pub third-records : recordsIn cancellation ≡ send "C" ∷ []
+unfolding all any same turns loop decimalAfter runLength skipWs byte name value comment dashed declared attribute attributesStep attributes differ tag endTag
+    piece content element declares declaration miscStep misc document namedIn recordOf firstNamed valueIn saidIn wordingIn dayOf track1 track2
+    firstOf packs
+third-records = refl
+
+-- what the first record alone leaves
+pub first-record : leftBy admissions begun 1 ≡ held "0101"
+unfolding all any same turns loop decimalAfter runLength skipWs byte name value comment dashed declared attribute attributesStep attributes differ tag endTag
+    piece content element declares declaration miscStep misc document namedIn recordOf firstNamed valueIn saidIn wordingIn dayOf track1 track2
+    somePair firstOf yearsTo find put keep putAll delAll anyIn allIn twice first run answers machine packs eventNumbers eventRows
+    rowIn from emptied calls
+first-record = refl
+
+-- the register after one, two and three of them
+pub after-first : regAfter register (admissions ∷ []) ≡ holding (held "0202")
+unfolding calls
+after-first = ap (λ (r : Submitted). r .register) first-gives
+
+pub after-second : regAfter register (admissions ∷ visits ∷ []) ≡ holding standing
+unfolding calls
+after-second = ap (λ (b : List ℕ). submitted visits b .register) after-first ∙ ap (λ (r : Submitted). r .register) second-gives
+
+-- the accepted events stand beside their case
+pub both-stand : stateOf siad (regAfter register (admissions ∷ visits ∷ [])) ≡ standing
+unfolding rowsBytes encode rowIn from packs firstOf
+both-stand = ap (stateOf siad) after-second

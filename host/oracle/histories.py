@@ -1,0 +1,43 @@
+#!/usr/bin/env python3
+"""The oracle's answers to the scripts of crates/histories, compared with what the program must print (its file `stdout`)."""
+import os
+import sys
+
+import oracle
+
+HERE = os.path.dirname(os.path.abspath(__file__))
+ROOT = os.path.join(HERE, "..", "..", "crates", "histories")
+D = ROOT + "/data/"
+P=2**56-5; out=[]
+def standing(reg):
+    if len(reg)>=4: out.append("cases %d events %d"%(int.from_bytes(reg[:2],'big'),int.from_bytes(reg[2:4],'big')))
+    out.append("sum %d"%(int.from_bytes(reg,'big')%P))
+for name in open(ROOT+'/args').read().split():
+    out.append(name+":"); reg=bytes(4); lst=512
+    for line in open(D+name).read().splitlines():
+        out.append("> "+line); w=line.split(' ')
+        if w[0]=='rows': reg=bytes(4+91*int(w[1]))
+        elif w[0]=='bytes': reg=bytes(int(w[1]))
+        elif w[0]=='load': reg=open(D+w[1],'rb').read()
+        elif w[0]=='list': lst=int(w[1])
+        elif w[0] in('submit','padded'):
+            n=None
+            if w[0]=='padded': n=int(w.pop(1))
+            sub=open(D+w[4],'rb').read()
+            if n: sub=sub.ljust(n)
+            a,num,r,acc,dis,reg,ans=oracle.submit(sub,int(w[1]),int(w[2]),int(w[3]),reg,bytes(lst))
+            out.append("file %d %d records %d accepted %d discarded %d"%(a,num,r,acc,dis))
+            for i in range(r): out.append("%d %d"%(i+1,ans[i]))
+            standing(reg)
+        elif w[0]=='sound': out.append("answer %d"%oracle.sound(reg))
+        elif w[0]=='empty':
+            a,reg=oracle.empty(reg); out.append("answer %d"%a); standing(reg)
+        elif w[0]=='find':
+            idr=w[4]*88 if len(w[4])==1 else w[4]
+            a,p=oracle.find(reg,w[1].encode(),w[2].encode(),w[3].encode(),idr.encode()); out.append("answer %d place %d"%(a,p))
+said = "".join(l + "\n" for l in out)
+with open(ROOT + "/stdout") as f:
+    same = f.read() == said
+print("histories: no difference" if same else "histories: DIFFERENCE")
+sys.exit(not same)
+

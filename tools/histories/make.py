@@ -1,0 +1,206 @@
+#!/usr/bin/env python3
+"""Makes crates/histories/data, args and stdout: the submissions, the register images, the scripts, and what each command must print.
+
+    tools/histories/make.py
+
+What stands after each command and what each record is answered is said in scripts.py by hand, from docs/RULES.md; rows and sums are packed here, by
+arithmetic of this file's own. Nothing is taken from what the program prints. A request that changes the row, the key or an answer changes it here first.
+"""
+import datetime
+import os
+import shutil
+
+HERE = os.path.dirname(os.path.abspath(__file__))
+ROOT = os.path.join(HERE, "..", "..", "crates", "histories")
+D = ROOT + '/data'
+P = 2 ** 56 - 5
+NEVER = 2 ** 17 - 1
+ROW = 91
+def day(t): return (datetime.date.fromisoformat(t) - datetime.date(1900, 1, 1)).days
+def bits(*fields):
+    s = "".join(format(v, "0%db" % w) for v, w in fields)
+    assert len(s) == ROW * 8, len(s)
+    return int(s, 2).to_bytes(ROW, "big")
+def chars(t, n): return [(ord(c), 7) for c in t] + [(0, 7)] * (n - len(t))
+def key(id="A", region=10, asl="101", taken="2018-05-01"):
+    return [(region, 8)] + chars(asl, 3) + [(day(taken), 17)] + chars(id * 88, 88)
+def case(id="A", birth=1940, prevalente="250"):
+    return bits(*key(id), (birth, 12), *chars(prevalente, 5), *[(0, 2)] * 6, (0, 7))
+def event(kind, date, end=None, code=1, accesses=0, conferma=0, id="A"):
+    return bits(*key(id), (kind, 2), (day(date), 17), (NEVER if end is None else day(end), 17), (code, 7), (accesses, 7), (conferma, 2), (0, 14))
+def reval(date, code=1, conferma=1, **k): return event(0, date, code=code, conferma=conferma, **k)
+def visit(date, code=2, accesses=0, **k): return event(1, date, code=code, accesses=accesses, **k)
+def susp(date, end=None, code=1, **k): return event(2, date, end, code=code, **k)
+def concl(date, code=1, **k): return event(3, date, code=code, **k)
+class Reg:
+    def __init__(self, n, cases=(), events=()):
+        self.n, self.cases, self.events = n, list(cases), list(events)
+    def bytes(self):
+        b = len(self.cases).to_bytes(2, "big") + len(self.events).to_bytes(2, "big") + b"".join(self.cases + self.events)
+        assert len(b) <= self.n
+        return b + bytes(self.n - len(b))
+def rows(n, cases=(), events=()): return Reg(4 + ROW * n, cases, events)
+def sum_of(b): return int.from_bytes(b, "big") % P
+def standing(r):
+    b = r if isinstance(r, bytes) else r.bytes()
+    out = []
+    if len(b) >= 4:
+        out.append("cases %d events %d" % (int.from_bytes(b[:2], "big"), int.from_bytes(b[2:4], "big")))
+    return out + ["sum %d" % sum_of(b)]
+def taken(answers, r):
+    a = sum(1 for x in answers if x == 0)
+    return ["file 0 0 records %d accepted %d discarded %d" % (len(answers), a, len(answers) - a)] + ["%d %d" % (i + 1, x) for i, x in enumerate(answers)] + standing(r)
+def refused(answer, r, number=0):
+    return ["file %d %d records 0 accepted 0 discarded 0" % (answer, number)] + standing(r)
+
+# ---- submissions
+def ident(c): return c * 88
+NEEDS1 = ["DrenaggioPosturale", "OssigenoTerapia", "Ventiloterapia", "Tracheostomia", "(", "GestioneStomia", "ElimiUrinariaIntestinale", "AlterRitmoSonnoVeglia",
+ "IntEduTerapeutica", "CuraUlcereCutanee12Grado", "CuraUlcereCutanee34Grado", "PrelieviVenosiNonOcc", "ECG", "Telemetria", "TerSottocutIntraMusInfus",
+ "GestioneCatetere", "Trasfusioni", "ControlloDolore", "AssistStatoTerminaleOnc", "AssistStatoTerminaleNonOnc"]
+def needs(musc):
+    out = []
+    for n in NEEDS1:
+        if n == "(":
+            out.append("<Alimentazione><Assistita>2</Assistita><Enterale>2</Enterale><Parenterale>2</Parenterale></Alimentazione>")
+        else:
+            n = n.replace("MusInfus", "MuscInfus") if musc else n
+            out.append("<%s>2</%s>" % (n, n))
+    return "\n".join(out)
+def t1(id="A", tipo="I", birth="1940", prevalente="250", res=("010", "101", "001272", None), taken="2018-05-01"):
+    reg, asl, com, st = res
+    stato = "<StatoEstero>%s</StatoEstero>" % st if st else ""
+    return f"""<Assistenza>
+<Trasmissione tipo="{tipo}"/>
+<Assistito><DatiAnagrafici>
+<CUNI>C</CUNI><validitaCI>0</validitaCI><tipologiaCI>0</tipologiaCI>
+<AnnoNascita>{birth}</AnnoNascita><Genere>2</Genere><Cittadinanza>IT</Cittadinanza><StatoCivile>9</StatoCivile>
+<Residenza><Regione>{reg}</Regione><ASL>{asl}</ASL><Comune>{com}</Comune>{stato}</Residenza>
+</DatiAnagrafici></Assistito>
+<Conviventi><NucleoFamiliare>1</NucleoFamiliare><AssistenteNonFamiliare>2</AssistenteNonFamiliare></Conviventi>
+<Erogatore><CodiceRegione>010</CodiceRegione><CodiceASL>101</CodiceASL></Erogatore>
+<Eventi>
+<PresaInCarico data="{taken}" soggettoRichiedente="1">
+<Id_Rec>{ident(id)}</Id_Rec>
+</PresaInCarico>
+<Valutazione data="{taken}">
+<Patologia><Prevalente>{prevalente}</Prevalente><Concomitante>000</Concomitante></Patologia>
+<Disturbi/>
+{needs(False)}
+</Valutazione>
+</Eventi>
+</Assistenza>
+"""
+def f1(*recs): return "<FlsAssDom_1>\n" + "".join(recs) + "</FlsAssDom_1>\n"
+def t2(events=(), id="A", tipo="I", taken="2018-05-01"):
+    return f"""<Assistenza>
+<Trasmissione tipo="{tipo}"/>
+<Erogatore><CodiceRegione>010</CodiceRegione><CodiceASL>101</CodiceASL></Erogatore>
+<Eventi>
+<PresaInCarico data="{taken}">
+<Id_Rec>{ident(id)}</Id_Rec>
+</PresaInCarico>
+{"".join(e + chr(10) for e in events)}</Eventi>
+</Assistenza>
+"""
+def f2(*recs): return "<FlsAssDom_2>\n" + "".join(recs) + "</FlsAssDom_2>\n"
+def xv(date, code=2, accesses=None):
+    a = ' numAccessi="%d"' % accesses if accesses else ""
+    return f'<Erogazione data="{date}"{a}><TipoOperatore>{code}</TipoOperatore></Erogazione>'
+def xs(date, end=None, code=1):
+    e = f' dataFine="{end}"' if end else ""
+    return f'<Sospensione dataInizio="{date}"{e}><Motivazione>{code}</Motivazione></Sospensione>'
+def xc(date, code=1): return f'<Conclusione dataAD="{date}"><Motivazione>{code}</Motivazione></Conclusione>'
+def valut(prevalente):
+    return f"<Valutazione>\n<Patologia><Prevalente>{prevalente}</Prevalente><Concomitante>000</Concomitante></Patologia>\n{needs(True)}\n</Valutazione>"
+def xr(date, motivo=1, conferma=1, inside=None):
+    h = f'<Rivalutazione data="{date}" motivo="{motivo}" confermaPrecedente="{conferma}"'
+    return h + "/>" if inside is None else h + ">\n" + inside + "\n</Rivalutazione>"
+
+F = {}
+F["case_a"] = f1(t1())
+F["case_b"] = f1(t1("B"))
+F["case_a_varied"] = f1(t1(tipo="V", birth="1941", prevalente="4019"))
+F["case_a_cancelled"] = f1(t1(tipo="C"))
+F["born_1879"] = f1(t1(birth="1879"))
+F["born_2019"] = f1(t1(birth="2019"))
+F["abroad_it"] = f1(t1(res=("999", "999", "999999", "It")))
+F["abroad_fr_in_010"] = f1(t1(res=("010", "999", "999999", "FR")))
+F["abroad_without_state"] = f1(t1(res=("999", "999", "999999", None)))
+F["abroad_fr"] = f1(t1(res=("999", "999", "999999", "FR")))
+F["prevalente_000"] = f1(t1(prevalente="000"))
+F["prevalente_0000"] = f1(t1(prevalente="0000"))
+F["cases_a_000_b"] = f1(t1(), t1("C", prevalente="000"), t1("B"))
+F["no_event"] = f2(t2())
+F["visit"] = f2(t2([xv("2018-05-02", 2, 3)]))
+F["visit_varied"] = f2(t2([xv("2018-05-02", 5)], tipo="V"))
+F["visit_cancelled"] = f2(t2([xv("2018-05-02")], tipo="C"))
+F["visit_2018_04_30"] = f2(t2([xv("2018-04-30")]))
+F["visit_2018_05_03"] = f2(t2([xv("2018-05-03")]))
+F["visit_2018_06_02"] = f2(t2([xv("2018-06-02")]))
+F["visit_2018_06_30"] = f2(t2([xv("2018-06-30")]))
+F["visit_2018_07_01"] = f2(t2([xv("2018-07-01")]))
+F["visits_2018_05_04_and_05"] = f2(t2([xv("2018-05-04"), xv("2018-05-05")]))
+F["visits_on_one_day"] = f2(t2([xv("2018-05-02", 2), xv("2018-05-02", 5)]))
+F["visits_the_second_stands"] = f2(t2([xv("2018-05-02")]), t2([xv("2018-05-04"), xv("2018-05-02")]), t2([xv("2018-05-06")]))
+F["revaluation_1_with"] = f2(t2([xr("2018-05-10", 1, 1, valut("250"))]))
+F["revaluation_2_without"] = f2(t2([xr("2018-05-10", 1, 2)]))
+F["revaluation_000"] = f2(t2([xr("2018-05-10", 1, 2, valut("000"))]))
+F["revaluation_2_with"] = f2(t2([xr("2018-05-10", 1, 2, valut("250"))]))
+F["suspension_backwards"] = f2(t2([xs("2018-05-05", "2018-05-03")]))
+F["suspension_june_to_july"] = f2(t2([xs("2018-06-28", "2018-07-02")]))
+F["suspensions_share_05_05"] = f2(t2([xs("2018-05-03", "2018-05-05"), xs("2018-05-05", "2018-05-09")]))
+F["suspensions_apart"] = f2(t2([xs("2018-05-03", "2018-05-05"), xs("2018-05-06", "2018-05-09")]))
+F["suspension_without_end"] = f2(t2([xs("2018-05-10")]))
+F["suspension_in_june"] = f2(t2([xs("2018-06-20", "2018-06-21")]))
+F["conclusion_2018_06_01"] = f2(t2([xc("2018-06-01")]))
+F["conclusion_2018_06_02"] = f2(t2([xc("2018-06-02")]))
+F["conclusion_2018_07_31"] = f2(t2([xc("2018-07-31", 3)]))
+F["not_closed"] = "<FlsAssDom_2>\n"
+F["no_record"] = "<FlsAssDom_2/>\n"
+F["text_between_records"] = f2(t2(taken="2018-02-30"), "text\n")
+F["second_taken_in_2018_02_30"] = f2(t2(), t2(taken="2018-02-30"))
+DAYS = [(datetime.date(2018, 5, 1) + datetime.timedelta(i)).isoformat() for i in range(61)]
+E128 = [xr(d) for d in DAYS] + [xv(d) for d in DAYS] + [xs(d, d) for d in DAYS[:6]]
+F["events_128"] = f2(t2(E128))
+F["events_128_cancelled"] = f2(t2(E128, tipo="C"))
+F["events_129"] = f2(t2(E128 + [xc("2018-06-30")]))
+F["depth_12"] = "<D>" * 11 + "<D/>" + "</D>" * 11 + "\n"
+F["depth_13"] = "<D>" * 12 + "<D/>" + "</D>" * 12 + "\n"
+
+A, B = case("A"), case("B")
+AV = case("A", 1941, "4019")
+V2 = visit("2018-05-02", 2, 3)
+REGS = {
+ "case_a": rows(2, [A]).bytes(),
+ "case_a_and_a_bit_behind": rows(2, [A]).bytes()[:-1] + b"\x01",
+}
+
+S = []
+def script(name, *steps): S.append((name, steps))
+def sub(track, f, exp, year=2018, quarter=2): return ("submit %d %d %d files/%s.xml" % (track, year, quarter, f), exp)
+def note(t): return ("# " + t, [])
+def ans(n): return ["answer %d" % n]
+def at(n, p): return ["answer %d place %d" % (n, p)]
+exec(open(os.path.join(HERE, "scripts.py")).read())
+
+if __name__ == "__main__":
+    shutil.rmtree(D, ignore_errors=True)
+    os.makedirs(D + "/files"); os.makedirs(D + "/registers"); os.makedirs(D + "/answers"); os.makedirs(D + "/histories")
+    used = set()
+    for k, v in F.items(): open(f"{D}/files/{k}.xml", "w").write(v)
+    for k, v in REGS.items(): open(f"{D}/registers/{k}", "wb").write(v)
+    out = []
+    for name, steps in S:
+        open(f"{D}/{name}", "w").write("".join(c + "\n" for c, e in steps))
+        out.append(name + ":")
+        for c, e in steps:
+            out.append("> " + c)
+            out += e
+            used.update(w for w in c.split() if "/" in w)
+    open(ROOT + "/stdout", "w").write("".join(l + "\n" for l in out))
+    open(ROOT + "/args", "w").write("".join(n + "\n" for n, _ in S))
+    for k in F:
+        if f"files/{k}.xml" not in used: print("unused", k)
+    for k in REGS:
+        if f"registers/{k}" not in used: print("unused", k)

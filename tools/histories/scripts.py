@@ -1,0 +1,138 @@
+# The scripts of crates/histories: each command, and what it must print. Read by make.py.
+CASE = sub(1, "case_a", taken([0], rows(4, [A])))
+def with_case(name, *steps): script(name, *steps[:1], ("rows 4", []), CASE, *steps[1:])
+
+# ---- an example of each answer: files
+script("answers/00_taken", note("the file is taken, its one record accepted"), ("rows 1", []), sub(1, "case_a", taken([0], rows(1, [A]))))
+script("answers/01_year_or_quarter", note("year 2008, quarter 0, quarter 5; 2009 is a year, though outside the record's quarter"), ("rows 1", []),
+  sub(1, "case_a", refused(1, rows(1)), 2008), sub(1, "case_a", refused(1, rows(1)), 2100), sub(1, "case_a", refused(1, rows(1)), quarter=0), sub(1, "case_a", refused(1, rows(1)), quarter=5),
+  sub(1, "case_a", taken([10], rows(1)), 2009), sub(1, "case_a", taken([10], rows(1)), 2099))
+script("answers/02_track", note("neither 1 nor 2; the period comes first"), ("rows 1", []),
+  sub(0, "case_a", refused(2, rows(1))), sub(3, "case_a", refused(2, rows(1))), sub(3, "case_a", refused(1, rows(1)), 2008))
+script("answers/03_not_sound", note("a register under 4 bytes is never sound, and is not emptied"), ("bytes 3", []),
+  sub(1, "case_a", refused(3, bytes(3))), ("sound", ans(3)), ("find 010 101 2018-05-01 A", at(3, 0)), ("empty", ans(3) + standing(bytes(3))),
+  note("one bit behind the last row is enough"), ("load registers/case_a_and_a_bit_behind", []),
+  sub(1, "case_a", refused(3, REGS["case_a_and_a_bit_behind"])), ("sound", ans(3)), ("find 010 101 2018-05-01 A", at(3, 0)), ("empty", ans(0) + standing(rows(2))), ("sound", ans(0)))
+script("answers/04_too_long", note("one byte too long; the longest is taken"), ("rows 1", []),
+  ("padded 1048577 1 2018 2 files/case_a.xml", refused(4, rows(1))), ("padded 1048576 1 2018 2 files/case_a.xml", taken([0], rows(1, [A]))))
+script("answers/05_not_in_the_markup", note("the root's end tag is missing"), ("rows 1", []), sub(2, "not_closed", refused(5, rows(1))))
+script("answers/06_not_of_the_shape", note("no record; a text between the records, though one is bad; a second record with a date that is no day; the other track's root"), ("rows 1", []),
+  sub(2, "no_record", refused(6, rows(1))), sub(2, "text_between_records", refused(6, rows(1))), sub(2, "second_taken_in_2018_02_30", refused(6, rows(1), 2)), sub(2, "case_a", refused(6, rows(1))))
+script("answers/07_more_than_128_events", note("129 events in the first record"), ("rows 1", []), sub(2, "events_129", refused(7, rows(1), 1)))
+script("answers/08_answer_list_too_short", note("no byte for the one record; one byte is enough"), ("rows 1", []), ("list 0", []), sub(1, "case_a", refused(8, rows(1))),
+  ("list 1", []), sub(1, "case_a", taken([0], rows(1, [A]))))
+
+# ---- records, Track 1
+script("answers/10_outside_the_quarter", note("Track 1: the taking in of 2018-05-01, declared for the third quarter"), ("rows 4", []),
+  sub(1, "case_a", taken([10], rows(4)), quarter=3), CASE,
+  note("Track 2: the first day after the quarter; its last day is in it; a suspension by its end"),
+  sub(2, "visit_2018_07_01", taken([10], rows(4, [A]))), sub(2, "visit_2018_06_30", taken([0], rows(4, [A], [visit("2018-06-30")]))),
+  sub(2, "suspension_june_to_july", taken([10], rows(4, [A], [visit("2018-06-30")]))))
+script("answers/11_birth_year", note("born in 1879; born after the year of taking in"), ("rows 1", []),
+  sub(1, "born_1879", taken([11], rows(1))), sub(1, "born_2019", taken([11], rows(1))))
+script("answers/12_residence_abroad", note("the state is Italy; a state with region 010; 999 throughout without a state; with one it is accepted"), ("rows 1", []),
+  sub(1, "abroad_it", taken([12], rows(1))), sub(1, "abroad_fr_in_010", taken([12], rows(1))), sub(1, "abroad_without_state", taken([12], rows(1))), sub(1, "abroad_fr", taken([0], rows(1, [A]))))
+script("answers/13_prevalente_000", note("000 is no prevalente, 0000 is one"), ("rows 4", []),
+  sub(1, "prevalente_000", taken([13], rows(4))), sub(1, "prevalente_0000", taken([0], rows(4, [case("A", 1940, "0000")]))),
+  note("Track 2: in the evaluation of a Rivalutazione"), sub(2, "revaluation_000", taken([13], rows(4, [case("A", 1940, "0000")]))))
+with_case("answers/14_stands_already", note("inserted twice: a case, an event"),
+  sub(1, "case_a", taken([14], rows(4, [A]))), sub(2, "visit", taken([0], rows(4, [A], [V2]))), sub(2, "visit", taken([14], rows(4, [A], [V2]))))
+script("answers/15_does_not_stand", note("varied or cancelled, and never inserted: a case, an event"), ("rows 4", []),
+  sub(1, "case_a_varied", taken([15], rows(4))), sub(1, "case_a_cancelled", taken([15], rows(4))), CASE,
+  sub(2, "visit_varied", taken([15], rows(4, [A]))), sub(2, "visit_cancelled", taken([15], rows(4, [A]))))
+with_case("answers/16_events_of_the_case_stand", note("a case is cancelled after its events"),
+  sub(2, "visit", taken([0], rows(4, [A], [V2]))), sub(1, "case_a_cancelled", taken([16], rows(4, [A], [V2]))),
+  sub(2, "visit_cancelled", taken([0], rows(4, [A]))), sub(1, "case_a_cancelled", taken([0], rows(4))))
+script("answers/17_no_room", note("room for one row: a second case, an event"), ("rows 1", []),
+  sub(1, "case_a", taken([0], rows(1, [A]))), sub(1, "case_b", taken([17], rows(1, [A]))), sub(2, "visit", taken([17], rows(1, [A]))))
+
+# ---- records, Track 2
+script("answers/20_no_event", note("tested first: the case does not stand either"), ("rows 4", []), sub(2, "no_event", taken([20], rows(4))))
+with_case("answers/21_conferma", note("confermaPrecedente 1 with a Valutazione; 2 without; 2 with one is accepted"),
+  sub(2, "revaluation_1_with", taken([21], rows(4, [A]))), sub(2, "revaluation_2_without", taken([21], rows(4, [A]))),
+  sub(2, "revaluation_2_with", taken([0], rows(4, [A], [reval("2018-05-10", 1, 2)]))))
+with_case("answers/22_key_twice", note("two visits of one day in one record, whoever came"), sub(2, "visits_on_one_day", taken([22], rows(4, [A]))))
+with_case("answers/23_ends_before_it_begins", note("a suspension from 2018-05-05 to 2018-05-03"), sub(2, "suspension_backwards", taken([23], rows(4, [A]))))
+script("answers/24_case_not_standing", note("an event, and no case"), ("rows 4", []), sub(2, "visit", taken([24], rows(4))))
+with_case("answers/25_before_the_taking_in", note("a visit on the day before"), sub(2, "visit_2018_04_30", taken([25], rows(4, [A]))))
+with_case("answers/26_suspensions_share_a_day", note("to 2018-05-05 and from 2018-05-05; from 2018-05-06 they share none"),
+  sub(2, "suspensions_share_05_05", taken([26], rows(4, [A]))),
+  sub(2, "suspensions_apart", taken([0], rows(4, [A], [susp("2018-05-03", "2018-05-05"), susp("2018-05-06", "2018-05-09")]))),
+  note("one without end runs on for ever"),
+  sub(2, "suspension_without_end", taken([0], rows(4, [A], [susp("2018-05-03", "2018-05-05"), susp("2018-05-06", "2018-05-09"), susp("2018-05-10")]))),
+  sub(2, "suspension_in_june", taken([26], rows(4, [A], [susp("2018-05-03", "2018-05-05"), susp("2018-05-06", "2018-05-09"), susp("2018-05-10")]))))
+with_case("answers/27_two_conclusions", note("one stands, another is inserted"),
+  sub(2, "conclusion_2018_06_01", taken([0], rows(4, [A], [concl("2018-06-01")]))), sub(2, "conclusion_2018_06_02", taken([27], rows(4, [A], [concl("2018-06-01")]))))
+with_case("answers/28_after_the_conclusion", note("a visit on the day after the conclusion"),
+  sub(2, "conclusion_2018_06_01", taken([0], rows(4, [A], [concl("2018-06-01")]))), sub(2, "visit_2018_06_02", taken([28], rows(4, [A], [concl("2018-06-01")]))))
+script("answers/30_not_found", note("found; another Id_Rec; texts that no case has: a region, an ASL, a date, an Id_Rec of two characters"), ("load registers/case_a", []),
+  ("find 010 101 2018-05-01 A", at(0, 4)), ("find 010 101 2018-05-01 B", at(30, 0)), ("find 011 101 2018-05-01 A", at(30, 0)), ("find 010 10 2018-05-01 A", at(30, 0)),
+  ("find 010 101 2018-02-30 A", at(30, 0)), ("find 010 101 2018-05-01 AA", at(30, 0)))
+
+# ---- histories
+E2 = [V2, susp("2018-06-28", "2018-07-02")]
+VV = visit("2018-05-02", 5)
+script("histories/a_case_over_two_quarters", note("second quarter: a case, a visit; a suspension that ends in July is the third quarter's"), ("rows 5", []),
+  sub(1, "case_a", taken([0], rows(5, [A]))), sub(2, "visit", taken([0], rows(5, [A], [V2]))), sub(2, "suspension_june_to_july", taken([10], rows(5, [A], [V2]))),
+  ("sound", ans(0)), ("find 010 101 2018-05-01 A", at(0, 4)),
+  note("third quarter: the suspension, a visit whose row goes before it, the conclusion"),
+  sub(2, "suspension_june_to_july", taken([0], rows(5, [A], E2)), quarter=3),
+  sub(2, "visit_2018_07_01", taken([0], rows(5, [A], [V2, visit("2018-07-01"), susp("2018-06-28", "2018-07-02")])), quarter=3),
+  sub(2, "conclusion_2018_07_31", taken([0], rows(5, [A], [V2, visit("2018-07-01"), susp("2018-06-28", "2018-07-02"), concl("2018-07-31", 3)])), quarter=3),
+  note("corrections of the second quarter: the visit and the case are varied; a second conclusion is discarded"),
+  sub(2, "visit_varied", taken([0], rows(5, [A], [VV, visit("2018-07-01"), susp("2018-06-28", "2018-07-02"), concl("2018-07-31", 3)]))),
+  sub(1, "case_a_varied", taken([0], rows(5, [AV], [VV, visit("2018-07-01"), susp("2018-06-28", "2018-07-02"), concl("2018-07-31", 3)]))),
+  sub(2, "conclusion_2018_06_01", taken([27], rows(5, [AV], [VV, visit("2018-07-01"), susp("2018-06-28", "2018-07-02"), concl("2018-07-31", 3)]))),
+  ("sound", ans(0)), ("find 010 101 2018-05-01 A", at(0, 4)), ("find 010 101 2018-05-01 B", at(30, 0)),
+  note("emptied: nothing stands, and no byte is left"), ("empty", ans(0) + standing(rows(5))), ("sound", ans(0)), ("find 010 101 2018-05-01 A", at(30, 0)),
+  sub(2, "visit_varied", taken([24], rows(5))))
+script("histories/a_record_discarded_in_the_middle", note("of three cases the second is discarded: the first and the third stand"), ("rows 4", []),
+  sub(1, "cases_a_000_b", taken([0, 13, 0], rows(4, [A, B]))), ("find 010 101 2018-05-01 A", at(0, 4)), ("find 010 101 2018-05-01 B", at(0, 95)), ("find 010 101 2018-05-01 C", at(30, 0)),
+  note("the second record's second visit stands by then: its first is not stored either"),
+  sub(2, "visits_the_second_stands", taken([0, 14, 0], rows(4, [A, B], [visit("2018-05-02"), visit("2018-05-06")]))), ("sound", ans(0)))
+B6 = rows(6, [B])
+AB6 = rows(6, [A, B])
+script("histories/inserted_and_cancelled", note("what stands before: case B"), ("rows 6", []), sub(1, "case_b", taken([0], B6)),
+  note("case A is inserted, its row before B's, and an event of it"),
+  sub(1, "case_a", taken([0], AB6)), sub(2, "visit", taken([0], rows(6, [A, B], [V2]))),
+  note("a file is refused and a record discarded; then the event is cancelled: the sum is the one before it"),
+  sub(2, "not_closed", refused(5, rows(6, [A, B], [V2]))), sub(2, "visits_on_one_day", taken([22], rows(6, [A, B], [V2]))), sub(2, "visit_cancelled", taken([0], AB6)),
+  note("again a file refused and a record discarded; then the case is cancelled: the sum is the one before both"),
+  sub(2, "events_129", refused(7, AB6, 1)), sub(1, "case_a", taken([14], AB6)), sub(1, "case_a_cancelled", taken([0], B6)), ("sound", ans(0)))
+ALL = [reval(d) for d in DAYS] + [visit(d) for d in DAYS] + [susp(d, d) for d in DAYS[:6]]
+script("histories/events_128_in_one_record", note("128 are taken, 129 give 7, and cancelling the 128 gives the sum before"), ("rows 129", []),
+  sub(1, "case_a", taken([0], rows(129, [A]))), sub(2, "events_128", taken([0], rows(129, [A], ALL))), ("sound", ans(0)),
+  sub(2, "events_129", refused(7, rows(129, [A], ALL), 1)), sub(1, "case_b", taken([17], rows(129, [A], ALL))),
+  sub(2, "events_128_cancelled", taken([0], rows(129, [A]))))
+script("histories/depth_12_and_13", note("depth 12 is read, and is not of the shape; depth 13 is not in the markup"), ("rows 1", []), sub(2, "depth_12", refused(6, rows(1))), sub(2, "depth_13", refused(5, rows(1))))
+FULL = rows(3, [A], [V2, visit("2018-05-03")])
+script("histories/the_last_row_of_room", note("room for three rows: a record with two events when one row is left is not taken in part"), ("rows 3", []),
+  sub(1, "case_a", taken([0], rows(3, [A]))), sub(2, "visit", taken([0], rows(3, [A], [V2]))), sub(2, "visits_2018_05_04_and_05", taken([17], rows(3, [A], [V2]))),
+  note("the last row is used; then no case and no event goes in, and a variation does"),
+  sub(2, "visit_2018_05_03", taken([0], FULL)), sub(1, "case_b", taken([17], FULL)), sub(2, "visit_2018_06_02", taken([17], FULL)),
+  sub(2, "visit_varied", taken([0], rows(3, [A], [VV, visit("2018-05-03")]))), ("sound", ans(0)),
+  note("a cancelled row is room again, also for a case"),
+  sub(2, "visit_cancelled", taken([0], rows(3, [A], [visit("2018-05-03")]))), sub(1, "case_b", taken([0], rows(3, [A, B], [visit("2018-05-03")]))),
+  ("find 010 101 2018-05-01 B", at(0, 95)), ("sound", ans(0)))
+script("histories/registers_from_files", note("a register that another tool packed is gone on with"), ("load registers/case_a", []), ("sound", ans(0)),
+  sub(2, "visit", taken([0], rows(2, [A], [V2]))), ("find 010 101 2018-05-01 A", at(0, 4)),
+  note("with one bit behind the last row every file is answered 3, and no byte moves, until the register is emptied"),
+  ("load registers/case_a_and_a_bit_behind", []), sub(2, "visit", refused(3, REGS["case_a_and_a_bit_behind"])), ("find 010 101 2018-05-01 A", at(3, 0)), ("sound", ans(3)),
+  ("empty", ans(0) + standing(rows(2))), sub(1, "case_a", taken([0], rows(2, [A]))), sub(2, "visit", taken([0], rows(2, [A], [V2]))))
+script("histories/lengths_without_room", note("4 and 94 bytes: sound, no room; 95: room for one"), ("bytes 4", []), ("sound", ans(0)), sub(1, "case_a", taken([17], bytes(4))),
+  ("bytes 94", []), ("sound", ans(0)), sub(1, "case_a", taken([17], bytes(94))), ("bytes 95", []), sub(1, "case_a", taken([0], rows(1, [A]))))
+
+A1 = rows(1, [A])
+def pad(n, f, exp): return ("padded %d 2 2018 2 files/%s.xml" % (n, f), exp)
+script("histories/the_first_that_holds", note("files to which two answers would fit: the first in the order 1 to 8 is given"), ("bytes 3", []),
+  sub(3, "not_closed", refused(1, bytes(3)), 2008), sub(3, "not_closed", refused(2, bytes(3))), pad(1048577, "not_closed", refused(3, bytes(3))),
+  ("rows 1", []), ("list 0", []), pad(1048577, "not_closed", refused(4, rows(1))), sub(2, "not_closed", refused(5, rows(1))), sub(2, "no_record", refused(6, rows(1))),
+  sub(2, "events_129", refused(7, rows(1), 1)), sub(2, "no_event", refused(8, rows(1))), ("list 1", []), sub(2, "no_event", taken([20], rows(1))),
+  note("records of Track 2, while the case does not stand: 20, 10, 22, 23 before 24; 24 before 15 and 25"),
+  sub(2, "no_event", taken([20], rows(1)), quarter=3), sub(2, "suspension_backwards", taken([10], rows(1)), quarter=3), sub(2, "visits_on_one_day", taken([22], rows(1))),
+  sub(2, "suspension_backwards", taken([23], rows(1))), sub(2, "visit_varied", taken([24], rows(1))), sub(2, "visit_2018_04_30", taken([24], rows(1))),
+  note("Track 1, with the case standing and no room: 10 to 13 before 14, and 14 before 17"),
+  sub(1, "case_a", taken([0], A1)), sub(1, "case_a", taken([10], A1), quarter=3), sub(1, "born_1879", taken([11], A1)), sub(1, "abroad_it", taken([12], A1)),
+  sub(1, "prevalente_000", taken([13], A1)), sub(1, "case_a", taken([14], A1)),
+  note("Track 2, with no room: 25 and 26 before 17"),
+  sub(2, "visit_2018_04_30", taken([25], A1)), sub(2, "suspensions_share_05_05", taken([26], A1)), sub(2, "visit", taken([17], A1)))
