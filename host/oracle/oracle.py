@@ -1,5 +1,5 @@
-"""The rules (docs/RULES.md) in plain Python, with the schemas 4.5.2 and 4.6.2 of SIAD 6.4: an oracle written without a look at the proved code or its
-   definitions. A letter and a number name a rule; quotes are its words. docs/DECISIONS.md: the points that were open."""
+"""The rules in plain Python: an oracle written from the paper that docs/RULES.md retells and the schemas 4.5.2 and 4.6.2 of SIAD 6.4, without a look at the
+   proved code or its definitions. A letter and a number name a rule; quotes are its words. docs/DECISIONS.md: the points that were open."""
 import re
 from datetime import date
 from functools import lru_cache
