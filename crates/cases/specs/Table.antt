@@ -111,7 +111,7 @@ cases =
     -- P3: "suspensions 05-03 to 05-05 and 05-05 to 05-09 share a day", "05-03 to 05-05 and 05-06 to 05-09 don't"
     share "2018-05-03" "2018-05-05" "2018-05-05" "2018-05-09" ∷
     apart "2018-05-03" "2018-05-05" "2018-05-06" "2018-05-09" ∷
-    -- P4: "prevalente `000` gives 13", "`0000` doesn't: the same record of Track 1 gives 0"
+    -- P4: "prevalente `000` gives 13, in either track", "`0000` doesn't: the same records give 0"
     gives-13 "000" ∷
     gives-no-13 "0000" ∷
     -- P5: "a zero register of 4 or of 94 bytes is sound, with room 0", "one of 95 is, with room 1"
