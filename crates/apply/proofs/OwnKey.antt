@@ -9,13 +9,14 @@ use Rattle.laws.proofs.Order.{Tri, below, equal, above, tri}
 use Rattle.rows.specs.Packing.{num}
 use Rattle.register.specs.Gap.{bytesAt, fieldIn}
 use Rattle.register.specs.Search.{keyAt, Rises, Placed}
-use Rattle.home_care.specs.Row.{rowBytes, keyBits, eventKeyBits, ownBits}
+use Rattle.home_care.specs.Row.{rowBytes, keyBits, eventKeyBits, ownBits, siad}
+use Rattle.register.specs.Layout.{caseRest, eventRest}
 
 pub key-parts : (reg : List ℕ) (p : ℕ) → (keyAt rowBytes eventKeyBits reg p ≡ keyAt rowBytes keyBits reg p * 2 ^ ownBits + fieldIn rowBytes keyBits ownBits reg p) × (fieldIn rowBytes keyBits ownBits reg p < 2 ^ ownBits)
 unfolding keyAt fieldIn
 key-parts reg p =
     let n : ℕ = num (bytesAt rowBytes reg p) in
-    let e : n / 2 ^ 47 / 2 ^ ownBits ≡ n / 2 ^ 66 = shr-shr n 47 ownBits in
+    let e : n / 2 ^ eventRest siad / 2 ^ ownBits ≡ n / 2 ^ caseRest siad = shr-shr n (eventRest siad) ownBits in
     (omega arith, omega arith)
 
 pub from-or-before : (i p : ℕ) → (i ≤ p) ⊎ (p < i)

@@ -30,6 +30,7 @@ use Rattle.apply.specs.Events.{rowsFor, AllOver}
 use Rattle.apply.proofs.Filling.{standing}
 use Rattle.apply.proofs.OwnKey.{key-parts}
 use Rattle.apply.proofs.Spot.{found, written-over}
+use Rattle.register.specs.RoomAndEmptying.{mostRows}
 
 -- ---- rows over those with their keys: the keys stay
 
@@ -94,7 +95,7 @@ module _ (k : ℕ) (evs a : List ℕ) where
 
   module _ (c v : ℕ) (hc : c ≡ casesHeld a) (hv : v ≡ eventsHeld a) where
     -- nor are bytes whose counts claim more rows than there are
-    pub misfits : (t : Bool) → t ≡ (leb (c + v) 4096 && leb (4 + rowBytes * (c + v)) (length a)) → t ≡ false → AllOver k evs a a
+    pub misfits : (t : Bool) → t ≡ (leb (c + v) mostRows && leb (4 + rowBytes * (c + v)) (length a)) → t ≡ false → AllOver k evs a a
     misfits t x f s st al =
         let w = standing k evs a c v hc hv s st in
         let u = stored-few siad laid-siad a s st in

@@ -8,11 +8,11 @@ use Rattle.model.specs.Map.{Row, has, put}
 use Rattle.model.specs.Flow.{State}
 use Rattle.register.specs.RoomAndEmptying.{room}
 use Rattle.register.specs.Stored.{Stored, cases, withRows}
-use Rattle.home_care.specs.Row.{Case, caseNumber, siad}
+use Rattle.home_care.specs.Row.{Case, caseNumber, siad, rowBytes, caseZerosWide}
 
 -- the row of the case with the key k
 abbrev pub rowFor : ℕ → Case → Row ℕ
-rowFor k c = record { key = k; val = caseNumber c * 2 ^ 7 }
+rowFor k c = record { key = k; val = caseNumber c * 2 ^ caseZerosWide rowBytes }
 
 -- the register b is a with the case: its key stands, or there is room for one row more
 abbrev pub CaseIn : ℕ → Case → List ℕ → List ℕ → Type 0

@@ -6,7 +6,7 @@ use lib.ListN.{length}
 use Rattle.rows.specs.Packing.{digits}
 use Rattle.rows.specs.Writer.{soFar, count, Tidy}
 use Rattle.rows.specs.declared.writer.Bits.{Bits}
-use Rattle.home_care.specs.Row.{Case, rowBytes, keyBits, caseBits, eventBits, caseNumber, eventZeros}
+use Rattle.home_care.specs.Row.{Case, rowBytes, keyBits, caseBits, eventBits, caseNumber, eventZeros, caseZerosWide}
 
 -- an event's row: the case's key, the event's 52 bits, zero bits
 abbrev pub eventBytes : ℕ → ℕ → List ℕ
@@ -14,7 +14,7 @@ eventBytes k e = digits rowBytes ((k * 2 ^ eventBits + e) * 2 ^ eventZeros)
 
 -- a case's row: its key, the 59 bits of its fields, zero bits
 abbrev pub caseBytes : ℕ → Case → List ℕ
-caseBytes k c = digits rowBytes ((k * 2 ^ caseBits + caseNumber c) * 2 ^ 7)
+caseBytes k c = digits rowBytes ((k * 2 ^ caseBits + caseNumber c) * 2 ^ caseZerosWide rowBytes)
 
 -- the writer that has written the key k of the probe
 pub record Keyed (probe : List ℕ) (s : Bits) (k : ℕ) : Type 0 where

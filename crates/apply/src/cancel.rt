@@ -11,6 +11,7 @@ ghost use Rattle.register.specs.Moves.{closedUp, onPart, removed};
 ghost use Rattle.register.specs.Search.{probeKey};
 ghost use Rattle.home_care.specs.Row.{rowBytes, keyBits, eventBits};
 ghost use Rattle.apply.specs.Events.{AllOut};
+ghost use Rattle.register.specs.View.{mostCounted};
 use crate::order::next_below;
 use home_care::layout::CASE_KEY;
 use home_care::layout::OWN_KEY;
@@ -27,7 +28,7 @@ use register::search::place_by;
 
 // A gap of j rows in front of row i takes row r in: the rows between go on through the gap.
 fn widen(reg: &mut [u8], r: usize, i: usize, j: usize)
-    requires { ⌜ (r < i) × (i + j < 131072) × (4 + rowBytes * (i + j) ≤ length (now reg)) ⌝ }
+    requires { ⌜ (r < i) × (i + j < mostCounted) × (4 + rowBytes * (i + j) ≤ length (now reg)) ⌝ }
     ensures { λ _. ⌜ ((n : ℕ) (a : List ℕ) → i ≤ n → Gap rowBytes i j n a (now (reg .entry)) → Gap rowBytes r (j + 1) (n - 1) (removed rowBytes r n a) (now (reg .exit))) ⌝ }
 {
     let from = 4 + ROW * (r + 1);
@@ -37,7 +38,7 @@ fn widen(reg: &mut [u8], r: usize, i: usize, j: usize)
 
 // The rows up to row n come back over a gap of j rows in front of row i, and zeros in behind them.
 fn close(reg: &mut [u8], i: usize, j: usize, n: usize)
-    requires { ⌜ (i + j ≤ n) × (n < 131072) × (4 + rowBytes * n ≤ length (now reg)) ⌝ }
+    requires { ⌜ (i + j ≤ n) × (n < mostCounted) × (4 + rowBytes * n ≤ length (now reg)) ⌝ }
     ensures { λ _. ⌜ now (reg .exit) ≡ onPart (closedUp (rowBytes * j)) (4 + rowBytes * i) (4 + rowBytes * n - (4 + rowBytes * i)) (now (reg .entry)) ⌝ }
 {
     let from = 4 + ROW * i;

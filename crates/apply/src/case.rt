@@ -8,6 +8,7 @@ ghost use Rattle.home_care.specs.Row.{rowBytes, keyBits};
 ghost use Rattle.home_care.specs.Fits.{caseWith, CaseFits};
 ghost use Rattle.apply.specs.Cases.{CaseIn};
 ghost use Rattle.apply.specs.RowBytes.{caseBytes, Keyed};
+ghost use Rattle.register.specs.View.{mostCounted};
 use crate::probe::key_in;
 use home_care::layout::CASE_KEY;
 use home_care::layout::ROW;
@@ -67,7 +68,7 @@ fn insert_case(
     prevalente: &[u8],
     scales: &[u8],
 )
-    requires { ⌜ (i ≤ n) × (n < 131072) × (4 + rowBytes * (n + 1) ≤ length (now reg)) × Keyed (now probe) key (probeKey rowBytes keyBits (now probe)) × CaseFits (caseWith birth (now prevalente) (now scales)) ⌝ }
+    requires { ⌜ (i ≤ n) × (n < mostCounted) × (4 + rowBytes * (n + 1) ≤ length (now reg)) × Keyed (now probe) key (probeKey rowBytes keyBits (now probe)) × CaseFits (caseWith birth (now prevalente) (now scales)) ⌝ }
     ensures { λ _. ⌜ now (reg .exit) ≡ inserted rowBytes i n (caseBytes (probeKey rowBytes keyBits (now (probe .entry))) (caseWith birth (now (prevalente .entry)) (now (scales .entry)))) (now (reg .entry)) ⌝ }
 {
     let from = 4 + ROW * i;

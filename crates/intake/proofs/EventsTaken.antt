@@ -38,6 +38,7 @@ use Rattle.intake.specs.Taking.{Here, siadDriver}
 use Rattle.intake.proofs.SoundBytes.{sound-stored}
 use Rattle.intake.proofs.RecordRead.{of-shape, record-2}
 use Rattle.intake.proofs.RecordTaken.{discarded, accepted}
+use Rattle.schemas.specs.Parts.{mostEvents}
 
 events-map : (es : List Said) → map (λ e. e .event) es ≡ eventNumbers es
 unfolding eventNumbers
@@ -60,7 +61,7 @@ each-small (e ∷ es) h =
 -- the events read into a buffer: as many as were counted, no more than 128, each in its 52 bits
 pub record EventsHeld (r : EventsRead) (evs : List ℕ) : Type 0 where
   pub all-there : r .count ≡ length (take (r .count) evs)
-  pub no-more : length (take (r .count) evs) ≤ 128
+  pub no-more : length (take (r .count) evs) ≤ mostEvents
   pub inside : r .count ≤ length evs
   pub small : all (λ e. ltb e (2 ^ eventBits)) (take (r .count) evs) ≡ true
 
@@ -73,7 +74,7 @@ pub record EventsWays (r : EventsRead) (evs : List ℕ) (h : HeadRead) (probe re
       Stored siad later (next (events g es) t)) →
       length later ≡ length reg → Took (siadDriver 2 c) reg a n later
 
-module _ (s : List ℕ) (top : Six) (r : EventsRead) (buffer evs : List ℕ) (wide : length buffer ≡ 128)
+module _ (s : List ℕ) (top : Six) (r : EventsRead) (buffer evs : List ℕ) (wide : length buffer ≡ mostEvents)
     (told : (a : Tree) → OfShape 2 s top a → IsEvents r buffer evs (allSaid a))
     (a : Tree) (x : Here 2 s top a) where
   is-events : IsEvents r buffer evs (allSaid a)
@@ -82,7 +83,7 @@ module _ (s : List ℕ) (top : Six) (r : EventsRead) (buffer evs : List ℕ) (wi
   readable-2 : Readable (events (headOf a) (allSaid a))
   readable-2 = readable (events (headOf a) (allSaid a)) (rw (record-2 a) at (x .good .well))
 
-  few : length (eventNumbers (allSaid a)) ≤ 128
+  few : length (eventNumbers (allSaid a)) ≤ mostEvents
   few = omega (arith, events-count (allSaid a), x .good .few refl)
 
   count-is : r .count ≡ length (eventNumbers (allSaid a))

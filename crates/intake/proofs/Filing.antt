@@ -47,21 +47,22 @@ use Rattle.intake.specs.Steps.{Whole, callWith}
 use Rattle.intake.specs.View.{Says}
 use Rattle.intake.proofs.Along.{tallied, ends-end, ends-all}
 use Rattle.intake.proofs.SoundBytes.{sound-stored}
+use Rattle.schemas.specs.Parts.{mostEvents}
 
 -- ---- the records of a file without a fault are good
 
-few-each : (i : ℕ) (rs : List Tree) → tooMany i rs ≡ 0 → Every (λ a. length (allSaid a) ≤ 128) rs
+few-each : (i : ℕ) (rs : List Tree) → tooMany i rs ≡ 0 → Every (λ a. length (allSaid a) ≤ mostEvents) rs
 unfolding tooMany
 few-each i [] e = tt
-few-each i (a ∷ rs) e = go (ltb 128 (length (allSaid a))) refl (few-each (1 + i) rs) e
+few-each i (a ∷ rs) e = go (ltb mostEvents (length (allSaid a))) refl (few-each (1 + i) rs) e
   where
-    go : (b : Bool) → ltb 128 (length (allSaid a)) ≡ b → (tooMany (1 + i) rs ≡ 0 → Every (λ a. length (allSaid a) ≤ 128) rs) →
-        cond b (1 + i) (tooMany (1 + i) rs) ≡ 0 → (length (allSaid a) ≤ 128) × Every (λ a. length (allSaid a) ≤ 128) rs
+    go : (b : Bool) → ltb mostEvents (length (allSaid a)) ≡ b → (tooMany (1 + i) rs ≡ 0 → Every (λ a. length (allSaid a) ≤ mostEvents) rs) →
+        cond b (1 + i) (tooMany (1 + i) rs) ≡ 0 → (length (allSaid a) ≤ mostEvents) × Every (λ a. length (allSaid a) ≤ mostEvents) rs
     go true q ih z = absurd (omega arith)
-    go false q ih z = (ltb-false 128 (length (allSaid a)) q, ih z)
+    go false q ih z = (ltb-false mostEvents (length (allSaid a)) q, ih z)
 
 each-good : (track : ℕ) (rs : List Tree) → Every (Meets Legible (eachOf track)) rs → Every (λ r. WellRead (recordOf track r)) rs →
-    (eqb track 1 ≡ false → Every (λ a. length (allSaid a) ≤ 128) rs) → Every (GoodRecord track) rs
+    (eqb track 1 ≡ false → Every (λ a. length (allSaid a) ≤ mostEvents) rs) → Every (GoodRecord track) rs
 each-good track [] m w f = tt
 each-good track (r ∷ rs) m w f =
     (record { clean = m .0 .clean; well = w .0; few = λ e. f e .0 }, each-good track rs (m .1) (w .1) (λ e. f e .1))

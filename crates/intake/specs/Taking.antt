@@ -20,12 +20,13 @@ use Rattle.tracks.specs.Top.{TopOf}
 use Rattle.tracks.specs.WellRead.{WellRead}
 use Rattle.checks.specs.CheckOrder.{siadMachine}
 use Rattle.intake.specs.Driving.{Driver}
+use Rattle.schemas.specs.Parts.{mostEvents}
 
 -- a record that is of the shape, its fields in range; no more events than 7 allows
 pub record GoodRecord (track : ℕ) (a : Tree) : Type 0 where
   pub clean : faultOf (eachOf track) a ≡ 0
   pub well : WellRead (recordOf track a)
-  pub few : eqb track 1 ≡ false → length (allSaid a) ≤ 128
+  pub few : eqb track 1 ≡ false → length (allSaid a) ≤ mostEvents
 
 -- and stands at a place, with its children at hand
 pub record Here (track : ℕ) (s : List ℕ) (top : Six) (a : Tree) : Type 0 where

@@ -20,13 +20,16 @@ use nodes::Six;
 use tracks::events::events;
 use tracks::record::head;
 
+// F7: no record that is taken has more.
+const MOST_EVENTS: usize = 128;
+
 // The record of Track 2 whose children are at hand: its answer.
 pub fn take_events(t: &[u32; 2400], l: Limits, s: &[u8], top: Six, reg: &mut [u8]) -> u8
     requires { ⌜ Firsts (now t) × ((a : Tree) × Here 2 (now s) top a) × (isSound (now reg) ≡ true) × (l .room ≡ room siad (length (now reg))) ⌝ }
     ensures { λ r. ⌜ ((a : Tree) → Here 2 (now (s .entry)) top a → Took (siadDriver 2 (contextIn l)) (now (reg .entry)) a r (now (reg .exit))) ⌝ }
 {
     let h = head(t, s, top);
-    let mut evs = [0u64; 128];
+    let mut evs = [0u64; MOST_EVENTS];
     let said = events(t, s, top, &mut evs);
     let n = said.count;
     let asl = part(s, h.asl, h.asl + 3);

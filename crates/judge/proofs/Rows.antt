@@ -1,5 +1,5 @@
 -- A case's rows, which ascend: what is looked for in a part of them, and an event found by its key.
-use Prim.Native.Nat.{ℕ, zero, suc, _+_, _-_, _*_, _≤_, _<_}
+use Prim.Native.Nat.{ℕ, zero, suc, _+_, _-_, _*_, _≤_, _<_, _^_}
 use mathlib.Core.Path.{_≡_, refl, sym, ap, ap₂, _∙_}
 use mathlib.Core.Bool.{Bool, true, false, _||_, or-false, or-true, or-assoc, true≢false}
 use mathlib.Core.List.{List, [], _∷_, _++_, map}
@@ -17,7 +17,7 @@ use Rattle.register.specs.State.{from, split, eventsFrom}
 use Rattle.register.specs.Search.{Rises, Placed}
 use Rattle.register.proofs.From.{from-length, from-cut}
 use Rattle.register.proofs.Walks.{from-next, from-none, from-every}
-use Rattle.home_care.specs.Row.{siad, kindOf, eventNumberIn, eventKeyOf}
+use Rattle.home_care.specs.Row.{siad, kindOf, eventNumberIn, eventKeyOf, dayBits}
 use Rattle.judge.specs.ByNumber.{keyAmong}
 use Rattle.judge.specs.CaseRows.{eventAt, eventKeyAt, standingIn, Climbs, Settled, Outside}
 
@@ -114,7 +114,7 @@ module _ (reg : List ℕ) (lo hi : ℕ) (up : Climbs reg lo hi) where
             near j x y (above m _ _) = ne-eqb (eventKeyAt reg j) (eventKeyOf e) (λ w. omega (arith, up i j (pl .low) m y))
 
 -- the rows of a kind: from its first possible key up to the next kind's
-pub kind-rows : (reg : List ℕ) (lo hi kind a e : ℕ) → Placed (eventKeyAt reg) (kind * 131072) lo hi a → Placed (eventKeyAt reg) ((kind + 1) * 131072) a hi e →
+pub kind-rows : (reg : List ℕ) (lo hi kind a e : ℕ) → Placed (eventKeyAt reg) (kind * 2 ^ dayBits) lo hi a → Placed (eventKeyAt reg) ((kind + 1) * 2 ^ dayBits) a hi e →
     Outside (λ b. eqb (kindOf b) kind) reg lo hi a e
 kind-rows reg lo hi kind a e p q =
     record {

@@ -1,5 +1,5 @@
 -- Which of a case's rows can share a day with an event: each way out of `sharing`.
-use Prim.Native.Nat.{ℕ, _+_, _-_, _*_, _≤_, _<_}
+use Prim.Native.Nat.{ℕ, _+_, _-_, _*_, _≤_, _<_, _^_}
 use mathlib.Core.Path.{_≡_, ap}
 use mathlib.Core.Bool.{Bool, true, false, _&&_, and-false}
 use mathlib.Core.List.{List}
@@ -9,13 +9,14 @@ use borrow.Author.Tests.{eqb-true, eq-eqb, leb-false, le-leb, lt-leb}
 use Rattle.laws.proofs.Truth.{and-right}
 use Rattle.laws.proofs.Every.{both-false}
 use Rattle.register.specs.Search.{Placed}
-use Rattle.home_care.specs.Row.{kindOf, dateOf, endOf, eventKeyOf}
+use Rattle.home_care.specs.Row.{kindOf, dateOf, endOf, eventKeyOf, dayBits}
 use Rattle.home_care.specs.Anomalies.{isSuspension, shareDay}
 use Rattle.judge.specs.CaseRows.{eventAt, eventKeyAt, Settled, Outside}
 use Rattle.judge.proofs.Rows.{climb-rises}
+use Rattle.codes.specs.CodesAndCharacters.{suspension}
 
 -- an event that begins after a's end
-too-late : (a b : ℕ) → 2 * 131072 + endOf a + 1 ≤ eventKeyOf b → shareDay a b ≡ false
+too-late : (a b : ℕ) → suspension * 2 ^ dayBits + endOf a + 1 ≤ eventKeyOf b → shareDay a b ≡ false
 too-late a b h =
     both-false (isSuspension a && isSuspension b) _ (λ s.
     let k : kindOf b ≡ 2 = eqb-true (kindOf b) 2 (and-right (isSuspension a) (isSuspension b) s) in
@@ -25,7 +26,7 @@ last-fails : (a b c d : Bool) → (a && b) && (c && d) ≡ false → a ≡ true 
 last-fails a b c d h p q r = rw (p, q, r) at h
 
 -- a suspension that is over when another one begins, which itself begins before a
-too-early : (a b c : ℕ) → eventKeyOf b < eventKeyOf c → eventKeyOf c < 2 * 131072 + dateOf a → (isSuspension c ≡ true → dateOf c ≤ endOf c) → shareDay b c ≡ false →
+too-early : (a b c : ℕ) → eventKeyOf b < eventKeyOf c → eventKeyOf c < suspension * 2 ^ dayBits + dateOf a → (isSuspension c ≡ true → dateOf c ≤ endOf c) → shareDay b c ≡ false →
     shareDay a b ≡ false
 too-early a b c h g forward apart =
     both-false (isSuspension a && isSuspension b) _ (λ s.
@@ -37,8 +38,8 @@ too-early a b c h g forward apart =
     let over : endOf b < dateOf c = leb-false (dateOf c) (endOf b) reaches in
     ap (λ (t : Bool). t && leb (dateOf b) (endOf a)) (lt-leb (dateOf a) (endOf b) (omega arith)))
 
-module _ (reg : List ℕ) (lo hi a day last from to : ℕ) (d : day ≡ dateOf a) (e : last ≡ endOf a) (p : Placed (eventKeyAt reg) (2 * 131072 + day) lo hi from)
-    (q : Placed (eventKeyAt reg) (2 * 131072 + last + 1) from hi to) where
+module _ (reg : List ℕ) (lo hi a day last from to : ℕ) (d : day ≡ dateOf a) (e : last ≡ endOf a) (p : Placed (eventKeyAt reg) (suspension * 2 ^ dayBits + day) lo hi from)
+    (q : Placed (eventKeyAt reg) (suspension * 2 ^ dayBits + last + 1) from hi to) where
   after-end : Settled reg lo hi → (k : ℕ) → to ≤ k → k < hi → shareDay a (eventAt reg k) ≡ false
   after-end settled k h g = too-late a (eventAt reg k) (omega (arith, q .over (climb-rises reg lo hi (settled .climbs) from (p .low)) k h g))
 

@@ -10,6 +10,7 @@ ghost use Rattle.register.specs.Search.{probeKey};
 ghost use Rattle.home_care.specs.Row.{rowBytes, keyBits, siad};
 ghost use Rattle.soundness.specs.Sound.{isSound};
 ghost use Rattle.judge.specs.CaseRows.{OfCase};
+ghost use Rattle.register.specs.View.{mostCounted};
 use home_care::layout::CASE_KEY;
 use home_care::layout::ROW;
 use register::counts::count;
@@ -21,7 +22,7 @@ use register::search::stands;
 // The rows standing.
 pub fn rows_held(reg: &[u8]) -> usize
     requires { ⌜ 4 ≤ length (now reg) ⌝ }
-    ensures { λ r. ⌜ (r ≡ casesHeld (now (reg .entry)) + eventsHeld (now (reg .entry))) × (r < 131072) ⌝ }
+    ensures { λ r. ⌜ (r ≡ casesHeld (now (reg .entry)) + eventsHeld (now (reg .entry))) × (r < mostCounted) ⌝ }
 {
     count(reg, 0) + count(reg, 2)
 }

@@ -21,6 +21,8 @@ ghost use Rattle.checks.specs.Readable.{Readable};
 ghost use Rattle.judge.specs.Asked.{againstStanding, answerAdmission};
 ghost use Rattle.judge.specs.CaseRows.{standingIn, Settled};
 ghost use Rattle.judge.specs.View.{contextIn, IsOf, IsSaid, IsAdmitted};
+ghost use Rattle.register.specs.View.{mostCounted};
+ghost use Rattle.register.specs.RoomAndEmptying.{mostRows};
 use crate::Limits;
 use crate::case_fields::bad_birth;
 use crate::case_fields::bad_residence;
@@ -47,7 +49,7 @@ fn against_standing(
     hi: usize,
     rows: usize,
 ) -> u8
-    requires { ⌜ (lo ≤ hi) × (rowAt siad hi ≤ length (now reg)) × (rows < 131072) × (length (now evs) ≤ 128) ⌝ }
+    requires { ⌜ (lo ≤ hi) × (rowAt siad hi ≤ length (now reg)) × (rows < mostCounted) × (length (now evs) ≤ mostRows) ⌝ }
     ensures { λ r. ⌜ (Settled (now (reg .entry)) lo hi
         → r ≡ againstStanding (contextIn l) (isInsert (typeOf tipo)) (isCancel (typeOf tipo)) taken (now (evs .entry)) rows (standingIn (now (reg .entry)) lo hi)) ⌝ }
 {
@@ -91,7 +93,7 @@ pub fn judge_events(
     bad: bool,
     zero: bool,
 ) -> u8
-    requires { ⌜ (4 ≤ length (now reg)) × (rowAt siad (casesHeld (now reg) + eventsHeld (now reg)) ≤ length (now reg)) × (length (now probe) ≡ rowBytes) × (length (now evs) ≤ 128) ⌝ }
+    requires { ⌜ (4 ≤ length (now reg)) × (rowAt siad (casesHeld (now reg) + eventsHeld (now reg)) ≤ length (now reg)) × (length (now probe) ≡ rowBytes) × (length (now evs) ≤ mostRows) ⌝ }
     ensures { λ r. ⌜ ((h : Head) (es : List Said) → IsOf (now (probe .entry)) tipo taken h → IsSaid (now (evs .entry)) bad zero es → Readable (events h es)
         → isSound (now (reg .entry)) ≡ true → r ≡ first (checksOf (contextIn l) (events h es)) (stateOf siad (now (reg .entry)))) ⌝ }
 {

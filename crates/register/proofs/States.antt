@@ -25,11 +25,11 @@ use Rattle.register.proofs.RowBytes.{bytes-length, rows-back, bytes-bac
 -- ---- room
 
 -- rows for which there is room end within the register
-pub room-holds : (l : Layout) (n k : ℕ) → 4 ≤ n → k ≤ room l n → (k ≤ 4096) × (rowAt l k ≤ n)
+pub room-holds : (l : Layout) (n k : ℕ) → 4 ≤ n → k ≤ room l n → (k ≤ mostRows) × (rowAt l k ≤ n)
 room-holds l n k h g =
     let q = (n - 4) / l .bytes in
-    let a : l .bytes * k ≤ l .bytes * q = mul-le-mul-left (l .bytes) (omega (arith, min-le-right 4096 q)) in
-    (omega (arith, min-le-left 4096 q), omega (arith, mul-div-le (n - 4) (l .bytes)))
+    let a : l .bytes * k ≤ l .bytes * q = mul-le-mul-left (l .bytes) (omega (arith, min-le-right mostRows q)) in
+    (omega (arith, min-le-left mostRows q), omega (arith, mul-div-le (n - 4) (l .bytes)))
 
 -- no row has room beside too short a header
 pub no-room-left : (w n : ℕ) → n < 4 → 0 ≡ min mostRows ((n - 4) / w)
@@ -56,10 +56,10 @@ encode-length l n s h =
     omega arith
 
 module _ (l : Layout) (lay : Laid l) (reg : List ℕ) (s : State ℕ ℕ) (h : Stored l reg s) where
-  ends : (length (s .cases) + length (s .events) ≤ 4096) × (used l s ≤ length reg)
+  ends : (length (s .cases) + length (s .events) ≤ mostRows) × (used l s ≤ length reg)
   ends = room-holds l (length reg) (length (s .cases) + length (s .events)) (h .long) (h .few)
 
-  pub stored-few : length (s .cases) + length (s .events) ≤ 4096
+  pub stored-few : length (s .cases) + length (s .events) ≤ mostRows
   stored-few = ends .0
 
   pub stored-end : rowAt l (length (s .cases) + length (s .events)) ≤ length reg

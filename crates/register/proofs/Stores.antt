@@ -21,29 +21,30 @@ use Rattle.register.specs.declared.remove.Rows.{Rows}
 use Rattle.register.proofs.States.{cases-held, events-held}
 use Rattle.register.proofs.Changes.{countAt, startOf}
 use Rattle.register.proofs.Storing.{drop-done}
+use Rattle.register.specs.RoomAndEmptying.{mostRows}
 
 -- ---- room for n rows, as the code asks for it
 
-module _ (w n size : ℕ) (t : Bool) (e : t ≡ leb n 4096 && leb (4 + w * n) size) where
-  pub room-few : t ≡ true → n ≤ 4096
-  room-few f = leb-true n 4096 (and-left (leb n 4096) (leb (4 + w * n) size) (sym e ∙ f))
+module _ (w n size : ℕ) (t : Bool) (e : t ≡ leb n mostRows && leb (4 + w * n) size) where
+  pub room-few : t ≡ true → n ≤ mostRows
+  room-few f = leb-true n mostRows (and-left (leb n mostRows) (leb (4 + w * n) size) (sym e ∙ f))
 
   -- the rows up to any of them end within the register
   pub room-end : t ≡ true → (i : ℕ) → i ≤ n → 4 + w * i ≤ size
   room-end f i h =
-      let z : 4 + w * n ≤ size = leb-true (4 + w * n) size (and-right (leb n 4096) (leb (4 + w * n) size) (sym e ∙ f)) in
+      let z : 4 + w * n ≤ size = leb-true (4 + w * n) size (and-right (leb n mostRows) (leb (4 + w * n) size) (sym e ∙ f)) in
       omega (arith, mul-le-mul-left w h)
 
-  pub room-denied : t ≡ false → n ≤ 4096 → 4 + w * n ≤ size → ⊥
+  pub room-denied : t ≡ false → n ≤ mostRows → 4 + w * n ≤ size → ⊥
   room-denied f p q =
-      let z : leb n 4096 && leb (4 + w * n) size ≡ true = rw (le-leb n 4096 p) (le-leb (4 + w * n) size q) in
+      let z : leb n mostRows && leb (4 + w * n) size ≡ true = rw (le-leb n mostRows p) (le-leb (4 + w * n) size q) in
       true≢false (sym z ∙ sym e ∙ f)
 
 -- no rows stand where there is no header
 no-header : (w n : ℕ) (a : List ℕ) → length a < 4 → rowsFit w n a ≡ false
 no-header w n a h =
     let z : length a < 4 + w * n = omega arith in
-    rw (lt-leb (4 + w * n) (length a) z) (and-false (leb n 4096))
+    rw (lt-leb (4 + w * n) (length a) z) (and-false (leb n mostRows))
 
 -- ---- a group's rows
 

@@ -15,7 +15,7 @@ use Rattle.model.proofs.MapPlace.{AllBelow, put-in, put-over, find-out, del-out
 use Rattle.rows.specs.Packing.{num, digits, each, Fit}
 use Rattle.rows.proofs.Bytes.{digits-num, num-lt}
 use Rattle.register.specs.Layout.{Layout, rowAt}
-use Rattle.register.specs.RoomAndEmptying.{room}
+use Rattle.register.specs.RoomAndEmptying.{room, mostRows}
 use Rattle.register.specs.State.{unsplit, encode}
 use Rattle.register.specs.Stored.{Laid, Sized, Fits, Stored, Group, cases, events, rowsOf, keyBitsOf, restOf, spareOf, splitOf, withRows}
 use Rattle.register.specs.Search.{keyAt, probeKey, Placed}
@@ -32,11 +32,11 @@ use Rattle.register.proofs.Places.{keys, Apart, Within, apart, within, 
 
 -- the counts claim too much; there is no room for one more; the row is written over the one with its key; it is put in
 pub data PutDone (w k at lo hi n : ℕ) (row a b : List ℕ) (r : Bool) : Type 0 where
-  unfit : (n ≤ 4096 → 4 + w * n ≤ length a → ⊥) → r ≡ false → b ≡ a → PutDone w k at lo hi n row a b r
-  full : (i : ℕ) → PlacedAt w k lo hi row a i → standsAt w k hi row a i ≡ false → (n < 4096 → 4 + w * (n + 1) ≤ length a → ⊥) → r ≡ false → b ≡ a →
+  unfit : (n ≤ mostRows → 4 + w * n ≤ length a → ⊥) → r ≡ false → b ≡ a → PutDone w k at lo hi n row a b r
+  full : (i : ℕ) → PlacedAt w k lo hi row a i → standsAt w k hi row a i ≡ false → (n < mostRows → 4 + w * (n + 1) ≤ length a → ⊥) → r ≡ false → b ≡ a →
       PutDone w k at lo hi n row a b r
   over : (i : ℕ) → PlacedAt w k lo hi row a i → standsAt w k hi row a i ≡ true → r ≡ true → b ≡ replaced w i row a → PutDone w k at lo hi n row a b r
-  new : (i : ℕ) → PlacedAt w k lo hi row a i → standsAt w k hi row a i ≡ false → n < 4096 → 4 + w * (n + 1) ≤ length a → r ≡ true →
+  new : (i : ℕ) → PlacedAt w k lo hi row a i → standsAt w k hi row a i ≡ false → n < mostRows → 4 + w * (n + 1) ≤ length a → r ≡ true →
       b ≡ withCount at (hi - lo + 1) (inserted w i n row a) → PutDone w k at lo hi n row a b r
 
 -- ---- the group's numbers

@@ -7,6 +7,7 @@ use lib.Dec.{eqb, ltb}
 use lib.ListN.{length}
 use Rattle.register.specs.Moves.{removed, withCount}
 use Rattle.register.specs.Search.{keyAt, probeKey, Placed}
+use Rattle.register.specs.RoomAndEmptying.{mostRows}
 
 -- row i is of the group and has the row's key
 abbrev pub standsAt : ℕ → ℕ → ℕ → List ℕ → List ℕ → ℕ → Bool
@@ -18,7 +19,7 @@ PlacedAt w k lo hi row a i = Placed (keyAt w k a) (probeKey w k row) lo hi i
 
 -- the counts claim too much; no row has the key; the row is taken out
 pub data DropDone (w k at lo hi n : ℕ) (probe a b : List ℕ) (r : Bool) : Type 0 where
-  misfit : (n ≤ 4096 → 4 + w * n ≤ length a → ⊥) → r ≡ false → b ≡ a → DropDone w k at lo hi n probe a b r
+  misfit : (n ≤ mostRows → 4 + w * n ≤ length a → ⊥) → r ≡ false → b ≡ a → DropDone w k at lo hi n probe a b r
   absent : (i : ℕ) → PlacedAt w k lo hi probe a i → standsAt w k hi probe a i ≡ false → r ≡ true → b ≡ a → DropDone w k at lo hi n probe a b r
   gone : (i : ℕ) → PlacedAt w k lo hi probe a i → standsAt w k hi probe a i ≡ true → r ≡ true →
       b ≡ withCount at (hi - lo - 1) (removed w i n a) → DropDone w k at lo hi n probe a b r

@@ -14,9 +14,13 @@ abbrev pub rowsBy : Group → ℕ → ℕ → Rows
 rowsBy cases c e = record { at = 0; lo = 0; hi = c; n = c + e }
 rowsBy events c e = record { at = 2; lo = c; hi = c + e; n = c + e }
 
+-- R1: two counts of two bytes each are together below this
+abbrev pub mostCounted : ℕ
+mostCounted = 131072
+
 -- a group's rows stand in a register's, and its count in the header; no sum of the numbers is too large
 pub record InOrder (r : Rows) : Type 0 where
   pub header : r .at ≤ 2
   pub low : r .lo ≤ r .hi
   pub high : r .hi ≤ r .n
-  pub small : r .n < 131072
+  pub small : r .n < mostCounted

@@ -25,6 +25,7 @@ use Rattle.schemas.specs.Schemas.{schemaOf}
 use Rattle.tracks.specs.RecordFields.{_▹_, saidOf, isEvent, saidIn, allSaid}
 use Rattle.tracks.specs.TooMany.{tooMany, crowdedIn}
 use Rattle.tracks.proofs.Shaped.{Clean, far, clean, group-in, events-2}
+use Rattle.schemas.specs.Parts.{mostEvents}
 
 -- ---- one record
 
@@ -62,7 +63,7 @@ unfolding firstOver
 none-over n most i h [] = refl
 none-over n most i h (r ∷ rs) = rw (h r, le-ltb most 0 (omega arith)) (none-over n most (suc i) h rs)
 
-over-same : (i : ℕ) (rs : List Tree) → Every (Clean Track2.assistenza) rs → firstOver Track2.assistenza 128 i rs ≡ tooMany i rs
+over-same : (i : ℕ) (rs : List Tree) → Every (Clean Track2.assistenza) rs → firstOver Track2.assistenza mostEvents i rs ≡ tooMany i rs
 unfolding firstOver tooMany
 over-same i [] h = refl
 over-same i (r ∷ rs) h =

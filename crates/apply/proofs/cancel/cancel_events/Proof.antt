@@ -11,6 +11,7 @@ use Rattle.apply.proofs.Filling.{standing}
 use Rattle.apply.proofs.Emptying.{Emptying, no-header, misfit, emptying-start, none-left, not-there, one-fewer, all-emptied}
 use Rattle.apply.proofs.cancel.cancel_events.Statement.{statement}
 use Rattle.apply.proofs.cancel.cancel_events.Tie as tie
+use Rattle.register.specs.RoomAndEmptying.{mostRows}
 
 abbrev Inv-loop : tie.InvT-loop
 Inv-loop reg₀ probe evs c n lo k i₀ j₀ bound₀ reg i j bound = Emptying reg₀ (probeKey rowBytes keyBits probe) evs c n lo reg i j bound
@@ -78,7 +79,7 @@ returns-4 c = not-there (c .before .before .before .before .before .before .befo
 widen-requires : tie.Need-widen-requires Inv-loop μ-loop
 widen-requires c κs =
     let v = c .before .before .before .before .before .before .before .before .loop .inv in
-    let f : c .before .before .before .before .before .before .before .before .before .before .before .before .before .before .before .before .count .result + c .before .before .before .before .before .before .before .before .before .before .before .before .before .before .count2 .result ≤ 4096 = room-few rowBytes (c .before .before .before .before .before .before .before .before .before .before .before .before .before .before .before .before .count .result + c .before .before .before .before .before .before .before .before .before .before .before .before .before .before .count2 .result) (length (c .before .before .before .before .before .before .before .before .before .before .before .before .before .before .before .before .before .before .before .before .before .before .args .reg .now)) (c .before .before .before .before .before .before .before .before .before .before .before .before .room-for .result) (c .before .before .before .before .before .before .before .before .before .before .before .before .room-for .ensures) (not-false _ (c .before .before .before .before .before .before .before .before .before .before .before .if2 .left)) in
+    let f : c .before .before .before .before .before .before .before .before .before .before .before .before .before .before .before .before .count .result + c .before .before .before .before .before .before .before .before .before .before .before .before .before .before .count2 .result ≤ mostRows = room-few rowBytes (c .before .before .before .before .before .before .before .before .before .before .before .before .before .before .before .before .count .result + c .before .before .before .before .before .before .before .before .before .before .before .before .before .before .count2 .result) (length (c .before .before .before .before .before .before .before .before .before .before .before .before .before .before .before .before .before .before .before .before .before .before .args .reg .now)) (c .before .before .before .before .before .before .before .before .before .before .before .before .room-for .result) (c .before .before .before .before .before .before .before .before .before .before .before .before .room-for .ensures) (not-false _ (c .before .before .before .before .before .before .before .before .before .before .before .if2 .left)) in
     let e : 4 + rowBytes * (c .before .before .before .before .before .before .before .before .before .before .before .before .before .before .before .before .count .result + c .before .before .before .before .before .before .before .before .before .before .before .before .before .before .count2 .result) ≤ length (c .before .before .before .before .before .before .before .before .before .before .before .before .before .before .before .before .before .before .before .before .before .before .args .reg .now) = room-end rowBytes (c .before .before .before .before .before .before .before .before .before .before .before .before .before .before .before .before .count .result + c .before .before .before .before .before .before .before .before .before .before .before .before .before .before .count2 .result) (length (c .before .before .before .before .before .before .before .before .before .before .before .before .before .before .before .before .before .before .before .before .before .before .args .reg .now)) (c .before .before .before .before .before .before .before .before .before .before .before .before .room-for .result) (c .before .before .before .before .before .before .before .before .before .before .before .before .room-for .ensures) (not-false _ (c .before .before .before .before .before .before .before .before .before .before .before .if2 .left)) (c .before .before .before .before .before .before .before .before .before .before .before .before .before .before .before .before .count .result + c .before .before .before .before .before .before .before .before .before .before .before .before .before .before .count2 .result) (omega arith) in
     (c .before .if4 .left, omega (arith, v .high), omega (arith, v .high, v .len))
 
@@ -103,7 +104,7 @@ loop-again c = one-fewer (c .before .before .before .before .before .before .bef
 close-requires : tie.Need-close-requires Inv-loop μ-loop
 close-requires c κs =
     let v = c .before .before .loop .inv in
-    let f : c .before .before .before .before .before .before .before .before .before .before .count .result + c .before .before .before .before .before .before .before .before .count2 .result ≤ 4096 = room-few rowBytes (c .before .before .before .before .before .before .before .before .before .before .count .result + c .before .before .before .before .before .before .before .before .count2 .result) (length (c .before .before .before .before .before .before .before .before .before .before .before .before .before .before .before .before .args .reg .now)) (c .before .before .before .before .before .before .room-for .result) (c .before .before .before .before .before .before .room-for .ensures) (not-false _ (c .before .before .before .before .before .if2 .left)) in
+    let f : c .before .before .before .before .before .before .before .before .before .before .count .result + c .before .before .before .before .before .before .before .before .count2 .result ≤ mostRows = room-few rowBytes (c .before .before .before .before .before .before .before .before .before .before .count .result + c .before .before .before .before .before .before .before .before .count2 .result) (length (c .before .before .before .before .before .before .before .before .before .before .before .before .before .before .before .before .args .reg .now)) (c .before .before .before .before .before .before .room-for .result) (c .before .before .before .before .before .before .room-for .ensures) (not-false _ (c .before .before .before .before .before .if2 .left)) in
     let e : 4 + rowBytes * (c .before .before .before .before .before .before .before .before .before .before .count .result + c .before .before .before .before .before .before .before .before .count2 .result) ≤ length (c .before .before .before .before .before .before .before .before .before .before .before .before .before .before .before .before .args .reg .now) = room-end rowBytes (c .before .before .before .before .before .before .before .before .before .before .count .result + c .before .before .before .before .before .before .before .before .count2 .result) (length (c .before .before .before .before .before .before .before .before .before .before .before .before .before .before .before .before .args .reg .now)) (c .before .before .before .before .before .before .room-for .result) (c .before .before .before .before .before .before .room-for .ensures) (not-false _ (c .before .before .before .before .before .if2 .left)) (c .before .before .before .before .before .before .before .before .before .before .count .result + c .before .before .before .before .before .before .before .before .count2 .result) (omega arith) in
     (v .high, omega arith, omega (arith, v .len))
 

@@ -125,7 +125,7 @@ judge-events-requires c κs =
     let p = c .before .before .before .before in
     let s = start (headed p) in
     let w = rows-within (s .args .reg .now) (s .pre .2) in
-    (w .0, w .1, p .pack-key .kept .0, said (at-events p) .no-more)
+    (w .0, w .1, p .pack-key .kept .0, omega (arith, said (at-events p) .no-more))
 
 slice-aggregate-apply-events : tie.Need-slice-aggregate-apply-events
 slice-aggregate-apply-events c = search needs

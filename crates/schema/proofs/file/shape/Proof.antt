@@ -11,7 +11,9 @@ use Rattle.schema.proofs.file.shape.Statement.{statement}
 use Rattle.schema.proofs.file.shape.Tie as tie
 
 returns : tie.Need-returns
-returns c = (λ x m e. absurd (not-past depth (now (c .before .before .before .before .before .args .s)) (c .before .before .before .before .before .args .root) x m e (c .if1 .taken)), search needs)
+returns c =
+    let at-args = c .before .before .before .before .before in
+    (λ x m e. absurd (not-past depth (now (at-args .args .s)) (at-args .args .root) x m e (c .if1 .taken)), search needs)
 
 sub-from : tie.Need-sub-from
 sub-from c = search needs
@@ -30,8 +32,10 @@ enum-told c = search needs
 
 returns-2 : tie.Need-returns-2
 returns-2 c =
-    let u = rw (c .enum-told .given .1) at (c .before .before .name .ensures) in
-    (λ x m e. absurd (head-refused depth (now (c .before .before .before .before .before .before .before .before .args .s)) (c .before .before .before .before .before .before .before .before .args .root) x m e (u .0)), search needs)
+    let at-name = c .before .before in
+    let at-args = at-name .before .before .before .before .before .before in
+    let u = rw (c .enum-told .given .1) at (at-name .name .ensures) in
+    (λ x m e. absurd (head-refused depth (now (at-args .args .s)) (at-args .args .root) x m e (u .0)), search needs)
 
 name-of-requires : tie.Need-name-of-requires
 name-of-requires c κs = search needs
@@ -44,18 +48,32 @@ same-requires c κs = search needs
 
 returns-3 : tie.Need-returns-3
 returns-3 c =
-    let u = rw (c .before .before .before .before .before .start .given .1) at (c .before .before .before .before .before .before .before .name .ensures) in
-    let g = rw (c .before .before .before .name-of .ensures, c .before .before .part .ensures) at (c .before .same .ensures) in
-    (λ x m e. root-other (now (c .before .before .before .before .before .before .before .before .before .before .before .before .before .args .table)) (now (c .before .before .before .before .before .before .before .before .before .before .before .before .before .args .pool)) (now (c .before .before .before .before .before .before .before .before .before .before .before .before .before .args .ranges)) (now (c .before .before .before .before .before .before .before .before .before .before .before .before .before .args .s)) (c .before .before .before .before .before .before .before .before .before .before .before .before .before .args .root) x m e _ _ (u .0) (c .before .same .result) g (not-true _ (c .if2 .taken)), search needs)
+    let at-same = c .before in
+    let at-part = at-same .before in
+    let at-name-of = at-part .before in
+    let at-start = at-name-of .before .before in
+    let at-name = at-start .before .before in
+    let at-args = at-name .before .before .before .before .before .before in
+    let u = rw (at-start .start .given .1) at (at-name .name .ensures) in
+    let g = rw (at-name-of .name-of .ensures, at-part .part .ensures) at (at-same .same .ensures) in
+    (λ x m e. root-other (now (at-args .args .table)) (now (at-args .args .pool)) (now (at-args .args .ranges)) (now (at-args .args .s)) (at-args .args .root) x m e _ _ (u .0) (at-same .same .result) g (not-true _ (c .if2 .taken)), search needs)
 
 root-attrs-fit-requires : tie.Need-root-attrs-fit-requires
 root-attrs-fit-requires c κs = search needs
 
 returns-4 : tie.Need-returns-4
 returns-4 c =
-    let u = rw (c .before .before .before .before .before .before .before .start .given .1) at (c .before .before .before .before .before .before .before .before .before .name .ensures) in
-    let g = rw (c .before .before .before .before .before .name-of .ensures, c .before .before .before .before .part .ensures) at (c .before .before .before .same .ensures) in
-    (λ x m e. root-unfit (now (c .before .before .before .before .before .before .before .before .before .before .before .before .before .before .before .args .table)) (now (c .before .before .before .before .before .before .before .before .before .before .before .before .before .before .before .args .pool)) (now (c .before .before .before .before .before .before .before .before .before .before .before .before .before .before .before .args .ranges)) (now (c .before .before .before .before .before .before .before .before .before .before .before .before .before .before .before .args .s)) (c .before .before .before .before .before .before .before .before .before .before .before .before .before .before .before .args .root) x m e _ _ (u .0) (c .before .before .before .same .result) g (not-false _ (c .before .before .if2 .left)) (c .before .root-attrs-fit .result) (c .before .root-attrs-fit .ensures (now (c .before .before .before .before .before .before .before .before .before .before .before .before .before .before .before .args .ranges))) (not-true _ (c .if3 .taken)), search needs)
+    let at-root-attrs-fit = c .before in
+    let at-if2 = at-root-attrs-fit .before in
+    let at-same = at-if2 .before in
+    let at-part = at-same .before in
+    let at-name-of = at-part .before in
+    let at-start = at-name-of .before .before in
+    let at-name = at-start .before .before in
+    let at-args = at-name .before .before .before .before .before .before in
+    let u = rw (at-start .start .given .1) at (at-name .name .ensures) in
+    let g = rw (at-name-of .name-of .ensures, at-part .part .ensures) at (at-same .same .ensures) in
+    (λ x m e. root-unfit (now (at-args .args .table)) (now (at-args .args .pool)) (now (at-args .args .ranges)) (now (at-args .args .s)) (at-args .args .root) x m e _ _ (u .0) (at-same .same .result) g (not-false _ (at-if2 .if2 .left)) (at-root-attrs-fit .root-attrs-fit .result) (at-root-attrs-fit .root-attrs-fit .ensures (now (at-args .args .ranges))) (not-true _ (c .if3 .taken)), search needs)
 
 attributes-requires : tie.Need-attributes-requires
 attributes-requires c κs = search needs
@@ -77,10 +95,24 @@ enough-requires c κs = search needs
 
 returns-5 : tie.Need-returns-5
 returns-5 c =
-    let u = rw (c .before .before .before .before .before .before .before .before .before .before .before .before .before .before .start .given .1) at (c .before .before .before .before .before .before .before .before .before .before .before .before .before .before .before .before .name .ensures) in
-    let g = rw (c .before .before .before .before .before .before .before .before .before .before .before .before .name-of .ensures, c .before .before .before .before .before .before .before .before .before .before .before .part .ensures) at (c .before .before .before .before .before .before .before .before .before .before .same .ensures) in
-    let w = rw (c .before .before .before .before .enum-told3 .given .1) at (c .before .before .before .before .before .before .attributes .ensures) in
-    (λ x m e. root-empty (now (c .before .before .before .before .before .before .before .before .before .before .before .before .before .before .before .before .before .before .before .before .before .before .args .table)) (now (c .before .before .before .before .before .before .before .before .before .before .before .before .before .before .before .before .before .before .before .before .before .before .args .pool)) (now (c .before .before .before .before .before .before .before .before .before .before .before .before .before .before .before .before .before .before .before .before .before .before .args .ranges)) (now (c .before .before .before .before .before .before .before .before .before .before .before .before .before .before .before .before .before .before .before .before .before .before .args .s)) (c .before .before .before .before .before .before .before .before .before .before .before .before .before .before .before .before .before .before .before .before .before .before .args .root) x m e _ _ (u .0) (c .before .before .before .before .before .before .before .before .before .before .same .result) g (not-false _ (c .before .before .before .before .before .before .before .before .before .if2 .left)) (c .before .before .before .before .before .before .before .before .root-attrs-fit .result) (c .before .before .before .before .before .before .before .before .root-attrs-fit .ensures (now (c .before .before .before .before .before .before .before .before .before .before .before .before .before .before .before .before .before .before .before .before .before .before .args .ranges))) (not-false _ (c .before .before .before .before .before .before .before .if3 .left)) (w .0) (c .before .before .before .cell .ensures .0) (c .before .before .cell2 .ensures .0) (c .before .enough .ensures (now (c .before .before .before .before .before .before .before .before .before .before .before .before .before .before .before .before .before .before .before .before .before .before .args .pool)) (now (c .before .before .before .before .before .before .before .before .before .before .before .before .before .before .before .before .before .before .before .before .before .before .args .ranges)) belowRoot) (c .if4 .taken), search needs)
+    let at-enough = c .before in
+    let at-cell2 = at-enough .before in
+    let at-cell = at-cell2 .before in
+    let at-enum-told3 = at-cell .before in
+    let at-attributes = at-enum-told3 .before .before in
+    let at-if3 = at-attributes .before in
+    let at-root-attrs-fit = at-if3 .before in
+    let at-if2 = at-root-attrs-fit .before in
+    let at-same = at-if2 .before in
+    let at-part = at-same .before in
+    let at-name-of = at-part .before in
+    let at-start = at-name-of .before .before in
+    let at-name = at-start .before .before in
+    let at-args = at-name .before .before .before .before .before .before in
+    let u = rw (at-start .start .given .1) at (at-name .name .ensures) in
+    let g = rw (at-name-of .name-of .ensures, at-part .part .ensures) at (at-same .same .ensures) in
+    let w = rw (at-enum-told3 .enum-told3 .given .1) at (at-attributes .attributes .ensures) in
+    (λ x m e. root-empty (now (at-args .args .table)) (now (at-args .args .pool)) (now (at-args .args .ranges)) (now (at-args .args .s)) (at-args .args .root) x m e _ _ (u .0) (at-same .same .result) g (not-false _ (at-if2 .if2 .left)) (at-root-attrs-fit .root-attrs-fit .result) (at-root-attrs-fit .root-attrs-fit .ensures (now (at-args .args .ranges))) (not-false _ (at-if3 .if3 .left)) (w .0) (at-cell .cell .ensures .0) (at-cell2 .cell2 .ensures .0) (at-enough .enough .ensures (now (at-args .args .pool)) (now (at-args .args .ranges)) belowRoot) (c .if4 .taken), search needs)
 
 enum-known-done : tie.Need-enum-known-done
 enum-known-done c = search needs
@@ -90,25 +122,59 @@ root-inside-requires c κs = search needs
 
 returns-6 : tie.Need-returns-6
 returns-6 c =
-    let u = rw (c .before .before .before .before .before .before .before .before .before .before .start .given .1) at (c .before .before .before .before .before .before .before .before .before .before .before .before .name .ensures) in
-    let g = rw (c .before .before .before .before .before .before .before .before .name-of .ensures, c .before .before .before .before .before .before .before .part .ensures) at (c .before .before .before .before .before .before .same .ensures) in
-    let w = rw (c .enum-told2 .given .1) at (c .before .before .attributes .ensures) in
-    (λ x m e. absurd (root-refused (now (c .before .before .before .before .before .before .before .before .before .before .before .before .before .before .before .before .before .before .args .table)) (now (c .before .before .before .before .before .before .before .before .before .before .before .before .before .before .before .before .before .before .args .pool)) (now (c .before .before .before .before .before .before .before .before .before .before .before .before .before .before .before .before .before .before .args .ranges)) (now (c .before .before .before .before .before .before .before .before .before .before .before .before .before .before .before .before .before .before .args .s)) (c .before .before .before .before .before .before .before .before .before .before .before .before .before .before .before .before .before .before .args .root) x m e _ _ (u .0) (c .before .before .before .before .before .before .same .result) g (not-false _ (c .before .before .before .before .before .if2 .left)) (c .before .before .before .before .root-attrs-fit .result) (c .before .before .before .before .root-attrs-fit .ensures (now (c .before .before .before .before .before .before .before .before .before .before .before .before .before .before .before .before .before .before .args .ranges))) (w .0)), search needs)
+    let at-attributes = c .before .before in
+    let at-root-attrs-fit = at-attributes .before .before in
+    let at-if2 = at-root-attrs-fit .before in
+    let at-same = at-if2 .before in
+    let at-part = at-same .before in
+    let at-name-of = at-part .before in
+    let at-start = at-name-of .before .before in
+    let at-name = at-start .before .before in
+    let at-args = at-name .before .before .before .before .before .before in
+    let u = rw (at-start .start .given .1) at (at-name .name .ensures) in
+    let g = rw (at-name-of .name-of .ensures, at-part .part .ensures) at (at-same .same .ensures) in
+    let w = rw (c .enum-told2 .given .1) at (at-attributes .attributes .ensures) in
+    (λ x m e. absurd (root-refused (now (at-args .args .table)) (now (at-args .args .pool)) (now (at-args .args .ranges)) (now (at-args .args .s)) (at-args .args .root) x m e _ _ (u .0) (at-same .same .result) g (not-false _ (at-if2 .if2 .left)) (at-root-attrs-fit .root-attrs-fit .result) (at-root-attrs-fit .root-attrs-fit .ensures (now (at-args .args .ranges))) (w .0)), search needs)
 
 returns-7 : tie.Need-returns-7
 returns-7 c =
-    let u = rw (c .before .before .before .before .before .before .before .before .before .before .before .before .before .before .start .given .1) at (c .before .before .before .before .before .before .before .before .before .before .before .before .before .before .before .before .name .ensures) in
-    let g = rw (c .before .before .before .before .before .before .before .before .before .before .before .before .name-of .ensures, c .before .before .before .before .before .before .before .before .before .before .before .part .ensures) at (c .before .before .before .before .before .before .before .before .before .before .same .ensures) in
-    let w = rw (c .before .before .before .before .enum-told3 .given .1) at (c .before .before .before .before .before .before .attributes .ensures) in
-    (λ x m e. root-short (now (c .before .before .before .before .before .before .before .before .before .before .before .before .before .before .before .before .before .before .before .before .before .before .args .table)) (now (c .before .before .before .before .before .before .before .before .before .before .before .before .before .before .before .before .before .before .before .before .before .before .args .pool)) (now (c .before .before .before .before .before .before .before .before .before .before .before .before .before .before .before .before .before .before .before .before .before .before .args .ranges)) (now (c .before .before .before .before .before .before .before .before .before .before .before .before .before .before .before .before .before .before .before .before .before .before .args .s)) (c .before .before .before .before .before .before .before .before .before .before .before .before .before .before .before .before .before .before .before .before .before .before .args .root) x m e _ _ (u .0) (c .before .before .before .before .before .before .before .before .before .before .same .result) g (not-false _ (c .before .before .before .before .before .before .before .before .before .if2 .left)) (c .before .before .before .before .before .before .before .before .root-attrs-fit .result) (c .before .before .before .before .before .before .before .before .root-attrs-fit .ensures (now (c .before .before .before .before .before .before .before .before .before .before .before .before .before .before .before .before .before .before .before .before .before .before .args .ranges))) (not-false _ (c .before .before .before .before .before .before .before .if3 .left)) (w .0) (c .before .before .before .cell .ensures .0) (c .before .before .cell2 .ensures .0) (c .before .enough .ensures (now (c .before .before .before .before .before .before .before .before .before .before .before .before .before .before .before .before .before .before .before .before .before .before .args .pool)) (now (c .before .before .before .before .before .before .before .before .before .before .before .before .before .before .before .before .before .before .before .before .before .before .args .ranges)) belowRoot) (omega arith) (c .if4 .left), search needs)
+    let at-enough = c .before in
+    let at-cell2 = at-enough .before in
+    let at-cell = at-cell2 .before in
+    let at-enum-told3 = at-cell .before in
+    let at-attributes = at-enum-told3 .before .before in
+    let at-if3 = at-attributes .before in
+    let at-root-attrs-fit = at-if3 .before in
+    let at-if2 = at-root-attrs-fit .before in
+    let at-same = at-if2 .before in
+    let at-part = at-same .before in
+    let at-name-of = at-part .before in
+    let at-start = at-name-of .before .before in
+    let at-name = at-start .before .before in
+    let at-args = at-name .before .before .before .before .before .before in
+    let u = rw (at-start .start .given .1) at (at-name .name .ensures) in
+    let g = rw (at-name-of .name-of .ensures, at-part .part .ensures) at (at-same .same .ensures) in
+    let w = rw (at-enum-told3 .enum-told3 .given .1) at (at-attributes .attributes .ensures) in
+    (λ x m e. root-short (now (at-args .args .table)) (now (at-args .args .pool)) (now (at-args .args .ranges)) (now (at-args .args .s)) (at-args .args .root) x m e _ _ (u .0) (at-same .same .result) g (not-false _ (at-if2 .if2 .left)) (at-root-attrs-fit .root-attrs-fit .result) (at-root-attrs-fit .root-attrs-fit .ensures (now (at-args .args .ranges))) (not-false _ (at-if3 .if3 .left)) (w .0) (at-cell .cell .ensures .0) (at-cell2 .cell2 .ensures .0) (at-enough .enough .ensures (now (at-args .args .pool)) (now (at-args .args .ranges)) belowRoot) (omega arith) (c .if4 .left), search needs)
 
 returns-8 : tie.Need-returns-8
 returns-8 c =
-    let u = rw (c .before .before .before .before .before .before .before .before .before .before .before .before .start .given .1) at (c .before .before .before .before .before .before .before .before .before .before .before .before .before .before .name .ensures) in
-    let g = rw (c .before .before .before .before .before .before .before .before .before .before .name-of .ensures, c .before .before .before .before .before .before .before .before .before .part .ensures) at (c .before .before .before .before .before .before .before .before .same .ensures) in
-    let w = rw (c .before .before .done .given .1) at (c .before .before .before .before .attributes .ensures) in (
+    let at-done = c .before .before in
+    let at-attributes = at-done .before .before in
+    let at-if3 = at-attributes .before in
+    let at-root-attrs-fit = at-if3 .before in
+    let at-if2 = at-root-attrs-fit .before in
+    let at-same = at-if2 .before in
+    let at-part = at-same .before in
+    let at-name-of = at-part .before in
+    let at-start = at-name-of .before .before in
+    let at-name = at-start .before .before in
+    let at-args = at-name .before .before .before .before .before .before in
+    let u = rw (at-start .start .given .1) at (at-name .name .ensures) in
+    let g = rw (at-name-of .name-of .ensures, at-part .part .ensures) at (at-same .same .ensures) in
+    let w = rw (at-done .done .given .1) at (at-attributes .attributes .ensures) in (
       λ x m e.
-          let i = root-open (now (c .before .before .before .before .before .before .before .before .before .before .before .before .before .before .before .before .before .before .before .before .args .table)) (now (c .before .before .before .before .before .before .before .before .before .before .before .before .before .before .before .before .before .before .before .before .args .pool)) (now (c .before .before .before .before .before .before .before .before .before .before .before .before .before .before .before .before .before .before .before .before .args .ranges)) (now (c .before .before .before .before .before .before .before .before .before .before .before .before .before .before .before .before .before .before .before .before .args .s)) (c .before .before .before .before .before .before .before .before .before .before .before .before .before .before .before .before .before .before .before .before .args .root) x m e _ _ (u .0) (c .before .before .before .before .before .before .before .before .same .result) g (not-false _ (c .before .before .before .before .before .before .before .if2 .left)) (c .before .before .before .before .before .before .root-attrs-fit .result) (c .before .before .before .before .before .before .root-attrs-fit .ensures (now (c .before .before .before .before .before .before .before .before .before .before .before .before .before .before .before .before .before .before .before .before .args .ranges))) (not-false _ (c .before .before .before .before .before .if3 .left)) (w .0) in
+          let i = root-open (now (at-args .args .table)) (now (at-args .args .pool)) (now (at-args .args .ranges)) (now (at-args .args .s)) (at-args .args .root) x m e _ _ (u .0) (at-same .same .result) g (not-false _ (at-if2 .if2 .left)) (at-root-attrs-fit .root-attrs-fit .result) (at-root-attrs-fit .root-attrs-fit .ensures (now (at-args .args .ranges))) (not-false _ (at-if3 .if3 .left)) (w .0) in
           c .root-inside .ensures .tells (i .0) m (i .1) (omega arith) ∙ i .2,
       c .root-inside .ensures .places,
     )
