@@ -15,19 +15,20 @@ use Rattle.register.specs.Gap.{Gap, openedWide}
 use Rattle.register.specs.Moves.{onPart, inserted, withCount}
 use Rattle.register.specs.Search.{probeKey}
 use Rattle.register.proofs.Gaps.{gap-opened, gap-count}
-use Rattle.home_care.specs.Row.{rowBytes, keyBits}
+use Rattle.register.specs.Layout.{caseRest}
+use Rattle.home_care.specs.Row.{rowBytes, keyBits, siad}
 use Rattle.apply.specs.RowBytes.{Keyed}
 
-high-part : (n : ℕ) → n / 2 ^ 72 * 2 ^ 6 + n / 2 ^ 66 % 2 ^ 6 ≡ n / 2 ^ 66
+high-part : (n : ℕ) → n / 2 ^ 72 * 2 ^ 6 + n / 2 ^ caseRest siad % 2 ^ 6 ≡ n / 2 ^ caseRest siad
 high-part n =
-    let x : ℕ = n / 2 ^ 66 in
-    let e : n / 2 ^ 66 / 2 ^ 6 ≡ n / 2 ^ 72 = shr-shr n 66 6 in
+    let x : ℕ = n / 2 ^ caseRest siad in
+    let e : n / 2 ^ caseRest siad / 2 ^ 6 ≡ n / 2 ^ 72 = shr-shr n (caseRest siad) 6 in
     omega arith
 
 -- a probe's key has its bits
 probe-small : (probe : List ℕ) → Fit (each 8 probe) → length probe ≡ rowBytes → probeKey rowBytes keyBits probe < 2 ^ keyBits
 unfolding probeKey
-probe-small probe f l = shr-lt keyBits 66 (rw l at (num-lt probe f))
+probe-small probe f l = shr-lt keyBits (caseRest siad) (rw l at (num-lt probe f))
 
 -- the writer that has written it
 pub key-held : (probe : List ℕ) (r : ℕ) → Fit (each 8 probe) → length probe ≡ rowBytes → HeldAt probe 656 6 r →
@@ -35,7 +36,7 @@ pub key-held : (probe : List ℕ) (r : ℕ) → Fit (each 8 probe) → length pr
 unfolding probeKey
 key-held probe r f l h =
     let p : num (take 82 probe) ≡ num probe / 2 ^ 72 = sym (prefix probe 82 f) ∙ ap (λ (n : ℕ). num probe / 2 ^ (8 * (n - 82))) l in
-    let v : r ≡ num probe / 2 ^ 66 % 2 ^ 6 = h .value ∙ ap (λ (n : ℕ). num probe / 2 ^ (8 * n - keyBits) % 2 ^ 6) l in
+    let v : r ≡ num probe / 2 ^ caseRest siad % 2 ^ 6 = h .value ∙ ap (λ (n : ℕ). num probe / 2 ^ (8 * n - keyBits) % 2 ^ 6) l in
     record {
       tidy = record { few = omega arith; small = h .small };
       bits = refl;

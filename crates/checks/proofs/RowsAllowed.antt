@@ -19,7 +19,7 @@ use Rattle.home_care.specs.Fits.{CaseFits}
 use Rattle.home_care.proofs.Table.{key-lt, case-lt}
 use Rattle.home_care.specs.Allowed.{keyAllowed, prevalenteAllowed, caseAllowed, caseRowAllowed, eventAllowed, eventRowAllowed}
 use Rattle.home_care.specs.Record.{Said}
-use Rattle.home_care.specs.Anomalies.{t11, zeroKept}
+use Rattle.home_care.specs.Anomalies.{t11, zeroKept, firstBirth}
 use Rattle.home_care.proofs.ReadBack.{key-read, case-read, case-pad, event-case, event-read, event-pad, event-key-lt, event-val-lt}
 use Rattle.checks.specs.Flow.{caseRow, eventRows}
 use Rattle.checks.specs.Readable.{KeyReadable, CaseReadable, eventReadable}
@@ -38,10 +38,10 @@ years-le (suc k) n = go (leb (firstOf (12 * suc k)) n) (years-le k n)
 -- ---- a case's row
 
 module _ (k : Key) (c : Case) (kr : KeyReadable k) (cr : CaseReadable c) (no11 : t11 k c ≡ false) where
-  born : (1880 ≤ c .birth) × (c .birth ≤ yearOf (k .taken))
+  born : (firstBirth ≤ c .birth) × (c .birth ≤ yearOf (k .taken))
   born = (
-    ltb-false (c .birth) 1880 (or-left (ltb (c .birth) 1880) (ltb (yearOf (k .taken)) (c .birth)) no11),
-    ltb-false (yearOf (k .taken)) (c .birth) (or-right (ltb (c .birth) 1880) (ltb (yearOf (k .taken)) (c .birth)) no11),
+    ltb-false (c .birth) firstBirth (or-left (ltb (c .birth) firstBirth) (ltb (yearOf (k .taken)) (c .birth)) no11),
+    ltb-false (yearOf (k .taken)) (c .birth) (or-right (ltb (c .birth) firstBirth) (ltb (yearOf (k .taken)) (c .birth)) no11),
   )
 
   -- 11 bounds the birth year

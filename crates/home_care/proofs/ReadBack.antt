@@ -10,7 +10,7 @@ use Rattle.rows.specs.Packing.{unpacks}
 use Rattle.rows.proofs.Packing.{unpacks-packs}
 use Rattle.register.proofs.RowBytes.{number-lt}
 use Rattle.register.specs.Layout.{caseRest, eventRest, caseNamed}
-use Rattle.home_care.specs.Row.{Key, Case, keyFields, caseFields, keyNumber, caseNumber, caseBits, eventBits, keyBits, eventKeyBits, siad, keyIn, caseOf, caseIn, casePad, takenIn, eventNumberIn, eventPad, eventRow}
+use Rattle.home_care.specs.Row.{Key, Case, keyFields, caseFields, keyNumber, caseNumber, caseBits, eventBits, keyBits, eventKeyBits, siad, keyIn, caseOf, caseIn, casePad, takenIn, eventNumberIn, eventPad, eventRow, ownBits, pastOwn}
 use Rattle.home_care.specs.Fits.{KeyFits, CaseFits}
 use Rattle.home_care.proofs.Table.{key-fit, case-fit, key-values, key-widths, case-values, case-widths}
 
@@ -66,7 +66,7 @@ module _ (c e : ℕ) (h : e < 2 ^ eventBits) where
   event-pad = omega arith
 
   pub event-key-lt : c < 2 ^ keyBits → eventRow c e .key < 2 ^ eventKeyBits
-  event-key-lt g = number-lt keyBits 19 eventKeyBits (record { key = c; val = e / 2 ^ 33 }) refl g (omega arith)
+  event-key-lt g = number-lt keyBits ownBits eventKeyBits (record { key = c; val = e / 2 ^ pastOwn }) refl g (omega arith)
 
   pub event-val-lt : eventRow c e .val < 2 ^ eventRest siad
   event-val-lt = omega arith

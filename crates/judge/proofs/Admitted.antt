@@ -10,9 +10,9 @@ use lib.ListN.{length, getD, List·getD-eq-default}
 use Rattle.laws.specs.Lists.{same, bytes}
 use Rattle.days.specs.DayNumbers.{yearOf}
 use Rattle.home_care.specs.Row.{Key, Case}
-use Rattle.home_care.specs.Anomalies.{t11, t12, isItaly}
+use Rattle.home_care.specs.Anomalies.{t11, t12, isItaly, firstBirth}
 
-pub birth-is : (taken birth year : ℕ) → year ≡ yearOf taken → (k : Key) (c : Case) → taken ≡ k .taken → birth ≡ c .birth → ltb birth 1880 || ltb year birth ≡ t11 k c
+pub birth-is : (taken birth year : ℕ) → year ≡ yearOf taken → (k : Key) (c : Case) → taken ≡ k .taken → birth ≡ c .birth → ltb birth firstBirth || ltb year birth ≡ t11 k c
 birth-is taken birth year y k c e f = rw (y, e, f)
 
 pub no-italy : (t : List ℕ) → length t < 2 → false ≡ isItaly t

@@ -67,8 +67,8 @@ module _ (reg : List ℕ) (f : Fit (each 8 reg)) (h : isSound reg ≡ true) wher
         ∙ ranged .inside (cases-rise siad laid-siad reg (stateOf siad reg) stored) j a b
 
     -- in one case's rows the events' own part of the key decides
-    own-part : (m n : ℕ) → caseNamed siad (m / 2 ^ 47) ≡ v → caseNamed siad (n / 2 ^ 47) ≡ v → m / 2 ^ 47 < n / 2 ^ 47 →
-        eventKeyOf (eventNumberIn (split 47 m)) < eventKeyOf (eventNumberIn (split 47 n))
+    own-part : (m n : ℕ) → caseNamed siad (m / 2 ^ eventRest siad) ≡ v → caseNamed siad (n / 2 ^ eventRest siad) ≡ v → m / 2 ^ eventRest siad < n / 2 ^ eventRest siad →
+        eventKeyOf (eventNumberIn (split (eventRest siad) m)) < eventKeyOf (eventNumberIn (split (eventRest siad) n))
     own-part m n a b h = omega arith
 
     events-climb : Climbs reg lo hi

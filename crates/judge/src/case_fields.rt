@@ -5,6 +5,7 @@ ghost use Rattle.days.specs.DayNumbers.{dayCount};
 ghost use Rattle.days.specs.Table.{Firsts};
 ghost use Rattle.home_care.specs.Row.{Key, Case};
 ghost use Rattle.home_care.specs.Anomalies.{t11, t12, isItaly, zeroKept};
+use home_care::layout::FIRST_BIRTH;
 use markup::bytes::same;
 
 // 11: the birth year against the year of taking in.
@@ -13,7 +14,7 @@ pub fn bad_birth(t: &[u32; 2400], taken: u64, birth: u64) -> bool
     ensures { λ r. ⌜ ((k : Key) (c : Case) → taken ≡ k .taken → birth ≡ c .birth → r ≡ t11 k c) ⌝ }
 {
     let year = days::calendar::year_of(t, taken as u32);
-    (birth < 1880) | ((year as u64) < birth)
+    (birth < FIRST_BIRTH) | ((year as u64) < birth)
 }
 
 fn is_italy(t: &[u8]) -> bool
