@@ -8,33 +8,33 @@ use Rattle.model.specs.Map.{Row}
 use Rattle.rows.specs.Packing.{each, num, Fit}
 use Rattle.register.specs.Layout.{caseRest, eventRest}
 use Rattle.register.specs.State.{split}
-use Rattle.home_care.specs.Row.{Key, Case, Event, keyBits, caseBits, homeCare, eventZerosWide}
+use Rattle.home_care.specs.Row.{Key, Case, Event, keyBits, caseBits, homeCare, eventZerosWide, dayBits, charBits, regionBits, birthBits, scaleBits, kindBits, codeBits, accessesBits, confermaBits}
 
 -- a key's values have their fields' sizes
 pub record KeyFits (k : Key) : Type 0 where
-  pub region : k .region < 2 ^ 8
-  pub asl : Fit (each 7 (k .asl))
+  pub region : k .region < 2 ^ regionBits
+  pub asl : Fit (each charBits (k .asl))
   pub asl-length : length (k .asl) ≡ 3
-  pub taken : k .taken < 2 ^ 17
-  pub id : Fit (each 7 (k .id))
+  pub taken : k .taken < 2 ^ dayBits
+  pub id : Fit (each charBits (k .id))
   pub id-length : length (k .id) ≡ 88
 
 -- a case's values have their fields' sizes
 pub record CaseFits (c : Case) : Type 0 where
-  pub birth : c .birth < 2 ^ 12
-  pub prevalente : Fit (each 7 (c .prevalente))
+  pub birth : c .birth < 2 ^ birthBits
+  pub prevalente : Fit (each charBits (c .prevalente))
   pub prevalente-length : length (c .prevalente) ≡ 5
-  pub scales : Fit (each 2 (c .scales))
+  pub scales : Fit (each scaleBits (c .scales))
   pub scales-length : length (c .scales) ≡ 6
 
 -- an event's values have their fields' sizes
 pub record EventFits (e : Event) : Type 0 where
-  pub kind : e .kind < 2 ^ 2
-  pub date : e .date < 2 ^ 17
-  pub end : e .end < 2 ^ 17
-  pub code : e .code < 2 ^ 7
-  pub accesses : e .accesses < 2 ^ 7
-  pub conferma : e .conferma < 2 ^ 2
+  pub kind : e .kind < 2 ^ kindBits
+  pub date : e .date < 2 ^ dayBits
+  pub end : e .end < 2 ^ dayBits
+  pub code : e .code < 2 ^ codeBits
+  pub accesses : e .accesses < 2 ^ accessesBits
+  pub conferma : e .conferma < 2 ^ confermaBits
 
 -- a key of the values that the code holds
 abbrev pub keyWith : ℕ → List ℕ → ℕ → List ℕ → Key

@@ -37,24 +37,46 @@ pub record Event : Type 0 where
 abbrev pub rowBytes : ℕ
 rowBytes = 91
 
--- a day number, and a character
+-- the bits of a day number, a character, a region, a birth year, a scale
 abbrev pub dayBits : ℕ
 dayBits = 17
 
 abbrev pub charBits : ℕ
 charBits = 7
 
+abbrev pub regionBits : ℕ
+regionBits = 8
+
+abbrev pub birthBits : ℕ
+birthBits = 12
+
+abbrev pub scaleBits : ℕ
+scaleBits = 2
+
+-- and of an event's kind, code, accesses and conferma
+abbrev pub kindBits : ℕ
+kindBits = 2
+
+abbrev pub codeBits : ℕ
+codeBits = 7
+
+abbrev pub accessesBits : ℕ
+accessesBits = 7
+
+abbrev pub confermaBits : ℕ
+confermaBits = 2
+
 -- R10 to R13, in bits: region 8, ASL 3 x 7, date of taking in 17, Id_Rec 88 x 7
 abbrev pub keyWidths : List ℕ
-keyWidths = 8 ∷ (replicate 3 charBits ++ (dayBits ∷ replicate 88 charBits))
+keyWidths = regionBits ∷ (replicate 3 charBits ++ (dayBits ∷ replicate 88 charBits))
 
 -- R14 to R21, in bits: birth year 12, prevalente 5 x 7, then six fields of 2 each
 abbrev pub caseWidths : List ℕ
-caseWidths = 12 ∷ (replicate 5 charBits ++ replicate 6 2)
+caseWidths = birthBits ∷ (replicate 5 charBits ++ replicate 6 scaleBits)
 
 -- R23 to R28, in bits: kind 2, date 17, end date 17, code 7, accesses 7, conferma 2
 abbrev pub eventWidths : List ℕ
-eventWidths = 2 ∷ dayBits ∷ dayBits ∷ 7 ∷ 7 ∷ 2 ∷ []
+eventWidths = kindBits ∷ dayBits ∷ dayBits ∷ codeBits ∷ accessesBits ∷ confermaBits ∷ []
 
 -- the sums of these widths (`widths-sum`). R8: "A case's key is its row's first 662 bits"; a case and an event after the case's key
 abbrev pub keyBits : ℕ
@@ -100,10 +122,10 @@ never = 2 ^ dayBits - 1
 -- ---- packed
 
 abbrev pub keyFields : Key → List Field
-keyFields k = bits 8 (k .region) ∷ (each charBits (k .asl) ++ (bits dayBits (k .taken) ∷ each charBits (k .id)))
+keyFields k = bits regionBits (k .region) ∷ (each charBits (k .asl) ++ (bits dayBits (k .taken) ∷ each charBits (k .id)))
 
 abbrev pub caseFields : Case → List Field
-caseFields c = bits 12 (c .birth) ∷ (each charBits (c .prevalente) ++ each 2 (c .scales))
+caseFields c = bits birthBits (c .birth) ∷ (each charBits (c .prevalente) ++ each scaleBits (c .scales))
 
 abbrev pub eventFields : Event → List Field
 eventFields e = fields eventWidths (e .kind ∷ e .date ∷ e .end ∷ e .code ∷ e .accesses ∷ e .conferma ∷ [])
