@@ -71,10 +71,11 @@ static const char *pattern(void) {
     return memmove(text, from, (size_t)(to + 14 - from));
 }
 
-static void put_case(struct file *f, int i, const char *taken_in) {
+static void put_case(struct file *f, char type, int i, const char *taken_in) {
     char id[89], *record = f->bytes + f->n;
     put(f, "%s", pattern());
     snprintf(id, sizeof id, "%088d", i);
+    strstr(record, "<Trasmissione tipo=")[20] = type;
     memcpy(strstr(record, "<Id_Rec>") + 8, id, 88);
     memcpy(strstr(record, "<PresaInCarico data=") + 21, taken_in, 10);
 }
@@ -82,7 +83,7 @@ static void put_case(struct file *f, int i, const char *taken_in) {
 /* Cases 0 to n - 1 stand. */
 static void stand_cases(struct file *f, int n, struct day taken_in) {
     put(f, "<FlsAssDom_1>");
-    for (int i = 0; i < n; i++) put_case(f, i, taken_in.text);
+    for (int i = 0; i < n; i++) put_case(f, 'I', i, taken_in.text);
     put(f, "</FlsAssDom_1>");
     stand(f, 1, (uint64_t)taken_in.year, (uint64_t)taken_in.quarter);
 }
@@ -117,7 +118,7 @@ static const struct day may = {2018, 2, "2018-05-01"};
 static void cases(struct file *f, const struct kind *k) {
     (void)k;
     put(f, "<FlsAssDom_1>");
-    for (int i = 0; fits(f, strlen(pattern()) + 14); i++) put_case(f, i, may.text);
+    for (int i = 0; fits(f, strlen(pattern()) + 14); i++) put_case(f, 'I', i, may.text);
     put(f, "</FlsAssDom_1>");
 }
 
@@ -142,7 +143,7 @@ static const char *up_to(struct file *f, const struct kind *k) {
     if (k->track == 2) stand_cases(f, 1, may);
     put(f, "<FlsAssDom_%d>", (int)k->track);
     if (k->track == 1) {
-        put_case(f, 0, may.text);
+        put_case(f, 'I', 0, may.text);
     } else {
         put_head(f, 'I', 0, may.text);
         put_erogazione(f, "2018-05-02");
@@ -322,6 +323,31 @@ static void moves(struct file *f, const struct kind *k) {
     put(f, "</FlsAssDom_2>");
 }
 
+/* Cancellations of cases that take their events along, over a register that is prepared for them. */
+
+/* Each of the ordinary file's cases is cancelled with its seven events, the first one first: all rows behind move. */
+static void carried(struct file *f, const struct kind *k) {
+    events(f, k);
+    stand(f, 2, (uint64_t)may.year, (uint64_t)may.quarter);
+    put(f, "<FlsAssDom_1>");
+    for (int i = 0; i < k->number; i++) put_case(f, 'C', i, may.text);
+    put(f, "</FlsAssDom_1>");
+}
+
+/* Two cases, the first with one event, the second with so many that the register is full. The first is cancelled and
+   inserted, again and again: each time all of the second's rows move. */
+static void carried_again(struct file *f, const struct kind *k) {
+    struct day first = day(0);
+    stand_cases(f, 2, first);
+    stand_suspended(f, 0, 0, 0);
+    stand_suspended(f, 1, 0, k->number - 1);
+    f->year = (uint64_t)first.year;
+    f->quarter = (uint64_t)first.quarter;
+    put(f, "<FlsAssDom_1>");
+    for (int i = 0; fits(f, strlen(pattern()) + 14); i++) put_case(f, i % 2 ? 'I' : 'C', 0, first.text);
+    put(f, "</FlsAssDom_1>");
+}
+
 #define ROOT "<FlsAssDom_1"
 #define CHILD "<Assistenza"
 #define FIELD "<Trasmissione tipo=\"I\""
@@ -386,6 +412,8 @@ const struct kind kinds[] = {
     {"conclusion", "Track 2: V records of the conclusion after 3,999", 2, singles, "", CONCLUSION, CONCLUSION, "", 'V'},
     {"moves", "Track 2: 60 events put before 4,034 and cancelled", 2, moves, "", "", "", "", 60},
     {"moves_one", "Track 2: one event put before 4,093 and cancelled", 2, moves, "", "", "", "", 1},
+    {"carried", "Track 1: 510 cases cancelled with 7 events each", 1, carried, "", "", "", "", 510},
+    {"carried_again", "Track 1: a case cancelled and put before 4,093 events", 1, carried_again, "", "", "", "", 4093},
     {NULL, NULL, 0, NULL, "", "", "", "", 0},
 };
 

@@ -27,7 +27,6 @@ static const struct answer_words {
     {SIAD_STANDS, "an insertion (I, inserimento) of a case, or of an event, that stands already"},
     {SIAD_STANDS_NOT, "a variation (V, variazione) or cancellation (C, cancellazione) of a case, or of an event, that "
                       "does not stand"},
-    {SIAD_HAS_EVENTS, "a cancellation (C, cancellazione) of a case of which an event stands"},
     {SIAD_NO_ROOM, "an insertion (I, inserimento) for which the register has too few rows left"},
     {SIAD_NO_EVENT, "no event in the record"},
     {SIAD_CONFIRMATION, "confermaPrecedente is 1 with an assessment (Valutazione), or 2 without one"},

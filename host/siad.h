@@ -52,7 +52,7 @@ enum siad_record_answer {
     SIAD_NO_PATHOLOGY = 13,     /* a prevalente is 000 */
     SIAD_STANDS = 14,           /* I, and its case or event stands */
     SIAD_STANDS_NOT = 15,       /* V or C, and its case or event doesn't stand */
-    SIAD_HAS_EVENTS = 16,       /* C of a case with events */
+    /* 16 is not given any more, and stays unused: a cancelled case takes its events along */
     SIAD_NO_ROOM = 17,          /* I, and there are too few rows */
     SIAD_NO_EVENT = 20,         /* no event in the record */
     SIAD_CONFIRMATION = 21,     /* confermaPrecedente 1 with a Valutazione, or 2 without */

@@ -156,6 +156,49 @@ static void taken(const char *folder, size_t reg_len, unsigned first, unsigned s
     free(answers);
 }
 
+/* One file of one or two records that must be taken into a register of three rows; the answer list is lent with 9s. */
+static void submits(const uint8_t *sub, size_t n, uint64_t track, uint8_t *reg, size_t records, unsigned first,
+                    unsigned second) {
+    uint8_t *answers = filled(2, 9);
+    uint64_t report[SIAD_REPORT] = {77, 77, 77, 77};
+    IS(siad_submit(sub, n, track, 2018, 2, reg, SIAD_REGISTER_BYTES(3), answers, 2, report), SIAD_TAKEN);
+    IS(report[SIAD_RECORDS], records);
+    IS(answers[0], first);
+    IS(answers[1], second);
+    IS(siad_sound(reg, SIAD_REGISTER_BYTES(3)), 0);
+    free(answers);
+}
+
+/* A case and two events fill a register; the case is cancelled, and the register is as if it were emptied. */
+static void carried_away(const char *folder) {
+    static const char visits[] =
+        "<FlsAssDom_2><Assistenza><Trasmissione tipo=\"I\"/><Erogatore><CodiceRegione>%s</CodiceRegione>"
+        "<CodiceASL>%s</CodiceASL></Erogatore><Eventi><PresaInCarico data=\"%s\"><Id_Rec>%s</Id_Rec></PresaInCarico>"
+        "<Erogazione data=\"2018-05-02\"><TipoOperatore>1</TipoOperatore></Erogazione>"
+        "<Erogazione data=\"2018-06-30\"><TipoOperatore>2</TipoOperatore></Erogazione></Eventi></Assistenza>"
+        "</FlsAssDom_2>";
+    static const char type[] = "tipo=\"I";
+    char text[1024];
+    size_t n, events = (size_t)snprintf(text, sizeof text, visits, region, asl, date, id);
+    size_t len = SIAD_REGISTER_BYTES(3);
+    uint8_t *sub = submission(folder, "case_twice", &n), *visited = filled(events, 0), *reg = filled(len, 0);
+    memcpy(visited, text, events);
+    submits(sub, n, 1, reg, 2, SIAD_ACCEPTED, SIAD_STANDS);
+    submits(visited, events, 2, reg, 1, SIAD_ACCEPTED, 9);
+    IS(reg[0] * 256u + reg[1], 1);
+    IS(reg[2] * 256u + reg[3], 2);
+    finding(reg, len, 1);
+    for (size_t i = 0; i + sizeof type - 1 <= n; i++)
+        if (memcmp(sub + i, type, sizeof type - 1) == 0) sub[i + sizeof type - 2] = 'C';
+    submits(sub, n, 1, reg, 2, SIAD_ACCEPTED, SIAD_STANDS_NOT);
+    IS(all(reg, len, 0), 1);
+    finding(reg, len, 0);
+    submits(visited, events, 2, reg, 1, SIAD_NO_CASE, 9);
+    free(sub);
+    free(visited);
+    free(reg);
+}
+
 /* NULL with length 0, as siad.h tells: answered as an empty buffer is. */
 static void nulls(const char *folder) {
     size_t n, len = SIAD_REGISTER_BYTES(1);
@@ -178,7 +221,7 @@ static void nulls(const char *folder) {
 static void words(void) {
     for (uint64_t n = 1; n < 300; n++) {
         int of_file = n >= SIAD_BAD_PERIOD && n <= SIAD_SHORT_LIST;
-        int of_record = (n >= SIAD_OUTSIDE_QUARTER && n <= SIAD_NO_ROOM) ||
+        int of_record = (n >= SIAD_OUTSIDE_QUARTER && n <= SIAD_STANDS_NOT) || n == SIAD_NO_ROOM ||
                         (n >= SIAD_NO_EVENT && n <= SIAD_AFTER_CONCLUSION);
         int answer = of_file || of_record || n == SIAD_NOT_FOUND;
         IS(words_of(n, NULL) != NULL, answer);
@@ -195,6 +238,7 @@ int main(int argc, char **argv) {
     taken(argv[1], SIAD_REGISTER_BYTES(1) - 1, SIAD_NO_ROOM, SIAD_NO_ROOM);
     taken(argv[1], SIAD_REGISTER_BYTES(1), SIAD_ACCEPTED, SIAD_STANDS);
     taken(argv[1], SIAD_REGISTER_BYTES(160), SIAD_ACCEPTED, SIAD_STANDS);
+    carried_away(argv[1]);
     nulls(argv[1]);
     words();
     puts(bad ? "FAILED" : "ok");

@@ -60,6 +60,68 @@ def lib_submit(sub, track, year, quarter, reg, answers):
     return (got, *nums, r1, a1), s1 == sub and g1 and g2 and g3 and g4
 
 
+EVENTS = {b"Rivalutazione": (0, b"data"), b"Erogazione": (1, b"data"), b"Sospensione": (2, b"dataInizio"), b"Conclusione": (3, b"dataAD")}
+
+
+def told(sub):
+    """each record's type, its case's key and its events' keys, as the numbers that their bits make (R8, R9): packed here, not by the oracle"""
+    number = lambda t: (date.fromisoformat(t.decode()) - date(1900, 1, 1)).days
+    out = []
+    for r in O.parse(sub).items:
+        if isinstance(r, O.Elem):
+            taking = O.kid(r, b"Eventi", b"PresaInCarico")
+            region, asl, ident = O.text_at(r, b"Erogatore", b"CodiceRegione"), O.text_at(r, b"Erogatore", b"CodiceASL"), O.text_at(taking, b"Id_Rec")
+            case = int(region)
+            for value, bits in [(c, 7) for c in asl] + [(number(taking.attrs[b"data"]), 17)] + [(c, 7) for c in ident]:
+                case = case << bits | value
+            named = [(EVENTS[e.name], e) for e in O.kid(r, b"Eventi").items if isinstance(e, O.Elem) and e.name in EVENTS]
+            out.append((O.kid(r, b"Trasmissione").attrs[b"tipo"], case, [case << 19 | kind << 17 | number(e.attrs[at]) for (kind, at), e in named]))
+    return out
+
+
+def keys_in(reg):
+    """the keys of the cases and of the events that stand, as numbers, read off the bytes (R1, R2)"""
+    cases, events = int.from_bytes(reg[:2], "big"), int.from_bytes(reg[2:4], "big")
+    rows = [int.from_bytes(reg[4 + 91 * i:95 + 91 * i], "big") for i in range(cases + events)]
+    return [r >> 66 for r in rows[:cases]], [r >> 47 for r in rows[cases:]]
+
+
+def conserved(records, track, reg, after, answers):
+    """K1, and E1's total: "for events subtracts those carried away, counted once for each case from the register before the call" """
+    (cases0, events0), (cases1, events1) = keys_in(reg), keys_in(after)
+    had = Counter(e >> 19 for e in events0)
+    accepted = [r for r, a in zip(records, answers) if a == 0]
+    cancelled = {case for tipo, case, _ in accepted if tipo == b"C"} if track == 1 else set()
+    keys = lambda t: sum(len(events) for tipo, _, events in accepted if tipo == t)
+    cases = lambda t: sum(tipo == t for tipo, _, _ in accepted) if track == 1 else 0
+    return (len(cases1) + cases(b"C") == len(cases0) + cases(b"I")
+            and len(events1) + keys(b"C") + sum(had[case] for case in cancelled) == len(events0) + keys(b"I"))
+
+
+def count_carried(records, reg, answers):
+    """what a taken Track 1 file met of cases with events, so that a run shows that it is not empty"""
+    cases, events = keys_in(reg)
+    left, since = Counter(e >> 19 for e in events), {}       # since: the accepted types behind the cancellation that carried events away
+    stayed, room = len(cases) + len(events), O.room(reg)     # stayed: the rows, were those of carried events no room
+    for (tipo, case, _), a in zip(records, answers):
+        stayed += {b"I": 1, b"C": -1}.get(tipo, 0) if a == 0 else 0
+        if tipo == b"C" and case in left:
+            if a:
+                C["C of a case with events: %d" % a] += 1
+                continue
+            C["cancellations that carried events away"] += 1
+            C["events carried away"] += left.pop(case)
+            C["carried away between other cases' events"] += bool(left) and min(left) < case < max(left)
+            since[case] = ""
+        elif case in since:
+            since[case] += tipo.decode() if a == 0 else ""
+            C["events carried away, then %s: %d in the file" % (" ".join(since[case]) if a == 0 else tipo.decode(), a)] += 1
+        if tipo == b"I" and a == 0 and stayed > room:
+            C["I into the room of carried events"] += 1
+        if a == 17 and since:
+            C["17 behind events carried away"] += 1
+
+
 def check_submit(sub, track, year, quarter, reg, answers):
     mine = O.submit(sub, track, year, quarter, reg, answers)
     theirs, kept = lib_submit(sub, track, year, quarter, reg, answers)
@@ -73,6 +135,12 @@ def check_submit(sub, track, year, quarter, reg, answers):
         C["register changed"] += mine[5] != reg
     if mine != theirs or not kept:
         diff("submit", (sub, track, year, quarter, reg, answers), mine, theirs + (kept,))
+    if theirs[0] == mine[0] == 0:
+        records = told(sub)
+        if not conserved(records, track, reg, theirs[5], theirs[6]):
+            diff("total", (sub, track, year, quarter, reg, answers), mine, theirs)
+        if track == 1:
+            count_carried(records, reg, theirs[6])
     return mine
 
 

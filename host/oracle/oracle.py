@@ -1,5 +1,6 @@
-"""The rules in plain Python: an oracle written from the paper that docs/RULES.md retells and the schemas 4.5.2 and 4.6.2 of SIAD 6.4, without a look at the
-   proved code or its definitions. A letter and a number name a rule; quotes are its words. docs/DECISIONS.md: the points that were open."""
+"""The rules in plain Python: an oracle written from the paper that docs/RULES.md retells, the requests for change that have landed and the schemas 4.5.2 and
+   4.6.2 of SIAD 6.4, without a look at the proved code or its definitions. A letter and a number name a rule, E and a number a request; quotes are its words.
+   docs/DECISIONS.md: the points that were open."""
 import re
 from datetime import date
 from functools import lru_cache
@@ -632,11 +633,9 @@ def apply1(r, rec, in_quarter):
         return 14
     if tipo in b"VC" and k not in r.cases:                   # A15
         return 15
-    if tipo == b"C" and r.events[k]:                         # A16: "Track 1: type C, and an event of the case stands"
-        return 16
     if tipo == b"I" and standing(r) + 1 > r.room:            # A17: "Type I, and the rows standing with those of the record are more than R"
         return 17
-    if tipo == b"C":
+    if tipo == b"C":                                         # E1: "An accepted Track 1 cancellation now removes the case and all its events"
         del r.cases[k], r.events[k]
     else:
         r.cases[k] = (birth, prevalente, levels)

@@ -22,8 +22,9 @@ def bits(*fields):
     assert len(s) == ROW * 8, len(s)
     return int(s, 2).to_bytes(ROW, "big")
 def chars(t, n): return [(ord(c), 7) for c in t] + [(0, 7)] * (n - len(t))
+def ident(id): return id * 88 if len(id) == 1 else id
 def key(id="A", region=10, asl="101", taken="2018-05-01"):
-    return [(region, 8)] + chars(asl, 3) + [(day(taken), 17)] + chars(id * 88, 88)
+    return [(region, 8)] + chars(asl, 3) + [(day(taken), 17)] + chars(ident(id), 88)
 def case(id="A", birth=1940, prevalente="250"):
     return bits(*key(id), (birth, 12), *chars(prevalente, 5), *[(0, 2)] * 6, (0, 7))
 def event(kind, date, end=None, code=1, accesses=0, conferma=0, id="A"):
@@ -54,7 +55,6 @@ def refused(answer, r, number=0):
     return ["file %d %d records 0 accepted 0 discarded 0" % (answer, number)] + standing(r)
 
 # ---- submissions
-def ident(c): return c * 88
 NEEDS1 = ["DrenaggioPosturale", "OssigenoTerapia", "Ventiloterapia", "Tracheostomia", "(", "GestioneStomia", "ElimiUrinariaIntestinale", "AlterRitmoSonnoVeglia",
  "IntEduTerapeutica", "CuraUlcereCutanee12Grado", "CuraUlcereCutanee34Grado", "PrelieviVenosiNonOcc", "ECG", "Telemetria", "TerSottocutIntraMusInfus",
  "GestioneCatetere", "Trasfusioni", "ControlloDolore", "AssistStatoTerminaleOnc", "AssistStatoTerminaleNonOnc"]
@@ -165,13 +165,36 @@ E128 = [xr(d) for d in DAYS] + [xv(d) for d in DAYS] + [xs(d, d) for d in DAYS[:
 F["events_128"] = f2(t2(E128))
 F["events_128_cancelled"] = f2(t2(E128, tipo="C"))
 F["events_129"] = f2(t2(E128 + [xc("2018-06-30")]))
+# cases A, B and C, whose rows stand in this order; B's events lie in two quarters, A's last and C's first right beside them
+F["cases_a_b_c"] = f1(t1("A"), t1("B"), t1("C"))
+F["events_of_a_b_c"] = f2(t2([xv("2018-05-02"), xc("2018-06-30")]), t2([xr("2018-05-10"), xv("2018-05-02")], "B"), t2([xr("2018-05-01"), xv("2018-05-02")], "C"))
+F["visit_b_2018_07_05"] = f2(t2([xv("2018-07-05")], "B"))
+F["visit_b_2018_07_05_cancelled"] = f2(t2([xv("2018-07-05")], "B", "C"))
+F["visit_b_cancelled"] = f2(t2([xv("2018-05-02")], "B", "C"))
+F["case_d"] = f1(t1("D"))
+F["b_cancelled"] = f1(t1("B", "C"))
+F["b_cancelled_inserted_cancelled"] = f1(t1("B", "C"), t1("B"), t1("B", "C"))
+F["b_cancelled_with_faults"] = f1(t1("B", "C", birth="1879"), t1("B", "C", res=("999", "999", "999999", "It")), t1("B", "C", prevalente="000"), t1("D", "C"))
+F["old_events_of_b"] = f2(*[t2([xv("2018-05-02", 5)], "B", tipo) for tipo in "VCIV"], *[t2([xr("2018-05-10")], "B", tipo) for tipo in "VC"])
+F["b_cancelled_and_d_to_h"] = f1(t1("B", "C"), *[t1(id) for id in "DEFGH"])
+AFTER_A, BEHIND = "A" * 87 + "B", "A" * 87 + "C"
+F["after_a_cancelled"] = f1(t1(AFTER_A, "C"))
+F["after_a_cancelled_inserted"] = f1(t1(AFTER_A, "C"), t1(AFTER_A))
 F["depth_12"] = "<D>" * 11 + "<D/>" + "</D>" * 11 + "\n"
 F["depth_13"] = "<D>" * 12 + "<D/>" + "</D>" * 12 + "\n"
 
 A, B = case("A"), case("B")
 AV = case("A", 1941, "4019")
 V2 = visit("2018-05-02", 2, 3)
+# three cases whose Id_Recs differ in the last character, the middle one with 300 events; no row is free
+MANY = [(datetime.date(2018, 5, 1) + datetime.timedelta(i)).isoformat() for i in range(250)]
+MANY_OF = {
+ "A": [visit(d) for d in MANY[:19]] + [concl("2018-12-31")],
+ AFTER_A: [reval(d, id=AFTER_A) for d in MANY[:40]] + [visit(d, id=AFTER_A) for d in MANY] + [susp(d, d, id=AFTER_A) for d in MANY[:10]],
+ BEHIND: [reval(d, id=BEHIND) for d in MANY[:20]],
+}
 REGS = {
+ "a_case_with_300_events": rows(343, [case(id) for id in MANY_OF], sum(MANY_OF.values(), [])).bytes(),
  "case_a": rows(2, [A]).bytes(),
  "case_a_and_a_bit_behind": rows(2, [A]).bytes()[:-1] + b"\x01",
 }

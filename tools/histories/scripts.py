@@ -40,9 +40,6 @@ with_case("answers/14_stands_already", note("inserted twice: a case, an event"),
 script("answers/15_does_not_stand", note("varied or cancelled, and never inserted: a case, an event"), ("rows 4", []),
   sub(1, "case_a_varied", taken([15], rows(4))), sub(1, "case_a_cancelled", taken([15], rows(4))), CASE,
   sub(2, "visit_varied", taken([15], rows(4, [A]))), sub(2, "visit_cancelled", taken([15], rows(4, [A]))))
-with_case("answers/16_events_of_the_case_stand", note("a case is cancelled after its events"),
-  sub(2, "visit", taken([0], rows(4, [A], [V2]))), sub(1, "case_a_cancelled", taken([16], rows(4, [A], [V2]))),
-  sub(2, "visit_cancelled", taken([0], rows(4, [A]))), sub(1, "case_a_cancelled", taken([0], rows(4))))
 script("answers/17_no_room", note("room for one row: a second case, an event"), ("rows 1", []),
   sub(1, "case_a", taken([0], rows(1, [A]))), sub(1, "case_b", taken([17], rows(1, [A]))), sub(2, "visit", taken([17], rows(1, [A]))))
 
@@ -121,6 +118,49 @@ script("histories/registers_from_files", note("a register that another tool pack
   ("empty", ans(0) + standing(rows(2))), sub(1, "case_a", taken([0], rows(2, [A]))), sub(2, "visit", taken([0], rows(2, [A], [V2]))))
 script("histories/lengths_without_room", note("4 and 94 bytes: sound, no room; 95: room for one"), ("bytes 4", []), ("sound", ans(0)), sub(1, "case_a", taken([17], bytes(4))),
   ("bytes 94", []), ("sound", ans(0)), sub(1, "case_a", taken([17], bytes(94))), ("bytes 95", []), sub(1, "case_a", taken([0], rows(1, [A]))))
+
+# ---- a cancelled case takes its events along (E1)
+with_case("histories/a_cancelled_case_takes_its_events_along", note("a case with a visit is cancelled, and both are gone"),
+  sub(2, "visit", taken([0], rows(4, [A], [V2]))), sub(1, "case_a_cancelled", taken([0], rows(4))), ("sound", ans(0)), ("find 010 101 2018-05-01 A", at(30, 0)),
+  note("cancelled once more, and its visit sent again: the case doesn't stand"), sub(1, "case_a_cancelled", taken([15], rows(4))), sub(2, "visit", taken([24], rows(4))))
+C3 = case("C")
+AE = [visit("2018-05-02"), concl("2018-06-30")]
+BE = [reval("2018-05-10", id="B"), visit("2018-05-02", id="B"), visit("2018-07-05", id="B")]
+CE = [reval("2018-05-01", id="C"), visit("2018-05-02", id="C")]
+ABC = rows(10, [A, B, C3], AE + BE + CE)
+WITHOUT_B = rows(10, [A, C3], AE + CE)
+def with_three(name, what, *steps):
+    script(name, note("cases A, B and C with events in the second quarter, B with one in the third too: no row is left"), ("rows 10", []),
+      sub(1, "cases_a_b_c", taken([0, 0, 0], rows(10, [A, B, C3]))), sub(2, "events_of_a_b_c", taken([0, 0, 0], rows(10, [A, B, C3], AE + BE[:2] + CE))),
+      sub(2, "visit_b_2018_07_05", taken([0], ABC), quarter=3), note(what), *steps)
+with_three("histories/the_neighbours_stay", "B is cancelled: its three events go, that of the third quarter too, and no other row",
+  sub(1, "b_cancelled", taken([0], WITHOUT_B)), ("sound", ans(0)),
+  ("find 010 101 2018-05-01 A", at(0, 4)), ("find 010 101 2018-05-01 B", at(30, 0)), ("find 010 101 2018-05-01 C", at(0, 95)))
+with_three("histories/cancelled_inserted_cancelled", "in one file B is cancelled, inserted, cancelled: its events go with the first, and once",
+  sub(1, "b_cancelled_inserted_cancelled", taken([0, 0, 0], WITHOUT_B)), ("sound", ans(0)))
+BACK = rows(10, [A, B, C3], AE + [visit("2018-05-02", 5, id="B")] + CE)
+with_three("histories/events_do_not_come_back", "B is cancelled: of its events none is admitted; it is inserted again, and they don't come back",
+  sub(1, "b_cancelled", taken([0], WITHOUT_B)), sub(2, "old_events_of_b", taken([24] * 6, WITHOUT_B)), sub(1, "case_b", taken([0], rows(10, [A, B, C3], AE + CE))),
+  note("an old visit: varied and cancelled 15, inserted and then varied 0; an old Rivalutazione: varied and cancelled 15"),
+  sub(2, "old_events_of_b", taken([15, 15, 0, 0, 15, 15], BACK)), note("that of the third quarter doesn't stand either, and goes in again"),
+  sub(2, "visit_b_2018_07_05_cancelled", taken([15], BACK), quarter=3),
+  sub(2, "visit_b_2018_07_05", taken([0], rows(10, [A, B, C3], AE + [visit("2018-05-02", 5, id="B"), BE[2]] + CE)), quarter=3), ("sound", ans(0)))
+with_three("histories/a_discarded_cancellation_takes_nothing", "B's cancellation, declared for the third quarter, gives 10: every byte stays",
+  sub(1, "b_cancelled", taken([10], ABC), quarter=3), note("with a birth year of 1879, with the state Italy, with prevalente 000; and of a case that doesn't stand"),
+  sub(1, "b_cancelled_with_faults", taken([11, 12, 13, 15], ABC)), ("sound", ans(0)))
+with_three("histories/room_of_events_carried_away", "D has no room; then one file cancels B and inserts five, D to H: four take the rows of B and its events, the fifth gives 17",
+  sub(1, "case_d", taken([17], ABC)), sub(1, "b_cancelled_and_d_to_h", taken([0, 0, 0, 0, 0, 17], rows(10, [A, C3] + [case(id) for id in "DEFG"], AE + CE))), ("sound", ans(0)),
+  ("find 010 101 2018-05-01 G", at(0, 4 + 5 * ROW)), ("find 010 101 2018-05-01 H", at(30, 0)))
+with_three("histories/a_cancelled_event_takes_nothing_along", "Track 2: one visit of B is cancelled, and only its row goes",
+  sub(2, "visit_b_cancelled", taken([0], rows(10, [A, B, C3], AE + [BE[0], BE[2]] + CE))), ("sound", ans(0)))
+MANY_LEFT = MANY_OF["A"] + MANY_OF[BEHIND]
+script("histories/a_case_with_300_events", note("Id_Recs that differ in the last character: the middle case has 300 events over 250 days, and no row is free"),
+  ("load registers/a_case_with_300_events", []), ("sound", ans(0)), ("find 010 101 2018-05-01 " + AFTER_A, at(0, 95)), sub(1, "case_b", taken([17], REGS["a_case_with_300_events"])),
+  note("it is cancelled: its neighbours' 40 events stay"),
+  sub(1, "after_a_cancelled", taken([0], rows(343, [A, case(BEHIND)], MANY_LEFT))), ("sound", ans(0)),
+  ("find 010 101 2018-05-01 A", at(0, 4)), ("find 010 101 2018-05-01 " + AFTER_A, at(30, 0)), ("find 010 101 2018-05-01 " + BEHIND, at(0, 95)),
+  note("once more, inserted again in the same file: it has no events"), ("load registers/a_case_with_300_events", []),
+  sub(1, "after_a_cancelled_inserted", taken([0, 0], rows(343, [A, case(AFTER_A), case(BEHIND)], MANY_LEFT))), ("sound", ans(0)))
 
 A1 = rows(1, [A])
 def pad(n, f, exp): return ("padded %d 2 2018 2 files/%s.xml" % (n, f), exp)

@@ -4,22 +4,22 @@ use mathlib.Core.Path.{_≡_, refl, sym, ap, ap₂, _∙_, subst}
 use mathlib.Core.Bool.{Bool, true, false, not, _&&_, _||_, true≢false}
 use mathlib.Core.List.{List, [], _∷_}
 use native.Mathlib.Omega.{arith}
-use lib.Dec.{ltb}
+use lib.Dec.{eqb, ltb}
 use lib.ListN.{length}
 use borrow.Author.Tests.{not-false, ltb-false}
 use Rattle.laws.specs.Lists.{all}
 use Rattle.laws.proofs.Truth.{or-right, and-left, and-right}
-use Rattle.model.specs.Map.{Row, Map, has, keep, del, putAll, delAll, anyIn, allIn, twice}
+use Rattle.model.specs.Map.{Row, Map, has, keep, putAll, delAll, anyIn, allIn, twice}
 use Rattle.model.specs.Checks.{first}
 use Rattle.model.specs.Flow.{State, applied}
 use Rattle.model.specs.Transmission.{Kind, insert, vary, cancel, isInsert, isCancel}
 use Rattle.model.proofs.MapLaws.{keep-true}
+use Rattle.register.specs.Layout.{caseNamed}
 use Rattle.register.specs.RoomAndEmptying.{room}
 use Rattle.register.specs.Search.{probeKey}
-use Rattle.register.specs.Stored.{Stored, cases, withRows}
+use Rattle.register.specs.Stored.{Stored, withRows}
 use Rattle.register.specs.Stored as group
-use Rattle.register.specs.TakenOut.{Dropped}
-use Rattle.register.proofs.Storing.{key-number}
+use Rattle.register.specs.TakenOut.{withoutCase, CaseGone}
 use Rattle.home_care.specs.Row.{Case, rowBytes, keyBits, keyNumber, siad, eventRow}
 use Rattle.home_care.proofs.Laid.{laid-siad}
 use Rattle.home_care.specs.Record.{Head, Admission, Said, Record, admission, events, eventNumbers, typeOf}
@@ -31,19 +31,18 @@ use Rattle.apply.proofs.Merge.{map-length}
 use Rattle.apply.specs.Cases.{rowFor, CaseIn}
 use Rattle.apply.specs.Events.{rowsFor, AllIn, AllOver, AllOut}
 
--- a cancellation carries no other event away
+-- a cancellation of Track 2 carries no other event away
 none-away : (m es : Map ℕ) (b : List ℕ) → Stored siad b (record { cases = m; events = es }) → Stored siad b (record { cases = m; events = keep (λ k. true) es })
 none-away m es b = subst (λ (z : Map ℕ). Stored siad b (record { cases = m; events = z })) (sym (keep-true (λ k. true) es (λ k. refl)))
 
 -- ---- Track 1: the case's row
 
--- the register b is a without the case with the key k, if it stood
+-- the register b is a without the case with the key k, which stands, and its events
 abbrev pub CaseOut : ℕ → List ℕ → List ℕ → Type 0
-CaseOut k a b = (s : State ℕ ℕ) → Stored siad a s → Stored siad b (withRows cases (del k (s .cases)) s)
+CaseOut k a b = (s : State ℕ ℕ) → Stored siad a s → has k (s .cases) ≡ true → Stored siad b (withoutCase siad k s)
 
-pub case-gone : (probe a b : List ℕ) (r : Bool) → Dropped cases rowBytes keyBits probe a b r → CaseOut (probeKey rowBytes keyBits probe) a b
-case-gone probe a b r x s st =
-    subst (λ (z : ℕ). Stored siad b (withRows cases (del z (s .cases)) s)) (sym (key-number cases siad probe)) (x .holds siad laid-siad refl refl s st .1)
+pub case-gone : (probe a b : List ℕ) → CaseGone rowBytes keyBits probe a b → CaseOut (probeKey rowBytes keyBits probe) a b
+case-gone probe a b x = x .holds siad laid-siad refl refl
 
 -- what a record of each kind does with its case
 abbrev CaseDone : Kind → ℕ → Case → List ℕ → List ℕ → Type 0
@@ -62,17 +61,20 @@ module _ (k : ℕ) (d : Case) (a b : List ℕ) where
   case-in vary e f = f
   case-in cancel e f = absurd (true≢false e)
 
-  -- the row put in has its room: 17 gives it to a new key, and by 15 the key of a variation stands
+  -- by 15 the key of a variation or a cancellation stands
+  stands-by : (s : State ℕ ℕ) → not (allIn (rowFor k d ∷ []) (s .cases) && allIn [] (s .events)) ≡ false → has k (s .cases) ≡ true
+  unfolding allIn all
+  stands-by s n15 = and-left (has k (s .cases)) true (and-left (has k (s .cases) && true) true (not-false _ n15))
+
+  -- the row put in has its room: 17 gives it to a new key
   case-by : (t : Kind) (s : State ℕ ℕ) → CaseDone t k d a b → Stored siad a s →
       not (isInsert t) && not (allIn (rowFor k d ∷ []) (s .cases) && allIn [] (s .events)) ≡ false →
       isInsert t && ltb (room siad (length a)) (length (s .cases) + length (s .events) + 1) ≡ false →
-      Stored siad b (applied t (rowFor k d ∷ []) [] (λ k. false) s)
-  unfolding putAll delAll allIn all
+      Stored siad b (applied t (rowFor k d ∷ []) [] (λ j. eqb (caseNamed siad j) k) s)
+  unfolding putAll delAll
   case-by insert s f st n15 n17 = f s st (λ q. omega (arith, ltb-false (room siad (length a)) (length (s .cases) + length (s .events) + 1) n17))
-  case-by vary s f st n15 n17 =
-      let h : has k (s .cases) ≡ true = and-left (has k (s .cases)) true (and-left (has k (s .cases) && true) true (not-false _ n15)) in
-      f s st (λ q. absurd (true≢false (sym h ∙ q)))
-  case-by cancel s f st n15 n17 = none-away (del k (s .cases)) (s .events) b (f s st)
+  case-by vary s f st n15 n17 = f s st (λ q. absurd (true≢false (sym (stands-by s n15) ∙ q)))
+  case-by cancel s f st n15 n17 = f s st (stands-by s n15)
 
   -- the case's row put in or taken out is the accepted record's next state
   pub case-applied : (tipo : ℕ) → CaseDone (typeOf tipo) k d a b →
@@ -81,7 +83,7 @@ module _ (k : ℕ) (d : Case) (a b : List ℕ) where
   case-applied tipo f h x s c key t case m st e =
       let r : Record = admission h x in
       let is : rowFor k d ≡ caseRow (h .key) (x .case) = ap₂ rowFor (sym key) (sym case) in
-      subst (λ (z : Row ℕ). Stored siad b (applied (typeOf (h .tipo)) (z ∷ []) [] (λ k. false) s)) is
+      subst (λ (z : Row ℕ). Stored siad b (applied (typeOf (h .tipo)) (z ∷ []) [] (λ j. eqb (caseNamed siad j) (z .key)) s)) is
       (case-by (typeOf (h .tipo)) s (subst (λ (z : ℕ). CaseDone (typeOf z) k d a b) t f) st
       (subst (λ (z : Row ℕ). not (isInsert (typeOf (h .tipo))) && not (allIn (z ∷ []) (s .cases) && allIn [] (s .events)) ≡ false) (sym is) (lawful c .not15 s r e))
       (subst (λ (n : ℕ). isInsert (typeOf (h .tipo)) && ltb n (length (s .cases) + length (s .events) + 1) ≡ false) m (not17 c s r e)))

@@ -7,7 +7,7 @@ ghost use lib.Dec.{ltb};
 ghost use lib.ListN.{length};
 ghost use Rattle.laws.specs.Lists.{all};
 ghost use Rattle.register.specs.Gap.{Gap};
-ghost use Rattle.register.specs.Moves.{closedUp, onPart, removed};
+ghost use Rattle.register.specs.Moves.{removed};
 ghost use Rattle.register.specs.Search.{probeKey};
 ghost use Rattle.home_care.specs.Row.{rowBytes, keyBits, eventBits};
 ghost use Rattle.apply.specs.Events.{AllOut};
@@ -20,7 +20,7 @@ use home_care::layout::PAST_OWN;
 use home_care::layout::ROW;
 use register::counts::count;
 use register::counts::set_count;
-use register::moving::close_rows;
+use register::moving::remove_rows;
 use register::moving::shift_right;
 use register::room::room_for;
 use register::search::case_range;
@@ -34,16 +34,6 @@ fn widen(reg: &mut [u8], r: usize, i: usize, j: usize)
     let from = 4 + ROW * (r + 1);
     let to = 4 + ROW * (i + j);
     shift_right(&mut reg[from..to], ROW * j);
-}
-
-// The rows up to row n come back over a gap of j rows in front of row i, and zeros in behind them.
-fn close(reg: &mut [u8], i: usize, j: usize, n: usize)
-    requires { ⌜ (i + j ≤ n) × (n < mostCounted) × (4 + rowBytes * n ≤ length (now reg)) ⌝ }
-    ensures { λ _. ⌜ now (reg .exit) ≡ onPart (closedUp (rowBytes * j)) (4 + rowBytes * i) (4 + rowBytes * n - (4 + rowBytes * i)) (now (reg .entry)) ⌝ }
-{
-    let from = 4 + ROW * i;
-    let to = 4 + ROW * n;
-    close_rows(&mut reg[from..to], ROW, j);
 }
 
 // The events of a record whose keys all stand (15), each once (22): each row joins a gap, the largest key first, and the rows behind the gap come back once.
@@ -81,5 +71,5 @@ pub fn cancel_events(reg: &mut [u8], probe: &[u8], evs: &[u64])
         j += 1;
         set_count(reg, 2, n - c - j);
     }
-    close(reg, i, j, n);
+    remove_rows(reg, ROW, i, j, n);
 }

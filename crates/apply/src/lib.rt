@@ -33,9 +33,9 @@ use checks::kinds::cancels;
 use checks::kinds::inserts;
 use home_care::layout::CASE_KEY;
 use home_care::layout::ROW;
-use register::remove::Part;
+use register::remove::remove_case;
 
-// An accepted record of Track 1: its case's row, with the key that the probe holds.
+// An accepted record of Track 1: its case's row, with the key that the probe holds; a cancellation takes the case's events along.
 pub fn apply_case(
     reg: &mut [u8],
     tipo: u8,
@@ -51,7 +51,7 @@ pub fn apply_case(
         × (length (now (reg .exit)) ≡ length (now (reg .entry))) ⌝ }
 {
     if cancels(tipo) {
-        register::remove::remove(reg, Part::Cases, ROW, CASE_KEY, probe);
+        remove_case(reg, ROW, CASE_KEY, probe);
     } else {
         put_case(reg, probe, birth, prevalente, scales);
     }

@@ -8,7 +8,7 @@ use mathlib.Core.Option.{Option, none}
 use native.Mathlib.Decide.{ℕ-discrete}
 use lib.Dec.{eqb, ltb}
 use lib.ListN.{length}
-use borrow.Author.Tests.{eqb-true, ltb-true, not-false}
+use borrow.Author.Tests.{eqb-true, ltb-true, not-true, not-false}
 use Rattle.laws.specs.Lists.{all, any}
 use Rattle.laws.proofs.Truth.{and-left, and-right, or-left, or-right}
 use Rattle.laws.proofs.Every.{and-tell}
@@ -18,7 +18,7 @@ use Rattle.model.specs.Transmission.{Kind, insert, vary, cancel, isCancel}
 use Rattle.model.specs.Flow.{State, Good, applied, machine}
 use Rattle.model.specs.Log.{shown}
 use Rattle.model.proofs.ChecksLaws.{clear}
-use Rattle.model.proofs.MapLaws.{find-keep, keep-true, asc-keep, ext, has-put, has-keep, keep-has, has-putAll, has-delAll, key-any}
+use Rattle.model.proofs.MapLaws.{find-keep, asc-keep, ext, has-put, has-keep, keep-has, has-putAll, has-delAll}
 use Rattle.model.proofs.FlowLaws.{event-found, good-applied}
 use Rattle.model.proofs.FlowHistories.{fits-law}
 use Rattle.register.specs.Layout.{caseNamed}
@@ -36,26 +36,19 @@ use Rattle.checks.specs.Flow.{caseRow, eventRows, flow, next}
 use Rattle.checks.specs.CheckOrder.{checksOf, afterwards}
 use Rattle.checks.specs.Readable.{Readable, KeyReadable, CaseReadable, eventReadable}
 use Rattle.checks.proofs.Accepted.{numbered, lawful, not17}
-use Rattle.checks.proofs.RowTests.{all-cases, all-events, sized, sized-fits, fits-sized, kept-all}
+use Rattle.checks.proofs.RowTests.{all-cases, all-events, keep-within, sized, sized-fits, fits-sized, kept-all}
 use Rattle.checks.proofs.RowsAllowed.{case-row-sized, case-row-allowed, each-row, event-row-allowed, event-row-sized, row-case}
 use Rattle.checks.proofs.Valid.{Sound, Parts, parts-of, valid-of, freeOf, free-any, ends, all-ends, five, free-23}
 
--- nothing is carried away besides
+-- Track 2: nothing is carried away besides
 abbrev nothing : ℕ → Bool
 nothing k = false
 
-module _ (s : State ℕ ℕ) where
-  same-events : (cs : Map ℕ) (t : Kind) → applied t cs [] nothing s .events ≡ s .events
-  unfolding putAll delAll
-  same-events cs insert = refl
-  same-events cs vary = refl
-  same-events cs cancel = keep-true (λ k. not false) (s .events) (λ k. refl)
-
-  same-cases : (es : Map ℕ) (t : Kind) → applied t [] es nothing s .cases ≡ s .cases
-  unfolding putAll delAll
-  same-cases es insert = refl
-  same-cases es vary = refl
-  same-cases es cancel = refl
+same-cases : (s : State ℕ ℕ) (es : Map ℕ) (t : Kind) → applied t [] es nothing s .cases ≡ s .cases
+unfolding putAll delAll
+same-cases s es insert = refl
+same-cases s es vary = refl
+same-cases s es cancel = refl
 
 or-so : (a b : Bool) → b ≡ true → a || b ≡ true
 or-so true b h = refl
@@ -76,18 +69,31 @@ new-ends c q f (e ∷ es) w h =
     (new-ends c q f es (and-right (eventReadable e) (all eventReadable es) w) (or-right now (t23 (eventNumbers es)) h))
 
 module _ (n : ℕ) (s : State ℕ ℕ) (p : Parts n s) where
-  -- every event's case stands: after a case's row, where 16 doesn't hold
-  tied1 : (x : Row ℕ) (t : Kind) → isCancel t && any (λ e. eqb (caseNamed siad (e .key)) (x .key)) (s .events) ≡ false → (k : ℕ) →
-      has k (s .events) ≡ true → has (caseNamed siad k) (applied t (x ∷ []) [] nothing s .cases) ≡ true
-  unfolding putAll delAll
-  tied1 x insert q k h = has-put (caseNamed siad k) x (s .cases) (p .tied k h)
-  tied1 x vary q k h = has-put (caseNamed siad k) x (s .cases) (p .tied k h)
-  tied1 x cancel q k h =
-      keep-has (caseNamed siad k) (λ j. not (eqb j (x .key))) (s .cases) (p .tied k h) (ap not (other (eqb (caseNamed siad k) (x .key)) refl))
-    where
-      other : (b : Bool) → eqb (caseNamed siad k) (x .key) ≡ b → eqb (caseNamed siad k) (x .key) ≡ false
-      other true e = absurd (true≢false (sym (key-any (λ j. eqb (caseNamed siad j) (x .key)) (s .events) k h e) ∙ q))
-      other false e = e
+  module _ (x : Row ℕ) where
+    -- the events of the case of the row x
+    abbrev own-of : ℕ → Bool
+    own-of k = eqb (caseNamed siad k) (x .key)
+
+    -- every event's case stands after a case's row: those of a cancelled case go with it
+    tied1 : (t : Kind) (k : ℕ) → has k (applied t (x ∷ []) [] own-of s .events) ≡ true → has (caseNamed siad k) (applied t (x ∷ []) [] own-of s .cases) ≡ true
+    unfolding putAll delAll
+    tied1 insert k h = has-put (caseNamed siad k) x (s .cases) (p .tied k h)
+    tied1 vary k h = has-put (caseNamed siad k) x (s .cases) (p .tied k h)
+    tied1 cancel k h =
+        let m = has-keep k (λ j. not (own-of j)) (s .events) h in
+        keep-has (caseNamed siad k) (λ j. not (eqb j (x .key))) (s .cases) (p .tied k (m .0)) (m .1)
+
+    -- and the events of each case that stands are those that stood
+    free1 : (t : Kind) (k : ℕ) → has k (applied t (x ∷ []) [] own-of s .cases) ≡ true → freeOf k (applied t (x ∷ []) [] own-of s .events) ≡ true
+    unfolding putAll delAll
+    free1 insert k h = free-any n s p k
+    free1 vary k h = free-any n s p k
+    free1 cancel k h =
+        let other : eqb k (x .key) ≡ false = not-true _ (has-keep k (λ j. not (eqb j (x .key))) (s .cases) h .1) in
+        ap (λ (m : Map ℕ). eventsFree (takenIn k) (map eventNumberIn m))
+        (keep-within (λ j. eqb (caseNamed siad j) k) (λ j. not (own-of j)) (s .events)
+        (λ j e. ap not (ap (λ (i : ℕ). eqb i (x .key)) (eqb-true (caseNamed siad j) k e) ∙ other)))
+        ∙ free-any n s p k
 
   -- after events' rows, where 24 doesn't hold
   module _ (c : ℕ) (es : List Said) (w : all eventReadable es ≡ true) where
@@ -161,26 +167,33 @@ module _ (c : Context) (n : ℕ) (r-is : c .room ≡ room siad n) (s : State ℕ
     unfolding all
     single q g = and-tell (q x) true g refl
 
+    -- no event comes in with it
+    own-rows : (q : Row ℕ → Bool) → all q (s .events) ≡ true → all q (next (admission h a) s .events) ≡ true
+    unfolding all
+    own-rows q = all-events (x ∷ []) [] (own-of n s p x) s q t1 refl
+
     valid1 : Parts n (next (admission h a) s)
     valid1 =
         let g = goes (admission h a) e in
-        let se : applied t1 (x ∷ []) [] nothing s .events ≡ s .events = same-events s (x ∷ []) t1 in
         record {
           few = g .1;
           cases-allowed =
-              all-cases (x ∷ []) [] nothing s caseRowAllowed t1
+              all-cases (x ∷ []) [] (own-of n s p x) s caseRowAllowed t1
               (single caseRowAllowed (case-row-allowed (h .key) (a .case) kr cr (passed1 11) (passed1 13))) (p .cases-allowed);
-          events-allowed = ap (all eventRowAllowed) se ∙ p .events-allowed;
+          events-allowed = own-rows eventRowAllowed (p .events-allowed);
           good = g .0;
-          tied = λ k q. tied1 n s p x t1 (passed1 16) k (sym (ap (λ (m : Map ℕ). has k m) se) ∙ q);
-          free = λ k q. ap (freeOf k) se ∙ free-any n s p k;
+          tied = tied1 n s p x t1;
+          free = free1 n s p x t1;
         }
 
     fits1 : Fits caseGroup siad (s .cases) → Fits caseGroup siad (next (admission h a) s .cases)
     fits1 f =
         sized-fits caseGroup (next (admission h a) s .cases)
-        (all-cases (x ∷ []) [] nothing s (sized caseGroup) t1
+        (all-cases (x ∷ []) [] (own-of n s p x) s (sized caseGroup) t1
         (single (sized caseGroup) (case-row-sized (h .key) (a .case) kr cr (passed1 11))) (fits-sized caseGroup (s .cases) f))
+
+    events-fit1 : Fits eventGroup siad (s .events) → Fits eventGroup siad (next (admission h a) s .events)
+    events-fit1 f = sized-fits eventGroup (next (admission h a) s .events) (own-rows (sized eventGroup) (fits-sized eventGroup (s .events) f))
 
   module _ (h : Head) (es : List Said) (kr : KeyReadable (h .key)) (w : all eventReadable es ≡ true) (e : first (checksOf c (events h es)) s ≡ 0) where
     abbrev own : ℕ
@@ -238,7 +251,7 @@ module _ (c : Context) (n : ℕ) (r-is : c .room ≡ room siad n) (s : State ℕ
   cases-fit-kept (events h es) w e f = subst (Fits caseGroup siad) (sym (same-cases s (eventRows (keyNumber (h .key)) es) (typeOf (h .tipo)))) f
 
   pub events-fit-kept : (r : Record) → Readable r → first (checksOf c r) s ≡ 0 → Fits eventGroup siad (s .events) → Fits eventGroup siad (next r s .events)
-  events-fit-kept (admission h a) w e f = subst (Fits eventGroup siad) (sym (same-events s (caseRow (h .key) (a .case) ∷ []) (typeOf (h .tipo)))) f
+  events-fit-kept (admission h a) w e f = events-fit1 h a (w .0) (w .1) e f
   events-fit-kept (events h es) w e f = fits2 h es (w .0) (w .1) e f
 
 -- SOUNDNESS KEPT: an accepted record that was read leaves a sound state sound

@@ -1,6 +1,6 @@
 -- Tests of every row and of every key of a map, as rows are put in and taken out.
 use Prim.Native.Nat.{ℕ, _^_, _<_}
-use mathlib.Core.Path.{_≡_, refl, ap, _∙_}
+use mathlib.Core.Path.{_≡_, refl, sym, ap, _∙_}
 use mathlib.Core.Bool.{Bool, true, false, cond, not, _&&_, _||_, false≢true}
 use mathlib.Core.List.{[], _∷_}
 use mathlib.Core.Option.{some}
@@ -99,6 +99,19 @@ module _ {F : Type 0} (p : ℕ → Bool) where
   unfolding keep
   keep-no [] h = refl
   keep-no (x ∷ m) h = rw (h (x .key) (has-first x m)) (keep-no m (λ k g. h k (has-more x m k g)))
+
+  -- rows all of whose keys pass a second test
+  pub keep-within : (q : ℕ → Bool) (m : Map F) → ((k : ℕ) → p k ≡ true → q k ≡ true) → keep p (keep q m) ≡ keep p m
+  unfolding keep
+  keep-within q [] h = refl
+  keep-within q (x ∷ m) h = go (p (x .key)) refl (q (x .key)) refl (keep-within q m h)
+    where
+      go : (b : Bool) → p (x .key) ≡ b → (c : Bool) → q (x .key) ≡ c → keep p (keep q m) ≡ keep p m →
+          keep p (cond c (x ∷ keep q m) (keep q m)) ≡ cond b (x ∷ keep p m) (keep p m)
+      go true e true f ih = rw e (ap (λ (n : Map F). x ∷ n) ih)
+      go true e false f ih = absurd (false≢true (sym f ∙ h (x .key) e))
+      go false e true f ih = rw e ih
+      go false e false f ih = ih
 
   -- a test of the rows whose keys pass, as one of every row
   pub kept-all : (q : Row F → Bool) (m : Map F) → all q (keep p m) ≡ all (λ x. not (p (x .key)) || q x) m

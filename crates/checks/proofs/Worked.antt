@@ -1,24 +1,28 @@
 -- A history over one case's real 662-bit key, computed: the answers that the rules give, and what stands afterwards.
-use Prim.Native.Nat.{ℕ}
+use Prim.Native.Nat.{ℕ, _+_}
 use Prim.Native.Char.{Char, code}
 use Prim.Native.String as string
 use mathlib.Core.Path.{_≡_, refl}
 use mathlib.Core.Bool.{false}
-use mathlib.Core.List.{List, [], _∷_, map}
-use lib.ListN.{replicate}
+use mathlib.Core.List.{List, [], _∷_, map, flatMap}
+use native.Mathlib.Omega.{arith}
+use lib.ListN.{length, replicate}
 use Rattle.laws.specs.Lists.{all, any, same, somePair, bytes}
 use Rattle.days.specs.DayNumbers.{firstOf, dayNumber, yearsTo}
 use Rattle.days.specs.Quarters.{firstDay, lastDay}
 use Rattle.model.specs.Map.{find, put, keep, putAll, delAll, anyIn, allIn, twice}
 use Rattle.model.specs.Checks.{first}
 use Rattle.model.specs.Machine.{run, answers}
-use Rattle.model.specs.Flow.{empty, machine}
+use Rattle.model.specs.Flow.{State, empty, machine}
+use Rattle.model.specs.Log.{sumOf, distinct, acceptedBy, eventsIn, eventsOut, casesCancelled, carriedOnce}
 use Rattle.rows.specs.Packing.{packs}
-use Rattle.home_care.specs.Row.{Key, Event, never, eventNumber}
+use Rattle.register.specs.Layout.{caseNamed}
+use Rattle.register.specs.Sound.{eventsOf}
+use Rattle.home_care.specs.Row.{Key, Event, never, eventNumber, siad}
 use Rattle.home_care.specs.Fits.{eventWith}
 use Rattle.home_care.specs.Record.{Head, Said, Record, padded, admission, events, eventNumbers}
 use Rattle.home_care.specs.Anomalies.{Context}
-use Rattle.checks.specs.Flow.{eventRows}
+use Rattle.checks.specs.Flow.{flow, eventRows}
 use Rattle.checks.specs.CheckOrder.{siadMachine}
 
 -- quarter 2 of 2018, and room for four rows
@@ -79,16 +83,56 @@ history =
     send "I" (conclusion 49 ∷ []) ∷
     send "I" (visit 62 1 ∷ []) ∷
     send "I" (visit 49 1 ∷ []) ∷
+    send "C" (suspension 12 13 ∷ []) ∷
+    case "C" "000" ∷
     case "C" "0000" ∷
-    send "C" (visit 10 1 ∷ suspension 12 13 ∷ conclusion 50 ∷ []) ∷
+    send "C" (visit 10 1 ∷ conclusion 50 ∷ []) ∷
+    case "C" "0000" ∷
+    case "I" "0000" ∷
+    send "V" (visit 10 2 ∷ []) ∷
+    send "I" (visit 10 1 ∷ []) ∷
     case "C" "0000" ∷
     []
 
+-- the case's cancellation takes its visit and its conclusion along; inserted again it comes back without them: they are inserted, not varied
 pub answered : answers (siadMachine context) empty history ≡
-    24 ∷ 13 ∷ 0 ∷ 14 ∷ 20 ∷ 0 ∷ 14 ∷ 15 ∷ 0 ∷ 0 ∷ 26 ∷ 23 ∷ 0 ∷ 28 ∷ 27 ∷ 10 ∷ 17 ∷ 16 ∷ 0 ∷ 0 ∷ []
+    24 ∷ 13 ∷ 0 ∷ 14 ∷ 20 ∷ 0 ∷ 14 ∷ 15 ∷ 0 ∷ 0 ∷ 26 ∷ 23 ∷ 0 ∷ 28 ∷ 27 ∷ 10 ∷ 17 ∷ 0 ∷ 13 ∷ 0 ∷ 24 ∷ 15 ∷ 0 ∷ 15 ∷ 0 ∷ 0 ∷ []
 unfolding answers machine first find put keep putAll delAll anyIn allIn twice eventRows eventNumbers all any same somePair packs yearsTo firstOf
 answered = refl
 
 pub back : run (siadMachine context) empty history ≡ empty
 unfolding run machine first find put keep putAll delAll anyIn allIn twice eventRows eventNumbers all any same somePair packs yearsTo firstOf
 back = refl
+
+-- ---- K2: "counted once for each case"
+
+-- two visits stand, and one file cancels their case, inserts it again, cancels it again
+abbrev before : State ℕ ℕ
+before = run (siadMachine context) empty (case "I" "0000" ∷ send "I" (visit 10 1 ∷ visit 11 1 ∷ []) ∷ [])
+
+abbrev file : List Record
+file = case "C" "0000" ∷ case "I" "0000" ∷ case "C" "0000" ∷ []
+
+abbrev accepted : List Record
+accepted = acceptedBy (siadMachine context) before file
+
+-- each record is accepted, and no event is left
+pub all-accepted : (length accepted ≡ 3) × (length (before .events) ≡ 2) × (run (siadMachine context) before file .events ≡ [])
+unfolding acceptedBy run machine first find put keep putAll delAll anyIn allIn twice eventRows eventNumbers all any same somePair packs yearsTo firstOf
+all-accepted = (refl, refl, refl)
+
+pub once : carriedOnce flow (caseNamed siad) (before .events) accepted ≡ 2
+unfolding sumOf distinct flatMap acceptedBy run machine first find put keep putAll delAll anyIn allIn twice eventRows eventNumbers all any same somePair packs yearsTo firstOf
+once = refl
+
+-- counted for each cancellation the total would be wrong
+pub each-time : sumOf (λ c. length (eventsOf siad c (before .events))) (flatMap (casesCancelled flow) accepted) ≡ 4
+unfolding sumOf flatMap acceptedBy run machine first find put keep putAll delAll anyIn allIn twice eventRows eventNumbers all any same somePair packs yearsTo firstOf
+each-time = refl
+
+pub not-each-time :
+    length (run (siadMachine context) before file .events)
+    + (sumOf (eventsOut flow) accepted + sumOf (λ c. length (eventsOf siad c (before .events))) (flatMap (casesCancelled flow) accepted))
+    ≡ length (before .events) + sumOf (eventsIn flow) accepted → ⊥
+unfolding sumOf flatMap acceptedBy run machine first find put keep putAll delAll anyIn allIn twice eventRows eventNumbers all any same somePair packs yearsTo firstOf
+not-each-time e = let z : _≡_ {A = ℕ} 4 2 = e in omega arith

@@ -7,7 +7,7 @@ use Rattle.model.specs.Flow.{State, machine}
 use Rattle.model.specs.Anomalies.{t14, t15, t17, t22}
 use Rattle.register.specs.Sound.{eventsOf}
 use Rattle.home_care.specs.Row.{keyNumber, siad, eventNumberIn}
-use Rattle.home_care.specs.Anomalies.{t23, t25, t26, t27, t28, Context, outOfQuarter, t11, t12, zeroKept, t10, t13, t20, t21, t16, t24}
+use Rattle.home_care.specs.Anomalies.{t23, t25, t26, t27, t28, Context, outOfQuarter, t11, t12, zeroKept, t10, t13, t20, t21, t24}
 use Rattle.home_care.specs.Record.{Head, Record, admission, events, eventNumbers}
 use Rattle.checks.specs.Flow.{flow, next}
 
@@ -23,7 +23,6 @@ checksWith then c (admission h a) =
     check 13 (λ s. zeroKept (a .case .prevalente)) ∷
     check 14 (t14 flow (admission h a)) ∷
     check 15 (t15 flow (admission h a)) ∷
-    check 16 (t16 h) ∷
     check 17 (t17 flow (c .room) (admission h a)) ∷
     []
 checksWith then c (events h es) =

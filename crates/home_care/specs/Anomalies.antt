@@ -9,12 +9,10 @@ use lib.ListN.{length, getD}
 use Rattle.laws.specs.Lists.{any, same, somePair, bytes}
 use Rattle.codes.specs.CodesAndCharacters.{revaluation, suspension, conclusion}
 use Rattle.days.specs.DayNumbers.{yearOf}
-use Rattle.home_care.specs.Row.{Key, Case, never, kindOf, dateOf, endOf, confermaOf, keyNumber, siad}
-use Rattle.home_care.specs.Record.{padded, Residence, Said, Head, events, typeOf}
+use Rattle.home_care.specs.Row.{Key, Case, never, kindOf, dateOf, endOf, confermaOf, keyNumber}
+use Rattle.home_care.specs.Record.{padded, Residence, Said, Head}
 use Rattle.model.specs.Map.{has}
-use Rattle.model.specs.Transmission.{isCancel}
 use Rattle.model.specs.Flow.{State}
-use Rattle.register.specs.Layout.{caseNamed}
 
 -- the declared quarter's first and last day, and the register's room
 pub record Context : Type 0 where
@@ -67,10 +65,6 @@ abbrev pub t13 : List Said → Bool
 t13 es = any zeroWritten es
 
 -- 14, 15 (and 17, 22): `t14`, `t15`, `t17`, `t22` in model/specs/Anomalies, of any flow
-
--- A16: "type C, and an event of the case stands"
-abbrev pub t16 : Head → State ℕ ℕ → Bool
-t16 h s = isCancel (typeOf (h .tipo)) && any (λ e. eqb (caseNamed siad (e .key)) (keyNumber (h .key))) (s .events)
 
 -- A20: "the record has no event"
 abbrev pub t20 : List Said → Bool

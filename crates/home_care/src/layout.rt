@@ -60,9 +60,7 @@ pub const CONFERMA_BITS: usize = 2;
 
 pub const EVENT_BITS: usize = 52;
 
-// An event's key: what it has after its case's, kind and date; the event's bits after that; no own key is so large.
-pub const EVENT_KEY: usize = 681;
-
+// An event's own key, what its key has after its case's: kind and date; the event's bits after that; no own key is so large.
 pub const OWN_KEY: usize = 19;
 
 pub const PAST_OWN: usize = 33;

@@ -41,7 +41,7 @@ module _ {S R X B : Type 0} (m : Machine S R) (entries : S → X → List R) (ca
 
 -- ---- one machine for the whole history
 
-entry-lawful : Lawful entryFlow entryChecks
+pub entry-lawful : Lawful entryFlow entryChecks
 entry-lawful =
     record {
       not14 = λ s e z. lawful (e .context) .not14 s (e .said) z;
@@ -82,15 +82,15 @@ module _ (n : ℕ) where
   pub history-sequences : Sequences entryFlow entryMachine (entriesFor n)
   history-sequences = sequences entryFlow entryChecks entry-lawful (entriesFor n)
 
-  abbrev Ok : Entry → Type 0
+  abbrev pub Ok : Entry → Type 0
   Ok e = Readable (e .said) × (e .context .room ≡ room siad n)
 
-  entry-kept : (s : State ℕ ℕ) (e : Entry) → Sound n s → Ok e → entryMachine .judge s e ≡ 0 → Sound n (entryMachine .act s e)
+  pub entry-kept : (s : State ℕ ℕ) (e : Entry) → Sound n s → Ok e → entryMachine .judge s e ≡ 0 → Sound n (entryMachine .act s e)
   unfolding machine
   entry-kept s e i w z = step-kept (e .context) n (w .1) s (e .said) i (w .0) z
 
   -- the records of a file that is taken are readable, and judged in the register's room
-  entries-ok : (s : State ℕ ℕ) (x : Call) → Every Ok (entriesFor n s x)
+  pub entries-ok : (s : State ℕ ℕ) (x : Call) → Every Ok (entriesFor n s x)
   entries-ok s x = go (outcome x (encode siad n s))
     where
       go : Outcome x (encode siad n s) → Every Ok (entriesFor n s x)

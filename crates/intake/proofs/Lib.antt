@@ -4,6 +4,7 @@ pub mod Files
 pub mod Sound
 pub mod History
 pub mod Shown
+pub mod Undone
 pub mod OnBytes
 pub mod Samples
 pub mod Excluded

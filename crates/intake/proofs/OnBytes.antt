@@ -2,7 +2,7 @@
 use Prim.Native.Nat.{ℕ, _≤_}
 use mathlib.Core.Path.{_≡_, refl, sym, ap, ap₂, _∙_, subst}
 use mathlib.Core.Logic.{_≢_}
-use mathlib.Core.Bool.{true, false≢true}
+use mathlib.Core.Bool.{true}
 use mathlib.Core.List.{List, [], _∷_, _++_, append-nil, map}
 use lib.ListN.{length, drop, replicate}
 use borrow.Author.Tests.{le-ltb, ne-eqb}
@@ -26,6 +26,7 @@ use Rattle.intake.proofs.Outcome.{taken-passed, sound-not-3}
 use Rattle.intake.proofs.SoundBytes.{state-long, state-back, state-sound}
 use Rattle.intake.proofs.History.{history-demand3, history-bytes, history-kept, taken-entries}
 use Rattle.intake.proofs.Shown.{case-says, event-says}
+use Rattle.intake.proofs.Undone.{none-carried}
 
 emptied-is : (reg : List ℕ) → 4 ≤ length reg → emptied reg .register ≡ replicate (length reg) 0
 unfolding emptied
@@ -118,7 +119,7 @@ module _ (reg : List ℕ) (long : 4 ≤ length reg) where
   undone-is : (xs ys : List Call) (p q : List Entry) (a b : Entry) → logOf n xs ≡ p ++ a ∷ b ∷ q → logOf n ys ≡ p ++ q → Undoes entryFlow a b →
       regAfter reg xs ≡ regAfter reg ys
   undone-is xs ys p q a b with without u =
-      bytes-are xs ∙ history-demand3 n .undone xs ys p q a b with without u (λ k e. absurd (false≢true e)) ∙ sym (bytes-are ys)
+      bytes-are xs ∙ history-demand3 n .undone xs ys p q a b with without u (none-carried n xs p q a b with u) ∙ sym (bytes-are ys)
 
   -- DEMAND 3, word for word
   pub on-bytes : OnBytes reg

@@ -1,28 +1,38 @@
 -- The samples as a history: demand 3's theorems have something to say. Between the insertion and its cancellation a record is discarded, and a file ends.
 use Prim.Native.Nat.{ℕ, _≤_}
+use Prim.Native.Char.{Char}
+use Prim.Native.String as string
 use mathlib.Core.Path.{_≡_, refl, ap, ap₂, _∙_}
+use mathlib.Core.Bool.{true}
 use mathlib.Core.List.{List, [], _∷_, _++_, append-assoc, map}
+use mathlib.Core.Option.{none}
 use lib.ListN.{length}
 use borrow.Author.Tests.{leb-true}
 use Rattle.days.specs.DayNumbers.{firstOf}
-use Rattle.model.specs.Map.{find}
-use Rattle.model.specs.Log.{atZeros}
+use Rattle.laws.specs.Lists.{any}
+use Rattle.model.specs.Map.{find, has}
+use Rattle.model.specs.Log.{LastIs, carriesAway, atZeros}
 use Rattle.model.specs.Flow.{State}
 use Rattle.rows.specs.Packing.{packs}
-use Rattle.home_care.specs.Row.{keyNumber, eventNumber, eventRow}
+use Rattle.register.specs.Layout.{rowIn}
+use Rattle.register.specs.State.{from, stateOf, rowsBytes, encode}
+use Rattle.home_care.specs.Row.{siad, keyNumber, eventNumber, eventRow}
 use Rattle.home_care.specs.Record.{Record}
-use Rattle.checks.specs.Flow.{caseRow}
+use Rattle.checks.specs.Flow.{caseRow, eventRows}
 use Rattle.intake.specs.FileAnswers.{Call, Submitted, contextOf, submitted}
 use Rattle.intake.specs.RecordsIn.{recordsIn}
-use Rattle.intake.specs.Histories.{Entry, entry, regAfter, logOf, CaseSays, EventSays}
+use Rattle.intake.specs.Histories.{Entry, entry, entryFlow, regAfter, logOf, CaseSays, EventSays}
 use Rattle.intake.proofs.OnBytes.{on-bytes}
-use Rattle.intake.proofs.Samples.{admissions, visits, cancellation, register, key, caseSaid, visit, send, second-gives, third-gives, second-records, third-records, after-first, after-second, both-stand}
+use Rattle.intake.proofs.Samples.{admissions, visits, cancellation, withdrawal, register, key, caseSaid, visit, admit, send, second-gives, third-gives, fourth-gives, second-records, third-records, fourth-records, after-first, after-second, after-fourth, both-stand}
 
 abbrev n : ℕ
 n = length register
 
 long : 4 ≤ n
 long = leb-true 4 n refl
+
+abbrev visitKey : ℕ
+visitKey = eventRow (keyNumber key) (eventNumber visit) .key
 
 -- what a call adds to the log, by its answer list and its records
 adds : (xs : List Call) (x : Call) (ns : List ℕ) (rs : List Record) → submitted x (regAfter register xs) .answer ≡ 0 →
@@ -61,6 +71,41 @@ undone =
     ∙ append-assoc (logOf n (admissions ∷ [])) (inserting ∷ []) (cancelling ∷ []))
     (record { inserts = refl; cancels = refl; cases = λ k. refl; events = λ k. refl })
 
+-- ---- the case cancelled while its events stand
+
+abbrev withdrawing : Char → string.String → Entry
+withdrawing tipo prevalente = entry (contextOf withdrawal n) (admit tipo prevalente)
+
+abbrev later : List Entry
+later = withdrawing "C" "0202" ∷ withdrawing "I" "0101" ∷ withdrawing "C" "0101" ∷ []
+
+log-fourth : logOf n (admissions ∷ visits ∷ withdrawal ∷ []) ≡ logOf n (admissions ∷ visits ∷ []) ++ later
+unfolding atZeros
+log-fourth =
+    let e = ap (submitted withdrawal) after-second ∙ fourth-gives in
+    adds (admissions ∷ visits ∷ []) withdrawal (0 ∷ 0 ∷ 0 ∷ 9 ∷ []) _ (ap (λ (r : Submitted). r .answer) e) (ap (λ (r : Submitted). r .answers) e)
+    fourth-records
+
+-- the last record with the visit's key inserted it, and a cancellation of its case came later: it doesn't stand
+pub visit-last : LastIs (λ e. has visitKey (entryFlow .eventRows e)) (logOf n (admissions ∷ visits ∷ withdrawal ∷ [])) inserting
+unfolding find any eventRows packs firstOf
+visit-last =
+    record {
+      before = logOf n (admissions ∷ []);
+      after = later;
+      list = log-fourth ∙ ap (λ (l : List Entry). l ++ later) log-second ∙ append-assoc (logOf n (admissions ∷ [])) (inserting ∷ []) later;
+      passes = refl;
+      none-after = refl;
+    }
+
+pub visit-carried : any (carriesAway entryFlow visitKey) later ≡ true
+unfolding any packs firstOf
+visit-carried = refl
+
+pub visit-gone : find visitKey (stateOf siad (regAfter register (admissions ∷ visits ∷ withdrawal ∷ [])) .events) ≡ none
+unfolding find rowsBytes encode rowIn from packs
+visit-gone = ap (λ (b : List ℕ). find visitKey (stateOf siad b .events)) after-fourth
+
 -- the case and the visit that stand show the fields of the records that were accepted
 abbrev caseFields : ℕ
 caseFields = caseRow key (caseSaid "0202") .val
@@ -70,9 +115,6 @@ unfolding find packs firstOf
 case-shown =
     on-bytes register long .case-fields (admissions ∷ visits ∷ []) (keyNumber key) caseFields
     (ap (λ (s : State ℕ ℕ). find (keyNumber key) (s .cases)) both-stand)
-
-abbrev visitKey : ℕ
-visitKey = eventRow (keyNumber key) (eventNumber visit) .key
 
 abbrev visitFields : ℕ
 visitFields = eventRow (keyNumber key) (eventNumber visit) .val

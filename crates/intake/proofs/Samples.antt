@@ -1,4 +1,5 @@
--- Three files computed from their bytes on: a Track 1 file with three records of one case, a Track 2 file with that case's events, and one that cancels them.
+-- Four files computed from their bytes on: a Track 1 file with three records of one case, a Track 2 file with that case's events, one that cancels them, and a
+-- Track 1 file that cancels the case while they stand.
 use Prim.Native.Nat.{ℕ}
 use Prim.Native.Char.{Char, code}
 use Prim.Native.String as string
@@ -26,7 +27,7 @@ use Rattle.model.specs.Map.{find, put, keep, putAll, delAll, anyIn, allIn, twic
 use Rattle.model.specs.Checks.{first}
 use Rattle.model.specs.Machine.{zeros, others, run, answers}
 use Rattle.model.specs.Log.{calls}
-use Rattle.model.specs.Flow.{State, machine}
+use Rattle.model.specs.Flow.{State, empty, machine}
 use Rattle.rows.specs.Packing.{packs}
 use Rattle.register.specs.Layout.{rowIn}
 use Rattle.register.specs.State.{from, stateOf, rowsBytes, encode}
@@ -34,7 +35,7 @@ use Rattle.register.specs.RoomAndEmptying.{emptied}
 use Rattle.register.specs.Sound.{ascending}
 use Rattle.home_care.specs.Row.{Key, Case, Event, siad, never, keyNumber, eventNumber, eventRow}
 use Rattle.home_care.specs.Fits.{caseWith, eventWith}
-use Rattle.home_care.specs.Record.{padded, Said, Record, events, eventNumbers}
+use Rattle.home_care.specs.Record.{padded, Said, Record, admission, events, eventNumbers}
 use Rattle.tracks.specs.RecordFields.{saidIn, recordOf}
 use Rattle.tracks.specs.TooMany.{tooMany}
 use Rattle.tracks.specs.EventElements.{wordingIn}
@@ -108,6 +109,10 @@ inserted = bytes "<FlsAssDom_2>" ++ (happened "I" two ++ (happened "I" [] ++ byt
 abbrev cancelled : List ℕ
 cancelled = bytes "<FlsAssDom_2>" ++ (happened "C" two ++ bytes "</FlsAssDom_2>")
 
+-- the case is cancelled, inserted again, and cancelled again
+abbrev withdrawn : List ℕ
+withdrawn = bytes "<FlsAssDom_1>" ++ (admitted "C" "0202" ++ (admitted "I" "0101" ++ (admitted "C" "0101" ++ bytes "</FlsAssDom_1>")))
+
 -- all of quarter 2 of 2018, with an answer list of four bytes 9
 abbrev pub admissions : Call
 admissions = callOf cases 1 2018 2 (replicate 4 9)
@@ -117,6 +122,9 @@ visits = callOf inserted 2 2018 2 (replicate 4 9)
 
 abbrev pub cancellation : Call
 cancellation = callOf cancelled 2 2018 2 (replicate 4 9)
+
+abbrev pub withdrawal : Call
+withdrawal = callOf withdrawn 1 2018 2 (replicate 4 9)
 
 -- a register with room for four rows, whatever it held
 abbrev pub register : List ℕ
@@ -138,6 +146,11 @@ visit = eventWith 1 (dayNumber 2018 5 5) never 3 2 0
 
 abbrev pub suspension : Event
 suspension = eventWith 2 (dayNumber 2018 5 10) (dayNumber 2018 5 12) 1 0 0
+
+abbrev pub admit : Char → string.String → Record
+admit tipo prevalente =
+    admission (record { tipo = code tipo; key = key })
+    (record { case = caseSaid prevalente; residence = record { region = bytes "999"; asl = bytes "999"; comune = bytes "999999"; stato = bytes "fr" } })
 
 abbrev pub send : Char → Record
 send tipo = events (record { tipo = code tipo; key = key }) (said visit ∷ said suspension ∷ [])
@@ -190,6 +203,16 @@ unfolding all any same turns loop decimalAfter runLength skipWs byte name value 
     zeros others rowIn from rowsBytes encode emptied calls ascending isSound submitted
 third-gives = refl
 
+-- the case cancelled while its events stand: accepted, and they go with it; inserted again it comes back without them; the last leaves nothing
+pub fourth-gives : submitted withdrawal (holding standing) ≡
+    record { answer = 0; number = 0; records = 3; accepted = 3; discarded = 0; register = holding empty; answers = 0 ∷ 0 ∷ 0 ∷ 9 ∷ [] }
+unfolding all any same turns loop decimalAfter runLength skipWs byte name value comment dashed declared attribute attributesStep attributes differ tag endTag
+    piece content element declares declaration miscStep misc document namedIn recordOf firstNamed valueIn saidIn wordingIn dayOf track1 track2
+    seek enough faultIn firstBad shapeOf fitsText isDate tooMany
+    somePair firstOf yearsTo find put keep putAll delAll anyIn allIn twice first run answers machine packs eventNumbers eventRows
+    zeros others rowIn from rowsBytes encode emptied calls ascending isSound submitted
+fourth-gives = refl
+
 -- the records of the second file and of the third
 pub second-records : recordsIn visits ≡ send "I" ∷ events (record { tipo = code "I"; key = key }) [] ∷ []
 unfolding all any same turns loop decimalAfter runLength skipWs byte name value comment dashed declared attribute attributesStep attributes differ tag endTag
@@ -202,6 +225,12 @@ unfolding all any same turns loop decimalAfter runLength skipWs byte name value 
     piece content element declares declaration miscStep misc document namedIn recordOf firstNamed valueIn saidIn wordingIn dayOf track1 track2
     firstOf packs
 third-records = refl
+
+pub fourth-records : recordsIn withdrawal ≡ admit "C" "0202" ∷ admit "I" "0101" ∷ admit "C" "0101" ∷ []
+unfolding all any same turns loop decimalAfter runLength skipWs byte name value comment dashed declared attribute attributesStep attributes differ tag endTag
+    piece content element declares declaration miscStep misc document namedIn recordOf firstNamed valueIn saidIn wordingIn dayOf track1 track2
+    firstOf packs
+fourth-records = refl
 
 -- what the first record alone leaves
 pub first-record : leftBy admissions begun 1 ≡ held "0101"
@@ -219,6 +248,10 @@ after-first = ap (λ (r : Submitted). r .register) first-gives
 pub after-second : regAfter register (admissions ∷ visits ∷ []) ≡ holding standing
 unfolding calls
 after-second = ap (λ (b : List ℕ). submitted visits b .register) after-first ∙ ap (λ (r : Submitted). r .register) second-gives
+
+pub after-fourth : regAfter register (admissions ∷ visits ∷ withdrawal ∷ []) ≡ holding empty
+unfolding calls
+after-fourth = ap (λ (b : List ℕ). submitted withdrawal b .register) after-second ∙ ap (λ (r : Submitted). r .register) fourth-gives
 
 -- the accepted events stand beside their case
 pub both-stand : stateOf siad (regAfter register (admissions ∷ visits ∷ [])) ≡ standing

@@ -7,16 +7,17 @@ use mathlib.Core.List.{List, [], _∷_, _++_, map}
 use mathlib.Core.Option.{Option, none, some}
 use lib.Dec.{eqb}
 use borrow.Author.Tests.{eqb-true, ne-eqb}
-use Rattle.model.specs.Map.{find}
+use Rattle.laws.specs.Lists.{any}
+use Rattle.model.specs.Map.{find, has}
 use Rattle.model.specs.Checks.{first}
 use Rattle.model.specs.Transmission.{isCancel}
-use Rattle.model.specs.Machine.{Machine, accepts, step, run}
-use Rattle.model.specs.Log.{LastIs, Shown, acceptedBy, takenAll, ofCase, ofEvent}
+use Rattle.model.specs.Machine.{run}
+use Rattle.model.specs.Log.{LastIs, Shown, EventStands, carriesAway, ofCase}
 use Rattle.model.specs.Flow.{State, empty, machine}
 use Rattle.model.proofs.MapLaws.{no-some}
 use Rattle.model.proofs.ChecksLaws.{clear}
-use Rattle.model.proofs.MachineLaws.{Every}
-use Rattle.model.proofs.Histories.{AllTaken, all-at, takenAll-all}
+use Rattle.model.proofs.MachineLaws.{Every, every-at}
+use Rattle.model.proofs.Histories.{AllTaken, all-at, takenAll-all, log-every}
 use Rattle.register.specs.Layout.{caseNamed}
 use Rattle.register.specs.State.{encode}
 use Rattle.home_care.specs.Row.{eventBits, keyNumber, siad, eventRow, keyIn, caseIn, eventIn, eventNumberIn}
@@ -37,33 +38,6 @@ use Rattle.intake.specs.RecordsIn.{recordsIn}
 use Rattle.intake.specs.Histories.{Entry, entry, entryFlow, entryMachine, entriesFor, logOf, CaseSays, EventSays}
 use Rattle.intake.proofs.Outcome.{Outcome, stopped, passed, outcome}
 use Rattle.intake.proofs.Sound.{all-well}
-
--- ---- what holds of every record that is sent holds of every one in the log
-
-module _ {S R : Type 0} (m : Machine S R) (P : R → Type 0) where
-  every-append : (a b : List R) → Every P a → Every P b → Every P (a ++ b)
-  every-append [] b h g = g
-  every-append (r ∷ a) b h g = (h .0, every-append a b (h .1) g)
-
-  every-at : (a : List R) (r : R) (b : List R) → Every P (a ++ r ∷ b) → P r
-  every-at [] r b h = h .0
-  every-at (x ∷ a) r b h = every-at a r b (h .1)
-
-  every-taken : (s : S) (rs : List R) → Every P rs → Every P (acceptedBy m s rs)
-  unfolding acceptedBy
-  every-taken s [] h = tt
-  every-taken s (r ∷ rs) h = go (accepts m s r) (acceptedBy m (step m s r) rs) (every-taken (step m s r) rs (h .1))
-    where
-      go : (b : Bool) (l : List R) → Every P l → Every P (cond b (r ∷ l) l)
-      go true l g = (h .0, g)
-      go false l g = g
-
-  every-log : {X : Type 0} (entries : S → X → List R) → ((s : S) (x : X) → Every P (entries s x)) → (s : S) (xs : List X) → Every P (takenAll m entries s xs)
-  unfolding takenAll
-  every-log entries o s [] = tt
-  every-log entries o s (x ∷ xs) =
-      every-append (acceptedBy m s (entries s x)) (takenAll m entries (run m s (entries s x)) xs)
-      (every-taken s (entries s x) (o s x)) (every-log entries o (run m s (entries s x)) xs)
 
 -- what is read of a file that is taken
 abbrev Read : Entry → Type 0
@@ -87,8 +61,8 @@ module _ (n : ℕ) where
   module _ (xs : List Call) (p : Entry → Bool) (e : Entry) (l : LastIs p (logOf n xs) e) where
     log-read : Read e
     log-read =
-        every-at entryMachine Read (l .before) e (l .after)
-        (subst (Every Read) (l .list) (every-log entryMachine Read (entriesFor n) entries-read empty xs))
+        every-at Read (l .before) e (l .after)
+        (subst (Every Read) (l .list) (log-every entryMachine Read (entriesFor n) entries-read empty xs))
 
     log-accepted : first (checksOf (e .context) (e .said)) (run entryMachine empty (l .before)) ≡ 0
     unfolding machine
@@ -162,15 +136,15 @@ module _ (n : ℕ) (xs : List Call) (k v : ℕ) where
           (λ p. absurd (no-some (p .1)))
           (here-or (eqb k (row .key)) (row .val) v none e)
 
-  pub event-says : Shown (entryFlow .kind) (λ e. find k (entryFlow .eventRows e)) (ofEvent entryFlow k) (logOf n xs) v → EventSays (logOf n xs) k v
+  pub event-says : EventStands entryFlow k (logOf n xs) v → EventSays (logOf n xs) k v
   unfolding find
-  event-says h = go (h .by .context) (h .by .said) (h .is-last) (h .keeps) (h .carries)
+  event-says h = go (h .by .context) (h .by .said) (h .is-last) (h .none-later) (h .keeps) (h .carries)
     where
-      go : (c : Context) (r : Record) → LastIs (ofEvent entryFlow k) (logOf n xs) (entry c r) → isCancel (flow .kind r) ≡ false →
-          find k (flow .eventRows r) ≡ some v → EventSays (logOf n xs) k v
-      go c (admission head said) l u e = absurd (no-some e)
-      go c (events head said) l u e =
-          let w = log-read n xs (ofEvent entryFlow k) (entry c (events head said)) l in
+      go : (c : Context) (r : Record) (l : LastIs (λ e. has k (entryFlow .eventRows e)) (logOf n xs) (entry c r)) →
+          any (carriesAway entryFlow k) (l .after) ≡ false → isCancel (flow .kind r) ≡ false → find k (flow .eventRows r) ≡ some v → EventSays (logOf n xs) k v
+      go c (admission head said) l later u e = absurd (no-some e)
+      go c (events head said) l later u e =
+          let w = log-read n xs (λ e. has k (entryFlow .eventRows e)) (entry c (events head said)) l in
           let own : ℕ = keyNumber (head .key) in
           let f = found own k v said e in
           let g = f .well (w .1) in
@@ -182,6 +156,7 @@ module _ (n : ℕ) (xs : List Call) (k v : ℕ) where
             head = head;
             said = said;
             is-last = l;
+            none-later = later;
             keeps = u;
             before = f .before;
             one = f .one;

@@ -8,6 +8,7 @@ use native.Mathlib.Omega.{arith}
 use lib.Dec.{eqb}
 use lib.ListN.{length}
 use borrow.Author.Tests.{eqb-true}
+use Rattle.laws.specs.Lists.{all}
 use Rattle.laws.proofs.Truth.{either}
 use Rattle.markup.specs.NamesAndValues.Read.{read}
 use Rattle.markup.specs.Elements.{Tree}
@@ -20,8 +21,11 @@ use Rattle.schemas.specs.Schemas.{schemaOf}
 use Rattle.model.specs.Machine.{Machine, run}
 use Rattle.model.specs.Flow as flows
 use Rattle.model.specs.Flow.{State}
+use Rattle.model.specs.Demands.{OneTrack}
+use Rattle.model.specs.Demands.OneTrack.{cases-only, events-only}
 use Rattle.model.proofs.MachineLaws.{Every, run-keeps-ok}
 use Rattle.rows.specs.Packing.{each, Fit}
+use Rattle.register.specs.Layout.{caseNamed}
 use Rattle.register.specs.RoomAndEmptying.{room}
 use Rattle.register.specs.State.{stateOf, encode}
 use Rattle.register.specs.Stored.{Stored}
@@ -34,9 +38,10 @@ use Rattle.tracks.specs.RecordFields.{recordOf}
 use Rattle.tracks.specs.WellRead.{WellRead}
 use Rattle.tracks.proofs.WellRead.{file-read-1, file-read-2}
 use Rattle.soundness.specs.Sound.{isSound}
+use Rattle.checks.specs.Flow.{flow}
 use Rattle.checks.specs.CheckOrder.{siadMachine}
 use Rattle.checks.specs.Readable.{Readable}
-use Rattle.checks.proofs.Accepted.{siad-discarded, siad-conserved}
+use Rattle.checks.proofs.Accepted.{siad-discarded, siad-conserved, along}
 use Rattle.checks.proofs.Valid.{Sound, sound-state}
 use Rattle.checks.proofs.Kept.{kept}
 use Rattle.checks.proofs.WellReadable.{readable}
@@ -74,6 +79,26 @@ all-well x t l n k d f =
 pub all-readable : (x : Call) (t : Tree) (l : List ℕ) (n : ℕ) → eqb (x .track) 1 || eqb (x .track) 2 ≡ true →
     document (x .file) ≡ read t l → shapeOf (schemaOf (x .track)) t ≡ fine n → Every Readable (recordsIn x)
 all-readable x t l n k d f = each-readable (recordsIn x) (all-well x t l n k d f)
+
+-- ---- all records of a file are of its track
+
+no-events : (ts : List Tree) → all (λ r. eqb (length (flow .eventRows r)) 0) (map (recordOf 1) ts) ≡ true
+unfolding all recordOf
+no-events [] = refl
+no-events (t ∷ ts) = no-events ts
+
+no-cases : (ts : List Tree) → all (λ r. eqb (length (flow .caseRows r)) 0) (map (recordOf 2) ts) ≡ true
+unfolding all recordOf
+no-cases [] = refl
+no-cases (t ∷ ts) = no-cases ts
+
+one-track : (x : Call) (t : Tree) (l : List ℕ) → eqb (x .track) 1 || eqb (x .track) 2 ≡ true → document (x .file) ≡ read t l → OneTrack flow (recordsIn x)
+one-track x t l k d =
+    rw d (⊎-elim (λ e. of 1 (eqb-true (x .track) 1 e) (cases-only (no-events (recordsOf track1 t))))
+    (λ e. of 2 (eqb-true (x .track) 2 e) (events-only (no-cases (recordsOf track2 t)))) (either (eqb (x .track) 1) (eqb (x .track) 2) k))
+  where
+    of : (j : ℕ) → x .track ≡ j → OneTrack flow (entriesOf j t) → OneTrack flow (entriesOf (x .track) t)
+    of j e h = subst (λ (i : ℕ). OneTrack flow (entriesOf i t)) (sym e) h
 
 -- ---- a run of readable records keeps a state sound
 
@@ -151,5 +176,10 @@ module _ (x : Call) (reg : List ℕ) (f : Fit (each 8 reg)) where
         cases =
             omega (arith, cases-held siad laid-siad (call .register) t a, cases-held siad laid-siad reg s b, c .cases);
         events =
-            omega (arith, events-held siad laid-siad (call .register) t a, events-held siad laid-siad reg s b, c .plain (λ r k. refl));
+            omega (
+              arith,
+              events-held siad laid-siad (call .register) t a,
+              events-held siad laid-siad reg s b,
+              c .once (caseNamed siad) along (one-track x (p .tree) (p .left) (p .track-is) (p .markup)),
+            );
       }

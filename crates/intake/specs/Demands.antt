@@ -8,11 +8,11 @@ use lib.ListN.{length, take, drop, getD}
 use Rattle.model.specs.Map.{Once}
 use Rattle.model.specs.Checks.{NoneHolds, FirstIs}
 use Rattle.model.specs.Log as machine
-use Rattle.model.specs.Log.{sumOf, casesIn, casesOut, eventsIn, eventsOut}
+use Rattle.model.specs.Log.{sumOf, casesIn, casesOut, eventsIn, eventsOut, carriedOnce}
 use Rattle.model.specs.Machine.{run}
 use Rattle.model.specs.Flow.{State}
 use Rattle.model.specs.Demands.{Counted}
-use Rattle.register.specs.Layout.{casesHeld, eventsHeld}
+use Rattle.register.specs.Layout.{caseNamed, casesHeld, eventsHeld}
 use Rattle.register.specs.State.{stateOf, encode}
 use Rattle.home_care.specs.Row.{siad}
 use Rattle.home_care.specs.Record.{Record}
@@ -56,6 +56,8 @@ module _ (x : Call) (reg : List ℕ) where
     pub zero : (d : Record) (i : ℕ) → i < r .records → getD (r .answers) i 0 ≡ 0 ↔ NoneHolds (checksOf context (getD (recordsIn x) i d)) (leftBy i)
     pub other : (d : Record) (i n : ℕ) → i < r .records → n ≢ 0 →
         getD (r .answers) i 0 ≡ n ↔ FirstIs (checksOf context (getD (recordsIn x) i d)) (leftBy i) n
+    -- J2: "16 is no longer given": no record's answer is 16
+    pub never-16 : (i : ℕ) → i < r .records → getD (r .answers) i 0 ≢ 16
     -- G6: "later bytes stay"
     pub long : length (r .answers) ≡ length (x .answerList)
     pub later : drop (r .records) (r .answers) ≡ drop (r .records) (x .answerList)
@@ -70,7 +72,9 @@ module _ (x : Call) (reg : List ℕ) where
     -- F3: "The register is not sound" can't come of it
     pub sound : isSound (r .register) ≡ true
 
-  -- K1: "cases after = cases before + accepted insertions of Track 1 - its accepted cancellations"; K2 likewise by event keys; by the register's counts
+  -- K1: "cases after = cases before + accepted insertions of Track 1 - its accepted cancellations"; K2 likewise by event keys, with "those carried away,
+  -- counted once for each case that is cancelled, from the register before the call"; by the register's counts
   pub record Conserved (r : Submitted) : Type 0 where
     pub cases : casesHeld (r .register) + sumOf (casesOut flow) acceptedIn ≡ casesHeld reg + sumOf (casesIn flow) acceptedIn
-    pub events : eventsHeld (r .register) + sumOf (eventsOut flow) acceptedIn ≡ eventsHeld reg + sumOf (eventsIn flow) acceptedIn
+    pub events : eventsHeld (r .register) + (sumOf (eventsOut flow) acceptedIn + carriedOnce flow (caseNamed siad) (stateOf siad reg .events) acceptedIn) ≡
+        eventsHeld reg + sumOf (eventsIn flow) acceptedIn

@@ -7,11 +7,12 @@ use mathlib.Core.List.{List, [], _∷_, _++_, map}
 use mathlib.Core.Option.{some}
 use lib.Dec.{eqb}
 use lib.ListN.{length}
-use Rattle.model.specs.Map.{find, Once}
+use Rattle.laws.specs.Lists.{any}
+use Rattle.model.specs.Map.{find, has, Once}
 use Rattle.model.specs.Checks.{Check}
 use Rattle.model.specs.Machine.{Machine}
 use Rattle.model.specs.Transmission.{isCancel}
-use Rattle.model.specs.Log.{LastIs, atZeros, calls, Shown, ofCase, ofEvent, Undoes}
+use Rattle.model.specs.Log.{LastIs, atZeros, calls, Shown, EventStands, carriesAway, ofCase, Undoes}
 use Rattle.model.specs.Flow.{State, Good, Flow, machine}
 use Rattle.model.specs.Demands.{after, log}
 use Rattle.register.specs.Layout.{caseNamed}
@@ -79,12 +80,14 @@ pub record CaseSays (log : List Entry) (k v : ℕ) : Type 0 where
   pub key : keyIn k ≡ head .key
   pub fields : caseIn v ≡ said .case
 
--- an event's row, read back, has the case's key and the fields of one of that record's events
+-- an event's row, read back, has the case's key and the fields of one of the events of the last accepted record with its key, after which no accepted
+-- cancellation of its case came
 pub record EventSays (log : List Entry) (k v : ℕ) : Type 0 where
   pub context : Context
   pub head : Head
   pub said : List Said
-  pub is-last : LastIs (ofEvent entryFlow k) log (entry context (events head said))
+  pub is-last : LastIs (λ e. has k (entryFlow .eventRows e)) log (entry context (events head said))
+  pub none-later : any (carriesAway entryFlow k) (is-last .after) ≡ false
   pub keeps : isCancel (typeOf (head .tipo)) ≡ false
   pub before : List Said
   pub one : Said
@@ -106,13 +109,13 @@ pub record OnBytes (reg : List ℕ) : Type 0 where
       logOf (length reg) xs ++ map (entry (contextOf x (length reg))) (atZeros (submitted x (regAfter reg xs) .answers) (recordsIn x))
   pub log-refused : (xs : List Call) (x : Call) → submitted x (regAfter reg xs) .answer ≢ 0 → logOf (length reg) (xs ++ x ∷ []) ≡ logOf (length reg) xs
   pub bytes : (xs : List Call) → regAfter reg xs ≡ encode siad (length reg) (stateAfter (length reg) xs)
-  -- a case, an event stands exactly when the last accepted record that speaks of it inserts or varies it, and shows that record's fields; nothing else stands
+  -- K6: a case or an event stands exactly when "the last accepted record with its key inserts or varies it and, of an event, no accepted cancellation of its
+  -- case came later; it shows that record's fields; nothing else stands"
   pub case-stands : (xs : List Call) (k v : ℕ) →
       find k (stateOf siad (regAfter reg xs) .cases) ≡ some v ↔
       Shown (entryFlow .kind) (λ e. find k (entryFlow .caseRows e)) (ofCase entryFlow k) (logOf (length reg) xs) v
   pub event-stands : (xs : List Call) (k v : ℕ) →
-      find k (stateOf siad (regAfter reg xs) .events) ≡ some v ↔
-      Shown (entryFlow .kind) (λ e. find k (entryFlow .eventRows e)) (ofEvent entryFlow k) (logOf (length reg) xs) v
+      find k (stateOf siad (regAfter reg xs) .events) ≡ some v ↔ EventStands entryFlow k (logOf (length reg) xs) v
   pub case-fields : (xs : List Call) (k v : ℕ) → find k (stateOf siad (regAfter reg xs) .cases) ≡ some v → CaseSays (logOf (length reg) xs) k v
   pub event-fields : (xs : List Call) (k v : ℕ) → find k (stateOf siad (regAfter reg xs) .events) ≡ some v → EventSays (logOf (length reg) xs) k v
   -- in ascending order, each key once

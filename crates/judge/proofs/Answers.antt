@@ -1,4 +1,4 @@
--- The answer of the lists of checks is that of the chains that the code asks (specs/Chain).
+-- The answer of the lists of checks is that of the chains that the code asks (specs/Asked).
 use Prim.Native.Nat.{ℕ, suc, _+_}
 use mathlib.Core.Path.{_≡_, refl, sym, ap, _∙_}
 use mathlib.Core.Bool.{Bool, true, false, cond, not, _&&_, _||_, and-true, or-false}
@@ -6,13 +6,11 @@ use mathlib.Core.List.{List, [], _∷_, map}
 use native.Mathlib.Omega.{arith}
 use lib.Dec.{eqb, ltb}
 use lib.ListN.{length}
-use borrow.Author.Tests.{ne-eqb}
 use Rattle.laws.specs.Lists.{all, any}
-use Rattle.model.specs.Map.{Map, has, keep, anyIn, allIn}
+use Rattle.model.specs.Map.{has, anyIn, allIn}
 use Rattle.model.specs.Checks.{first}
 use Rattle.model.specs.Transmission.{isInsert, isCancel}
 use Rattle.model.specs.Flow.{State}
-use Rattle.register.specs.Layout.{caseNamed}
 use Rattle.register.specs.Sound.{eventsOf}
 use Rattle.home_care.specs.Row.{keyNumber, siad, eventNumberIn}
 use Rattle.home_care.specs.Anomalies.{zeroWritten, badConferma, Context, outOfQuarter, t11, t12, zeroKept}
@@ -69,26 +67,13 @@ module _ (n : ℕ) (s : State ℕ ℕ) (v : Sound n s) (c : Context) (h : Head) 
 
 -- ---- Track 1
 
--- some event of a case stands just where it has not none
-any-some : (p : ℕ → Bool) (m : Map ℕ) → any (λ e. p (e .key)) m ≡ not (eqb (length (map eventNumberIn (keep p m))) 0)
-unfolding any keep
-any-some p [] = refl
-any-some p (x ∷ m) = go (p (x .key)) (any-some p m)
-  where
-    go : (b : Bool) → any (λ e. p (e .key)) m ≡ not (eqb (length (map eventNumberIn (keep p m))) 0) →
-        b || any (λ e. p (e .key)) m ≡ not (eqb (length (map eventNumberIn (cond b (x ∷ keep p m) (keep p m)))) 0)
-    go true ih = ap not (sym (ne-eqb (suc (length (map eventNumberIn (keep p m)))) 0 (λ e. omega arith)))
-    go false ih = ih
-
 pub answer-admission : (s : State ℕ ℕ) (c : Context) (h : Head) (a : Admission) →
     first (checksOf c (admission h a)) s
-    ≡ answerAdmission c (isInsert (typeOf (h .tipo))) (isCancel (typeOf (h .tipo))) (outOfQuarter c (h .key .taken)) (t11 (h .key) (a .case)) (t12 (a .residence))
+    ≡ answerAdmission c (isInsert (typeOf (h .tipo))) (outOfQuarter c (h .key .taken)) (t11 (h .key) (a .case)) (t12 (a .residence))
     (zeroKept (a .case .prevalente)) (has (keyNumber (h .key)) (s .cases)) (length (s .cases) + length (s .events))
-    (length (map eventNumberIn (eventsOf siad (keyNumber (h .key)) (s .events))))
 unfolding first answerAdmission any all anyIn allIn
 answer-admission s c h a =
-    let k : ℕ = keyNumber (h .key) in
-    let stands : Bool = has k (s .cases) in
+    let stands : Bool = has (keyNumber (h .key)) (s .cases) in
     let inserts : Bool = isInsert (typeOf (h .tipo)) in
     asks {a = outOfQuarter c (h .key .taken)} refl 10 (λ _.
     asks {a = t11 (h .key) (a .case)} refl 11 (λ _.
@@ -96,5 +81,4 @@ answer-admission s c h a =
     asks {a = zeroKept (a .case .prevalente)} refl 13 (λ _.
     asks (ap (λ (b : Bool). inserts && b) (or-false (stands || false) ∙ or-false stands)) 14 (λ _.
     asks (ap (λ (b : Bool). not inserts && not b) (and-true (stands && true) ∙ and-true stands)) 15 (λ _.
-    asks (ap (λ (b : Bool). isCancel (typeOf (h .tipo)) && b) (any-some (λ j. eqb (caseNamed siad j) k) (s .events))) 16 (λ _.
-    asks {a = inserts && ltb (c .room) (length (s .cases) + length (s .events) + 1)} refl 17 (λ _. refl))))))))
+    asks {a = inserts && ltb (c .room) (length (s .cases) + length (s .events) + 1)} refl 17 (λ _. refl)))))))

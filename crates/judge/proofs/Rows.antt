@@ -5,7 +5,6 @@ use mathlib.Core.Bool.{Bool, true, false, _||_, or-false, or-true, or-assoc, tru
 use mathlib.Core.List.{List, [], _∷_, _++_, map}
 use native.Mathlib.Omega.{arith}
 use lib.Dec.{eqb}
-use lib.ListN.{length}
 use borrow.Author.Tests.{ne-eqb, eq-eqb}
 use Rattle.laws.specs.Lists.{any, somePair}
 use Rattle.laws.proofs.Order.{Tri, below, equal, above, tri}
@@ -15,7 +14,7 @@ use Rattle.model.specs.Map.{Row, Map}
 use Rattle.register.specs.Layout.{eventRest, rowIn}
 use Rattle.register.specs.State.{from, split, eventsFrom}
 use Rattle.register.specs.Search.{Rises, Placed}
-use Rattle.register.proofs.From.{from-length, from-cut}
+use Rattle.register.proofs.From.{from-cut}
 use Rattle.register.proofs.Walks.{from-next, from-none, from-every}
 use Rattle.home_care.specs.Row.{siad, kindOf, eventNumberIn, eventKeyOf, dayBits}
 use Rattle.judge.specs.ByNumber.{keyAmong}
@@ -126,8 +125,3 @@ kind-rows reg lo hi kind a e p q =
       after = λ settled k h g.
           ne-eqb (kindOf (eventAt reg k)) kind (λ w. omega (arith, q .over (climb-rises reg lo hi (settled .climbs) a (p .low)) k h g));
     }
-
--- as many events as rows
-pub rows-length : (reg : List ℕ) (lo hi : ℕ) (m : Map ℕ) → m ≡ eventsFrom siad reg lo (hi - lo) → length (map eventNumberIn m) ≡ hi - lo
-rows-length reg lo hi m e =
-    ap (λ (l : Map ℕ). length (map eventNumberIn l)) e ∙ ap length (rows reg lo hi) ∙ from-length (eventAt reg) lo (hi - lo)

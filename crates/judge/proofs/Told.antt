@@ -1,4 +1,4 @@
--- What the code holds of a record, put for the record: its checks against a sound register in the words of specs/Chain.
+-- What the code holds of a record, put for the record: its checks against a sound register in the words of specs/Asked.
 use Prim.Native.Nat.{ℕ, _+_}
 use mathlib.Core.Path.{_≡_, _∙_}
 use mathlib.Core.Bool.{Bool, true}
@@ -58,7 +58,7 @@ module _ (reg : List ℕ) (c : Context) (tipo taken : ℕ) (probe : List ℕ) wh
   -- Track 1
   abbrev pub admissionAnswer : (out early abroad zero : Bool) → ℕ
   admissionAnswer out early abroad zero =
-      answerAdmission c (isInsert (typeOf tipo)) (isCancel (typeOf tipo)) out early abroad zero stands rows (length standing)
+      answerAdmission c (isInsert (typeOf tipo)) out early abroad zero stands rows
 
   pub admission-told : (birth : ℕ) (main region asl comune stato : List ℕ) (r : ℕ) (h : Head) (a : Admission) → IsOf probe tipo taken h → IsAdmitted birth main region asl comune stato a →
       r ≡ admissionAnswer (outOfQuarter c taken) (t11 (h .key) (a .case)) (t12 (record { region = region; asl = asl; comune = comune; stato = stato })) (zeroKept main) →

@@ -2,7 +2,7 @@
 use Prim.Native.Nat.{ℕ, _+_}
 use mathlib.Core.Bool.{Bool, cond, not, _&&_}
 use mathlib.Core.List.{List}
-use lib.Dec.{eqb, ltb}
+use lib.Dec.{ltb}
 use lib.ListN.{length}
 use Rattle.laws.specs.Lists.{any}
 use Rattle.home_care.specs.Anomalies.{Context}
@@ -21,14 +21,13 @@ module _ (c : Context) (inserts cancels : Bool) (taken : ℕ) (es : List ℕ) wh
       (cond (not cancels && fresh (clash 28) es standing) 28
       (cond (inserts && ltb (c .room) (rows + length es)) 17 0))))))
 
--- Track 1: 10, 11, 12, 13 as told, then 14 to 17
-unfoldable pub answerAdmission : Context → (inserts cancels : Bool) → (out early abroad zero : Bool) → (stands : Bool) → (rows events : ℕ) → ℕ
-answerAdmission c inserts cancels out early abroad zero stands rows events =
+-- Track 1: 10, 11, 12, 13 as told, then 14, 15, 17
+unfoldable pub answerAdmission : Context → (inserts : Bool) → (out early abroad zero : Bool) → (stands : Bool) → (rows : ℕ) → ℕ
+answerAdmission c inserts out early abroad zero stands rows =
     cond out 10
     (cond early 11
     (cond abroad 12
     (cond zero 13
     (cond (inserts && stands) 14
     (cond (not inserts && not stands) 15
-    (cond (cancels && not (eqb events 0)) 16
-    (cond (inserts && ltb (c .room) (rows + 1)) 17 0)))))))
+    (cond (inserts && ltb (c .room) (rows + 1)) 17 0))))))

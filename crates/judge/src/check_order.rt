@@ -123,13 +123,12 @@ pub fn judge_events(
     against_standing(reg, l, tipo, taken, evs, span.lo, span.hi, rows)
 }
 
-// Against what stands of the case: 14 to 17.
+// Against what stands of the case: 14, 15, 17.
 fn against_case(reg: &[u8], l: Limits, tipo: u8, probe: &[u8]) -> u8
     requires { ⌜ (4 ≤ length (now reg)) × (rowAt siad (casesHeld (now reg) + eventsHeld (now reg)) ≤ length (now reg)) × (length (now probe) ≡ rowBytes) ⌝ }
     ensures { λ r. ⌜ (isSound (now (reg .entry)) ≡ true
-        → r ≡ answerAdmission (contextIn l) (isInsert (typeOf tipo)) (isCancel (typeOf tipo)) false false false false
-        (has (probeKey rowBytes keyBits (now (probe .entry))) (stateOf siad (now (reg .entry)) .cases)) (casesHeld (now (reg .entry)) + eventsHeld (now (reg .entry)))
-        (length (map eventNumberIn (eventsOf siad (probeKey rowBytes keyBits (now (probe .entry))) (stateOf siad (now (reg .entry)) .events))))) ⌝ }
+        → r ≡ answerAdmission (contextIn l) (isInsert (typeOf tipo)) false false false false
+        (has (probeKey rowBytes keyBits (now (probe .entry))) (stateOf siad (now (reg .entry)) .cases)) (casesHeld (now (reg .entry)) + eventsHeld (now (reg .entry)))) ⌝ }
 {
     let new = inserts(tipo);
     let stands = case_stands(reg, probe);
@@ -138,10 +137,6 @@ fn against_case(reg: &[u8], l: Limits, tipo: u8, probe: &[u8]) -> u8
     }
     if !new & !stands {
         return 15;
-    }
-    let span = case_events(reg, probe);
-    if cancels(tipo) & (span.lo != span.hi) {
-        return 16;
     }
     if new & (l.room < rows_held(reg) + 1) {
         return 17;

@@ -1,6 +1,7 @@
 -- The demands, proved of every lawful flow.
 use Prim.Native.Nat.{ℕ}
 use mathlib.Core.Path.{_≡_, sym, ap, _∙_}
+use mathlib.Core.Logic.{_↔_}
 use mathlib.Core.Bool.{true}
 use mathlib.Core.List.{List}
 use native.Mathlib.Omega.{arith}
@@ -9,11 +10,15 @@ use Rattle.model.proofs.ChecksLaws.{accepted-iff, refused-iff}
 use Rattle.model.proofs.MachineLaws.{run-append, answers-append, answers-each, answers-length, taken-zeros, records, step-left}
 use Rattle.model.proofs.Histories.{taken-run, files-run, files-taken}
 use Rattle.model.proofs.FlowHistories as flow
+use Rattle.model.proofs.Carried.{once, in-words}
 use Rattle.model.specs.Checks.{Check, first, numbered}
 use Rattle.model.specs.Machine.{Machine, run}
 use Rattle.model.specs.Flow.{State, Good, Flow, machine}
 use Rattle.model.specs.Log.{Lawful}
-use Rattle.model.specs.Demands.{Counted, Demand2, Discarded, OneOrMany, Demand3, Conserved, after}
+use Rattle.model.specs.Demands.{Counted, Demand2, Discarded, OneOrMany, Demand3, Conserved, after, log}
+
+both : {A B C : Type 0} → A ↔ B → B ↔ C → A ↔ C
+both f g = (λ a. g .0 (f .0 a), λ c. f .1 (g .1 c))
 
 -- a list of answers has one count of each
 pub counted-once : {ns : List ℕ} {r a d r′ a′ d′ : ℕ} → Counted ns r a d → Counted ns r′ a′ d′ → (r ≡ r′) × (a ≡ a′) × (d ≡ d′)
@@ -49,7 +54,7 @@ module _ {F E R X B : Type 0} (f : Flow F E R) (checks : R → List (Check (Stat
   demand3 =
       record {
         case-stands = flow.case-stands f checks entries;
-        event-stands = flow.event-stands f checks entries;
+        event-stands = λ xs k v. both (flow.event-stands f checks entries xs k v) (in-words f k (log f (machine f checks) entries xs) v);
         ascending = flow.ascending f checks entries;
         cases-once = λ xs. asc-once 0 (after f (machine f checks) entries xs .cases) (flow.ascending f checks entries xs .0);
         events-once = λ xs. asc-once 0 (after f (machine f checks) entries xs .events) (flow.ascending f checks entries xs .1);
@@ -63,5 +68,5 @@ module _ {F E R : Type 0} (f : Flow F E R) (checks : R → List (Check (State F 
       record {
         cases = flow.cases-conserved f checks w s g rs;
         events = flow.events-conserved f checks w s g rs;
-        plain = flow.events-plain f checks w s g rs;
+        once = once f checks w s g rs;
       }

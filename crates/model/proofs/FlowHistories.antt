@@ -11,7 +11,7 @@ use lib.ListN.{length}
 use Rattle.laws.proofs.Truth.{cond-both, or-left, or-right}
 use Rattle.model.proofs.MapLaws.{find-nil, not-in, no-some, keep-none}
 use Rattle.model.proofs.Lists.{lastOf-iff}
-use Rattle.model.proofs.MachineLaws.{run-append, step-taken, run-keeps, runAll-keeps, conserved, total-taken, total-same}
+use Rattle.model.proofs.MachineLaws.{Every, run-append, step-taken, run-keeps, runAll-keeps, conserved, total-taken, total-same}
 use Rattle.model.proofs.Histories.{resolve, runAll-look, AllTaken, all-back, takenAll-all, log-run}
 use Rattle.model.proofs.FlowLaws.{same, case-found, event-found, good-applied, cases-size, events-size, fits-applied}
 use Rattle.model.specs.Map.{isSome, find, has, Asc, delAll, anyIn}
@@ -92,19 +92,23 @@ module _ {F E R : Type 0} (f : Flow F E R) (checks : R → List (Check (State F 
         law s r g e =
             events-size (f .caseRows r) (f .eventRows r) (f .away r) s g (f .kind r) (l .not14 s r e) (l .not15 s r e) (l .not22 s r e)
 
-    pub events-plain : ((r : R) (k : ℕ) → f .away r k ≡ false) →
+    pub events-plain : Every (λ r. (k : ℕ) → f .away r k ≡ false) rs →
         length (run (machine f checks) s rs .events) + sumOf (eventsOut f) (acceptedBy (machine f checks) s rs) ≡
         length (s .events) + sumOf (eventsIn f) (acceptedBy (machine f checks) s rs)
     events-plain w =
         let t : total (machine f checks) (λ s r. eventsOut f r + carried f s r) s rs ≡ sumOf (eventsOut f) (acceptedBy (machine f checks) s rs)
-        = total-same (machine f checks) (λ s r. eventsOut f r + carried f s r) (λ _ r. eventsOut f r) none-carried s rs ∙
+        = total-same (machine f checks) (λ s r. eventsOut f r + carried f s r) (λ _ r. eventsOut f r) s rs (each rs w) ∙
         total-taken (machine f checks) (eventsOut f) s rs in
         omega (arith, events-conserved)
       where
-        none-carried : (s : State F E) (r : R) → eventsOut f r + carried f s r ≡ eventsOut f r
-        none-carried s r =
-            let e : carried f s r ≡ 0 = simp (keep-none (f .away r) (delAll (f .eventRows r) (s .events)) (w r)) (sym (cond-both (isCancel (f .kind r)) 0)) in
+        none-carried : (s : State F E) (r : R) → ((k : ℕ) → f .away r k ≡ false) → eventsOut f r + carried f s r ≡ eventsOut f r
+        none-carried s r h =
+            let e : carried f s r ≡ 0 = simp (keep-none (f .away r) (delAll (f .eventRows r) (s .events)) h) (sym (cond-both (isCancel (f .kind r)) 0)) in
             omega arith
+
+        each : (rs : List R) → Every (λ r. (k : ℕ) → f .away r k ≡ false) rs → Every (λ r. (s : State F E) → eventsOut f r + carried f s r ≡ eventsOut f r) rs
+        each [] h = tt
+        each (r ∷ rs) h = (λ s. none-carried s r (h .0), each rs (h .1))
 
   -- V2: cases and events "are together at most R", always
   module _ (l : Lawful f checks) (room : ℕ) (not17 : (s : State F E) (r : R) → first (checks r) s ≡ 0 → t17 f room r s ≡ false) where

@@ -7,7 +7,7 @@ use mathlib.Core.Option.{Option, none, some}
 use lib.Dec.{eqb}
 use borrow.Author.Tests.{eqb-true}
 use Rattle.model.proofs.Lists.{lastOf-append}
-use Rattle.model.proofs.MachineLaws.{run-append, taken-append}
+use Rattle.model.proofs.MachineLaws.{Every, every-append, run-append, taken-append, taken-every}
 use Rattle.model.specs.Map.{orElse}
 use Rattle.model.specs.Machine.{Machine, accepts, step, run}
 use Rattle.model.specs.Log.{lastOf, acceptedBy, runAll, takenAll}
@@ -118,6 +118,15 @@ module _ {S R : Type 0} (m : Machine S R) where
       all-append s (acceptedBy m s (entries s x)) (takenAll m entries (run m s (entries s x)) xs)
       (taken-all s (entries s x))
       (rw (taken-run s (entries s x)) (takenAll-all entries (run m s (entries s x)) xs))
+
+  -- what holds of every record that is sent holds of every one in the log
+  pub log-every : (P : R → Type 0) {X : Type 0} (entries : S → X → List R) → ((s : S) (x : X) → Every P (entries s x)) →
+      (s : S) (xs : List X) → Every P (takenAll m entries s xs)
+  unfolding takenAll
+  log-every P entries o s [] = tt
+  log-every P entries o s (x ∷ xs) =
+      every-append P (acceptedBy m s (entries s x)) (takenAll m entries (run m s (entries s x)) xs)
+      (taken-every m P s (entries s x) (o s x)) (log-every P entries o (run m s (entries s x)) xs)
 
   -- what a history leaves, its accepted records alone leave
   pub log-run : {X : Type 0} (entries : S → X → List R) (s : S) (xs : List X) → run m s (takenAll m entries s xs) ≡ runAll m entries s xs

@@ -8,6 +8,7 @@ pub mod Histories
 pub mod Simulation
 pub mod FlowLaws
 pub mod FlowHistories
+pub mod Carried
 pub mod TransmissionLaws
 pub mod Demands
 pub mod Toy

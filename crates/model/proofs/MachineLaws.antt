@@ -11,6 +11,28 @@ use borrow.Author.Tests.{eqb-true, ne-eqb}
 use Rattle.model.specs.Machine.{Machine, zeros, others, accepts, step, run, answers}
 use Rattle.model.specs.Log.{sumOf, atZeros, acceptedBy, total, runAll}
 
+-- ---- what holds of every record of a list
+abbrev pub Every : {R : Type 0} → (R → Type 0) → List R → Type 0
+Every P [] = Unit {0}
+Every P (r ∷ rs) = P r × Every P rs
+
+module _ {R : Type 0} (P : R → Type 0) where
+  pub every-append : (a b : List R) → Every P a → Every P b → Every P (a ++ b)
+  every-append [] b h g = g
+  every-append (r ∷ a) b h g = (h .0, every-append a b (h .1) g)
+
+  pub every-front : (a b : List R) → Every P (a ++ b) → Every P a
+  every-front [] b h = tt
+  every-front (r ∷ a) b h = (h .0, every-front a b (h .1))
+
+  pub every-at : (a : List R) (r : R) (b : List R) → Every P (a ++ r ∷ b) → P r
+  every-at [] r b h = h .0
+  every-at (x ∷ a) r b h = every-at a r b (h .1)
+
+  pub every-map : (Q : R → Type 0) → ((r : R) → P r → Q r) → (l : List R) → Every P l → Every Q l
+  every-map Q f [] h = tt
+  every-map Q f (r ∷ l) h = (f r (h .0), every-map Q f l (h .1))
+
 pub zeros-others : (ns : List ℕ) → zeros ns + others ns ≡ length ns
 unfolding zeros others
 zeros-others [] = refl
@@ -138,16 +160,22 @@ module _ {S R : Type 0} (m : Machine S R) where
       go false ih = omega arith
 
   -- sums of numbers that agree
-  pub total-same : (g h : S → R → ℕ) → ((s : S) (r : R) → g s r ≡ h s r) → (s : S) (rs : List R) → total m g s rs ≡ total m h s rs
+  pub total-same : (g h : S → R → ℕ) (s : S) (rs : List R) → Every (λ r. (s : S) → g s r ≡ h s r) rs → total m g s rs ≡ total m h s rs
   unfolding total
-  total-same g h e s [] = refl
-  total-same g h e s (r ∷ rs) = simp (e s r, total-same g h e (step m s r) rs)
+  total-same g h s [] e = refl
+  total-same g h s (r ∷ rs) e = simp (e .0 s, total-same g h (step m s r) rs (e .1))
+
+  -- what holds of every record holds of the accepted ones
+  pub taken-every : (P : R → Type 0) (s : S) (rs : List R) → Every P rs → Every P (acceptedBy m s rs)
+  unfolding acceptedBy
+  taken-every P s [] h = tt
+  taken-every P s (r ∷ rs) h = go (accepts m s r) (taken-every P (step m s r) rs (h .1))
+    where
+      go : (b : Bool) → Every P (acceptedBy m (step m s r) rs) → Every P (cond b (r ∷ acceptedBy m (step m s r) rs) (acceptedBy m (step m s r) rs))
+      go true ih = (h .0, ih)
+      go false ih = ih
 
 -- ---- an invariant that only records with a property keep
-abbrev pub Every : {R : Type 0} → (R → Type 0) → List R → Type 0
-Every P [] = Unit {0}
-Every P (r ∷ rs) = P r × Every P rs
-
 module _ {S R : Type 0} (m : Machine S R) (Inv : S → Type 0) (Ok : R → Type 0)
     (keeps : (s : S) (r : R) → Inv s → Ok r → m .judge s r ≡ 0 → Inv (m .act s r)) where
   pub run-keeps-ok : (s : S) (rs : List R) → Inv s → Every Ok rs → Inv (run m s rs)

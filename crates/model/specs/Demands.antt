@@ -5,11 +5,13 @@ use mathlib.Core.Logic.{_↔_, _≢_}
 use mathlib.Core.Bool.{true, false, _||_}
 use mathlib.Core.List.{List, [], _∷_, _++_, flatMap}
 use mathlib.Core.Option.{none, some}
+use lib.Dec.{eqb}
 use lib.ListN.{length, getD, take}
+use Rattle.laws.specs.Lists.{all}
 use Rattle.model.specs.Map.{find, has, Once}
 use Rattle.model.specs.Checks.{Check, NoneHolds, FirstIs}
 use Rattle.model.specs.Machine.{Machine, zeros, others, run, answers}
-use Rattle.model.specs.Log.{sumOf, acceptedBy, total, runAll, takenAll, Shown, ofCase, ofEvent, caseSent, eventSent, Undoes, casesIn, casesOut, eventsIn, eventsOut, carried}
+use Rattle.model.specs.Log.{sumOf, acceptedBy, total, runAll, takenAll, Shown, EventStands, ofCase, caseSent, eventSent, Undoes, casesIn, casesOut, eventsIn, eventsOut, carried, carriedOnce}
 use Rattle.model.specs.Transmission.{isInsert, admitted, standing}
 use Rattle.model.specs.Flow.{State, empty, Good, Flow}
 use Rattle.model.specs.Anomalies.{t14, t15}
@@ -57,11 +59,11 @@ module _ {F E R X : Type 0} (f : Flow F E R) (m : Machine (State F E) R) (entrie
 
   -- Demand 3
   pub record Demand3 {B : Type 0} (encode : State F E → B) : Type 0 where
-    -- a case, an event stands exactly when the last accepted record that speaks of it inserts or varies it, and shows that record's fields
+    -- K6: a case or an event stands exactly when "the last accepted record with its key inserts or varies it and, of an event, no accepted cancellation of its
+    -- case came later; it shows that record's fields"
     pub case-stands : (xs : List X) (k : ℕ) (v : F) →
         find k (after xs .cases) ≡ some v ↔ Shown (f .kind) (λ r. find k (f .caseRows r)) (ofCase f k) (log xs) v
-    pub event-stands : (xs : List X) (k : ℕ) (v : E) →
-        find k (after xs .events) ≡ some v ↔ Shown (f .kind) (λ r. find k (f .eventRows r)) (ofEvent f k) (log xs) v
+    pub event-stands : (xs : List X) (k : ℕ) (v : E) → find k (after xs .events) ≡ some v ↔ EventStands f k (log xs) v
     -- in ascending order, each key once
     pub ascending : (xs : List X) → Good (after xs)
     pub cases-once : (xs : List X) → Once (after xs .cases)
@@ -88,11 +90,18 @@ module _ {F E R X : Type 0} (f : Flow F E R) (m : Machine (State F E) R) (entrie
     -- no accepted record is one that the table refuses after the accepted ones before it
     pub by-table : (xs : List X) (a : List R) (r : R) (b : List R) → log xs ≡ a ++ r ∷ b → Refused f r a → ⊥
 
+-- a file of one track: none of its records has events' rows, or none has cases' rows
+pub data OneTrack {F E R : Type 0} (f : Flow F E R) (rs : List R) : Type 0 where
+  cases-only : all (λ r. eqb (length (f .eventRows r)) 0) rs ≡ true → OneTrack f rs
+  events-only : all (λ r. eqb (length (f .caseRows r)) 0) rs ≡ true → OneTrack f rs
+
 -- K1 and K2, of each file: "cases after = cases before + accepted insertions of Track 1 - its accepted cancellations", events likewise
 pub record Conserved {F E R : Type 0} (f : Flow F E R) (m : Machine (State F E) R) (s : State F E) (rs : List R) : Type 0 where
   pub cases : length (run m s rs .cases) + sumOf (casesOut f) (acceptedBy m s rs) ≡ length (s .cases) + sumOf (casesIn f) (acceptedBy m s rs)
+  -- those carried away counted record by record, of the state that each met
   pub events : length (run m s rs .events) + total m (λ s r. eventsOut f r + carried f s r) s rs ≡
       length (s .events) + sumOf (eventsIn f) (acceptedBy m s rs)
-  -- where nothing is carried away
-  pub plain : ((r : R) (k : ℕ) → f .away r k ≡ false) →
-      length (run m s rs .events) + sumOf (eventsOut f) (acceptedBy m s rs) ≡ length (s .events) + sumOf (eventsIn f) (acceptedBy m s rs)
+  -- and, where a cancellation takes along the events of the cases that it names, once for each case, of the state before the file
+  pub once : (own : ℕ → ℕ) → ((r : R) (k : ℕ) → f .away r k ≡ has (own k) (f .caseRows r)) → OneTrack f rs →
+      length (run m s rs .events) + (sumOf (eventsOut f) (acceptedBy m s rs) + carriedOnce f own (s .events) (acceptedBy m s rs)) ≡
+      length (s .events) + sumOf (eventsIn f) (acceptedBy m s rs)

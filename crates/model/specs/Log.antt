@@ -3,12 +3,12 @@
 use Prim.Native.Nat.{ℕ, _+_}
 use mathlib.Core.Path.{_≡_}
 use mathlib.Core.Bool.{Bool, true, false, cond, _&&_, _||_}
-use mathlib.Core.List.{List, [], _∷_, _++_}
+use mathlib.Core.List.{List, [], _∷_, _++_, map, flatMap}
 use mathlib.Core.Option.{Option, none, some}
 use lib.Dec.{eqb}
 use lib.ListN.{length}
 use Rattle.laws.specs.Lists.{any}
-use Rattle.model.specs.Map.{orElse, find, has, keep, delAll}
+use Rattle.model.specs.Map.{Map, orElse, find, has, keep, delAll}
 use Rattle.model.specs.Checks.{Check, first}
 use Rattle.model.specs.Machine.{Machine, accepts, step, run}
 use Rattle.model.specs.Transmission.{Kind, insert, vary, cancel, isInsert, isCancel, Sent, nothing, last}
@@ -32,6 +32,11 @@ pub record LastIs {R : Type 0} (p : R → Bool) (l : List R) (r : R) : Type 0 wh
 unfoldable pub sumOf : {R : Type 0} → (R → ℕ) → List R → ℕ
 sumOf g [] = 0
 sumOf g (r ∷ rs) = g r + sumOf g rs
+
+-- each number of a list once
+unfoldable pub distinct : List ℕ → List ℕ
+distinct [] = []
+distinct (c ∷ cs) = cond (any (eqb c) cs) (distinct cs) (c ∷ distinct cs)
 
 -- J1: "0 is acceptance": of a file's records, in their order, those whose byte in an answer list is 0
 unfoldable pub atZeros : {R : Type 0} → List ℕ → List R → List R
@@ -84,12 +89,24 @@ sent kind none = nothing
 sent kind (some r) = last (kind r)
 
 module _ {F E R : Type 0} (f : Flow F E R) where
+  -- W3: "and one of Track 1 all events of its case": an accepted record takes the event k along
+  abbrev pub carriesAway : ℕ → R → Bool
+  carriesAway k r = isCancel (f .kind r) && f .away r k
+
   -- an accepted record speaks of the case k, of the event k
   abbrev pub ofCase : ℕ → R → Bool
   ofCase k r = has k (f .caseRows r)
 
   abbrev pub ofEvent : ℕ → R → Bool
-  ofEvent k r = has k (f .eventRows r) || (isCancel (f .kind r) && f .away r k)
+  ofEvent k r = has k (f .eventRows r) || carriesAway k r
+
+  -- K6: "the last accepted record with its key inserts or varies it and, of an event, no accepted cancellation of its case came later"
+  pub record EventStands (k : ℕ) (log : List R) (v : E) : Type 0 where
+    pub by : R
+    pub is-last : LastIs (λ r. has k (f .eventRows r)) log by
+    pub keeps : isCancel (f .kind by) ≡ false
+    pub carries : find k (f .eventRows by) ≡ some v
+    pub none-later : any (carriesAway k) (is-last .after) ≡ false
 
   -- what it then shows
   abbrev pub caseShown : ℕ → R → Option F
@@ -131,6 +148,14 @@ module _ {F E R : Type 0} (f : Flow F E R) where
   abbrev pub eventsOut : R → ℕ
   eventsOut r = cond (isCancel (f .kind r)) (length (f .eventRows r)) 0
 
-  -- events that a cancellation carries away
+  -- the cases that it cancels
+  abbrev pub casesCancelled : R → List ℕ
+  casesCancelled r = cond (isCancel (f .kind r)) (map (λ x. x .key) (f .caseRows r)) []
+
+  -- K2: "those carried away, counted once for each case that is cancelled, from the register before the call": `own k` is the case of the event k
+  abbrev pub carriedOnce : (ℕ → ℕ) → Map E → List R → ℕ
+  carriedOnce own before log = sumOf (λ c. length (keep (λ k. eqb (own k) c) before)) (distinct (flatMap casesCancelled log))
+
+  -- the events that a cancellation carries away, of the state that it meets
   abbrev pub carried : State F E → R → ℕ
   carried s r = cond (isCancel (f .kind r)) (length (keep (f .away r) (delAll (f .eventRows r) (s .events)))) 0

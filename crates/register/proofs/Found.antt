@@ -1,7 +1,7 @@
 -- What a search over the bytes says of the state.
 use Prim.Native.Nat.{ℕ, zero, suc, _+_, _-_, _/_, _^_, _≤_, _<_}
 use mathlib.Core.Path.{_≡_, refl, sym, ap, ap₂, subst, _∙_}
-use mathlib.Core.Bool.{Bool, true, false, cond, _&&_}
+use mathlib.Core.Bool.{Bool, true, false, cond, not, _&&_}
 use mathlib.Core.List.{List, [], _∷_, _++_, append-nil}
 use native.Mathlib.Omega.{arith}
 use lib.Dec.{ltb, eqb}
@@ -99,26 +99,46 @@ module _ (l : Layout) (lay : Laid l) (reg : List ℕ) (s : State ℕ ℕ) (h : S
       let k : row p .key ≤ row q .key = let z = keys-rise l lay events reg s h p q a b c in let x = own p in let y = own q in omega arith in
       rw (case-at p, case-at q) (shr-mono (l .eventKey - l .caseKey) k)
 
-  -- the range found is the case's events
-  pub range-events : (v a e : ℕ) → Ranged (keyAt (l .bytes) (l .caseKey) reg) v lo hi a e → keep (λ k. eqb (caseNamed l k) v) (s .events) ≡ eventsFrom l reg a (e - a)
-  range-events v a e r =
-      let p : ℕ → Bool = λ k. eqb (caseNamed l k) v in
-      let n : hi - lo ≡ length (s .events) = omega arith in
-      ap (keep p)
-      (sym (events-back l lay reg s h) ∙ ap (from row lo) (sym n) ∙ from-cut row lo a hi (r .low) (omega (arith, r .mid, r .high))
-      ∙ ap (λ (m : Map ℕ). from row lo (a - lo) ++ m) (from-cut row a e hi (r .mid) (r .high)))
-      ∙ keep-append p (from row lo (a - lo)) (from row a (e - a) ++ from row e (hi - e))
-      ∙ ap₂ (λ (x y : Map ℕ). x ++ y) (drop-from p row lo (a - lo) before) (keep-append p (from row a (e - a)) (from row e (hi - e)))
-      ∙ ap₂ (λ (x y : Map ℕ). x ++ y) (keep-from p row a (e - a) inside) (drop-from p row e (hi - e) after)
-      ∙ append-nil (from row a (e - a))
-    where
-      before : (j : ℕ) → lo ≤ j → j < lo + (a - lo) → eqb (caseNamed l (row j .key)) v ≡ false
-      before j x y =
-          ne-eqb (caseNamed l (row j .key)) v (λ z. let k = r .before cases-rise j x (omega (arith, r .low)) in omega (arith, case-at j))
+  module _ (v a e : ℕ) (r : Ranged (keyAt (l .bytes) (l .caseKey) reg) v lo hi a e) where
+    -- the events, cut where the range begins and where it ends
+    pub events-cut : s .events ≡ from row lo (a - lo) ++ (from row a (e - a) ++ from row e (hi - e))
+    events-cut =
+        let n : hi - lo ≡ length (s .events) = omega arith in
+        sym (events-back l lay reg s h) ∙ ap (from row lo) (sym n) ∙ from-cut row lo a hi (r .low) (omega (arith, r .mid, r .high))
+        ∙ ap (λ (m : Map ℕ). from row lo (a - lo) ++ m) (from-cut row a e hi (r .mid) (r .high))
 
-      inside : (j : ℕ) → a ≤ j → j < a + (e - a) → eqb (caseNamed l (row j .key)) v ≡ true
-      inside j x y = eq-eqb (caseNamed l (row j .key)) v (sym (case-at j) ∙ r .inside cases-rise j x (omega (arith, r .mid)))
+    -- the rows of the three parts that pass a test
+    keep-cut : (p : ℕ → Bool) → keep p (s .events) ≡ keep p (from row lo (a - lo)) ++ (keep p (from row a (e - a)) ++ keep p (from row e (hi - e)))
+    keep-cut p =
+        ap (keep p) events-cut ∙ keep-append p (from row lo (a - lo)) (from row a (e - a) ++ from row e (hi - e))
+        ∙ ap (λ (m : Map ℕ). keep p (from row lo (a - lo)) ++ m) (keep-append p (from row a (e - a)) (from row e (hi - e)))
 
-      after : (j : ℕ) → e ≤ j → j < e + (hi - e) → eqb (caseNamed l (row j .key)) v ≡ false
-      after j x y =
-          ne-eqb (caseNamed l (row j .key)) v (λ z. let k = r .after cases-rise j x (omega (arith, r .high)) in omega (arith, case-at j))
+    abbrev own : ℕ → Bool
+    own k = eqb (caseNamed l k) v
+
+    before : (j : ℕ) → lo ≤ j → j < lo + (a - lo) → own (row j .key) ≡ false
+    before j x y =
+        ne-eqb (caseNamed l (row j .key)) v (λ z. let k = r .before cases-rise j x (omega (arith, r .low)) in omega (arith, case-at j))
+
+    inside : (j : ℕ) → a ≤ j → j < a + (e - a) → own (row j .key) ≡ true
+    inside j x y = eq-eqb (caseNamed l (row j .key)) v (sym (case-at j) ∙ r .inside cases-rise j x (omega (arith, r .mid)))
+
+    after : (j : ℕ) → e ≤ j → j < e + (hi - e) → own (row j .key) ≡ false
+    after j x y =
+        ne-eqb (caseNamed l (row j .key)) v (λ z. let k = r .after cases-rise j x (omega (arith, r .high)) in omega (arith, case-at j))
+
+    -- the range found is the case's events
+    pub range-events : keep (λ k. eqb (caseNamed l k) v) (s .events) ≡ eventsFrom l reg a (e - a)
+    range-events =
+        keep-cut own
+        ∙ ap₂ (λ (x y : Map ℕ). x ++ (keep own (from row a (e - a)) ++ y)) (drop-from own row lo (a - lo) before) (drop-from own row e (hi - e) after)
+        ∙ append-nil (keep own (from row a (e - a)))
+        ∙ keep-from own row a (e - a) inside
+
+    -- and what stands around it the others'
+    pub range-others : keep (λ k. not (eqb (caseNamed l k) v)) (s .events) ≡ from row lo (a - lo) ++ from row e (hi - e)
+    range-others =
+        let other : ℕ → Bool = λ k. not (own k) in
+        keep-cut other
+        ∙ ap (λ (x : Map ℕ). keep other (from row lo (a - lo)) ++ (x ++ keep other (from row e (hi - e)))) (drop-from other row a (e - a) (λ j x y. ap not (inside j x y)))
+        ∙ ap₂ (λ (x y : Map ℕ). x ++ y) (keep-from other row lo (a - lo) (λ j x y. ap not (before j x y))) (keep-from other row e (hi - e) (λ j x y. ap not (after j x y)))

@@ -1,6 +1,6 @@
 -- A gap among a register's rows that grows by the row in front of it, and is closed by the rows behind it.
 use Prim.Native.Nat.{ℕ, _+_, _-_, _*_, _≤_, _<_}
-use mathlib.Core.Path.{_≡_, refl, sym, ap, ap₂, _∙_}
+use mathlib.Core.Path.{_≡_, refl, sym, ap, _∙_}
 use mathlib.Core.List.{List, [], _++_, append-assoc}
 use native.Mathlib.Nat.{mul-le-mul-left}
 use native.Mathlib.Omega.{arith}
@@ -10,11 +10,11 @@ use Rattle.model.specs.Flow.{State}
 use Rattle.register.specs.Layout.{Layout}
 use Rattle.register.specs.State.{used}
 use Rattle.register.specs.Gap.{Gap, bytesAt}
-use Rattle.register.specs.Moves.{onPart, closedUp, removed, withCount}
+use Rattle.register.specs.Moves.{removed, removedRows, withCount}
 use Rattle.register.specs.Search.{keyAt}
 use Rattle.register.specs.Stored.{Stored}
 use Rattle.register.proofs.Gaps.{count-row, row-front, before-gap}
-use Rattle.register.proofs.Seams.{on-seam, zeros-split}
+use Rattle.register.proofs.Seams.{closes-part, zeros-split}
 use Rattle.register.proofs.SoundLaws.{past-rows}
 
 -- of no row, anywhere among the rows
@@ -76,18 +76,11 @@ module _ (w r j n : ℕ) (a b : List ℕ) (h : r < n) (g : Gap w (r + 1) j n a b
   with-row = g .whole ∙ ap (λ (l : List ℕ). l ++ (g .rows ++ rest)) apart ∙ append-assoc x row (g .rows ++ rest)
 
   without-row : removed w r n a ≡ x ++ (g .rows ++ (replicate w 0 ++ rest))
-  unfolding closedUp
   without-row =
-      let p : List ℕ = row ++ g .rows in
-      let m : w * (r + 1) ≤ w * n = mul-le-mul-left w (le-of h) in
-      let lp : length p ≡ 4 + w * n - (4 + w * r) = length-append row (g .rows) ∙ omega (arith, lr, g .front-long, g .rows-long) in
-      ap (removed w r n) (with-row ∙ ap (λ (l : List ℕ). x ++ l) (sym (append-assoc row (g .rows) rest)))
-      ∙ on-seam x p rest (4 + w * r) (4 + w * n - (4 + w * r)) lx lp (closedUp w)
-      ∙ ap (λ (l : List ℕ). x ++ ((l ++ replicate w 0) ++ rest)) (drop-at row (g .rows) w lr)
-      ∙ ap (λ (l : List ℕ). x ++ l) (append-assoc (g .rows) (replicate w 0) rest)
-    where
-      le-of : r < n → r + 1 ≤ n
-      le-of q = omega arith
+      let q : r + 1 ≤ n = omega arith in
+      let m : w * (r + 1) ≤ w * n = mul-le-mul-left w q in
+      ap (removed w r n) with-row
+      ∙ closes-part x row (g .rows) rest w (4 + w * r) (4 + w * n - (4 + w * r)) lx lr (omega (arith, g .front-long, g .rows-long))
 
   -- it is taken in: the register without the gap has it no more
   pub gap-took : Gap w r (j + 1) (n - 1) (removed w r n a) b
@@ -155,22 +148,18 @@ zeros-front x y z e =
 
 -- where zeros stand behind its rows, the register without the gap is there
 pub gap-closed : (w i j m n z : ℕ) (a b : List ℕ) → Gap w i j m a b → n ≡ m + j → drop (4 + w * m) a ≡ replicate z 0 →
-    onPart (closedUp (w * j)) (4 + w * i) (4 + w * n - (4 + w * i)) b ≡ a
-unfolding closedUp
+    removedRows w i j n b ≡ a
 gap-closed w i j m n z a b g e d =
-    let p : List ℕ = g .hole ++ g .rows in
     let s : 4 + w * n ≡ 4 + w * (m + j) = ap (λ (k : ℕ). 4 + w * k) e in
-    let lp : length p ≡ 4 + w * n - (4 + w * i) = length-append (g .hole) (g .rows) ∙ omega (arith, g .front-long, g .rows-long, g .hole-long) in
-    let c : b ≡ g .front ++ (p ++ g .back) = g .opened ∙ ap (λ (l : List ℕ). g .front ++ l) (sym (append-assoc (g .hole) (g .rows) (g .back))) in
     let lf : length (g .front ++ g .rows) ≡ 4 + w * m = length-append (g .front) (g .rows) ∙ g .rows-long in
     let t : g .lost ++ g .back ≡ replicate z 0
     = sym (drop-at (g .front ++ g .rows) (g .lost ++ g .back) (4 + w * m) lf)
     ∙ ap (drop (4 + w * m)) (append-assoc (g .front) (g .rows) (g .lost ++ g .back) ∙ sym (g .whole)) ∙ d in
     let o : replicate (w * j) 0 ≡ g .lost = ap (λ (k : ℕ). replicate k 0) (sym (g .lost-long)) ∙ sym (zeros-front (g .lost) (g .back) z t) in
-    ap (onPart (closedUp (w * j)) (4 + w * i) (4 + w * n - (4 + w * i))) c
-    ∙ on-seam (g .front) p (g .back) (4 + w * i) (4 + w * n - (4 + w * i)) (g .front-long) lp (closedUp (w * j))
-    ∙ ap₂ (λ (l k : List ℕ). g .front ++ ((l ++ k) ++ g .back)) (drop-at (g .hole) (g .rows) (w * j) (g .hole-long)) o
-    ∙ ap (λ (l : List ℕ). g .front ++ l) (append-assoc (g .rows) (g .lost) (g .back))
+    ap (removedRows w i j n) (g .opened)
+    ∙ closes-part (g .front) (g .hole) (g .rows) (g .back) (w * j) (4 + w * i) (4 + w * n - (4 + w * i)) (g .front-long) (g .hole-long)
+    (omega (arith, g .front-long, g .rows-long))
+    ∙ ap (λ (l : List ℕ). g .front ++ (g .rows ++ (l ++ g .back))) o
     ∙ sym (g .whole)
 
 -- and zeros stand behind a state's rows

@@ -20,3 +20,4 @@ pub mod Gaps
 pub mod NewRow
 pub mod GapRows
 pub mod GoneRow
+pub mod GoneCase

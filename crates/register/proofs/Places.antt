@@ -1,6 +1,6 @@
 -- The rows of a group at their places in the bytes, and the group cut where a search found a key's place.
 use Prim.Native.Nat.{ℕ, zero, suc, _+_, _-_, _*_, _/_, _^_, _≤_, _<_}
-use mathlib.Core.Path.{_≡_, refl, sym, ap, subst, _∙_}
+use mathlib.Core.Path.{_≡_, refl, sym, ap, ap₂, subst, _∙_}
 use mathlib.Core.Bool.{true, false, _&&_}
 use mathlib.Core.List.{List, [], _∷_, _++_}
 use native.Mathlib.Omega.{arith}
@@ -12,9 +12,9 @@ use borrow.Author.Tests.{ltb-true, eqb-true, eqb-false, lt-ltb, eq-eqb, ne-eqb}
 use Rattle.laws.proofs.Truth.{and-left, and-right}
 use Rattle.laws.proofs.Order.{Tri, tri}
 use Rattle.laws.proofs.Order.Tri.{below, equal, above}
-use Rattle.model.specs.Map.{Row, Map, Asc}
+use Rattle.model.specs.Map.{Row, Map, Asc, del}
 use Rattle.model.specs.Flow.{State}
-use Rattle.model.proofs.MapPlace.{AllBelow, all-below, cut-asc}
+use Rattle.model.proofs.MapPlace.{AllBelow, all-below, cut-asc, del-out}
 use Rattle.register.specs.Layout.{Layout, rowIn}
 use Rattle.register.specs.State.{keyBy}
 use Rattle.register.specs.Stored.{Laid, Fits, Stored, Group, cases, events, rowsOf, keyBitsOf, restOf, spareOf, splitOf}
@@ -160,6 +160,12 @@ pub record Within (m : Map ℕ) (v c : ℕ) : Type 0 where
   pub below : AllBelow v us
   pub is : row .key ≡ v
   pub above : Asc (suc (row .key)) vs
+
+-- what is left without that row
+pub within-out : {m : Map ℕ} {v c : ℕ} (p : Within m v c) → del v m ≡ p .us ++ p .vs
+within-out p =
+    ap₂ (λ (k : ℕ) (x : Map ℕ). del k x) (sym (p .is)) (p .whole)
+    ∙ del-out (p .us) (p .row) (p .vs) (subst (λ (k : ℕ). AllBelow k (p .us)) (sym (p .is)) (p .below)) (p .above)
 
 module _ (l : Layout) (lay : Laid l) (g : Group) (reg : List ℕ) (s : State ℕ ℕ) (h : Stored l reg s) (v hi i : ℕ)
     (eh : hi ≡ startOf g s + length (rowsOf g s)) (pl : Placed (keys l lay g reg s h) v (startOf g s) hi i) where

@@ -39,6 +39,10 @@ unfolding Fits
 fits-right g l [] b p = p
 fits-right g l (x ∷ a) b p = fits-right g l a b (p .1)
 
+-- without the rows between
+pub fits-out : (g : Group) (l : Layout) (a m b : Map ℕ) → Fits g l (a ++ (m ++ b)) → Fits g l (a ++ b)
+fits-out g l a m b p = fits-append g l a b (fits-left g l a (m ++ b) p) (fits-right g l m b (fits-right g l a (m ++ b) p))
+
 module _ (l : Layout) where
   pub bytes-append : (w : ℕ) (a b : Map ℕ) → rowsBytes l w (a ++ b) ≡ rowsBytes l w a ++ rowsBytes l w b
   unfolding rowsBytes

@@ -31,16 +31,18 @@ zeros-split k z h =
     let e : z ≡ k + (z - k) = omega arith in
     ap (λ (n : ℕ). replicate {A = ℕ} n 0) e ∙ sym (replicate-append-replicate {A = ℕ} k (z - k) 0)
 
+-- w bytes go from between x and y, and zeros come in behind y
+module _ (x row y t : List ℕ) (w a k : ℕ) (ex : length x ≡ a) (er : length row ≡ w) (ek : length y + w ≡ k) where
+  pub closes-part : onPart (closedUp w) a k (x ++ (row ++ (y ++ t))) ≡ x ++ (y ++ (replicate w 0 ++ t))
+  unfolding closedUp
+  closes-part =
+      ap (λ (l : List ℕ). onPart (closedUp w) a k (x ++ l)) (sym (append-assoc row y t))
+      ∙ on-seam x (row ++ y) t a k ex (length-append row y ∙ omega arith) (closedUp w)
+      ∙ ap (λ (l : List ℕ). x ++ ((l ++ replicate w 0) ++ t)) (drop-at row y w er)
+      ∙ ap (λ (l : List ℕ). x ++ l) (append-assoc y (replicate w 0) t)
+
 -- a row comes in between x and y, and goes from there; behind y stand zeros
 module _ (x row y : List ℕ) (w a k z : ℕ) (ex : length x ≡ a) (er : length row ≡ w) (ek : length y + w ≡ k) (h : w ≤ z) where
-  zeros-apart : x ++ (y ++ replicate z 0) ≡ x ++ ((y ++ replicate w 0) ++ replicate (z - w) 0)
-  zeros-apart =
-      ap (λ (l : List ℕ). x ++ l)
-      (ap (λ (l : List ℕ). y ++ l) (zeros-split w z h) ∙ sym (append-assoc y (replicate w 0) (replicate (z - w) 0)))
-
-  row-apart : x ++ (row ++ (y ++ replicate (z - w) 0)) ≡ x ++ ((row ++ y) ++ replicate (z - w) 0)
-  row-apart = ap (λ (l : List ℕ). x ++ l) (sym (append-assoc row y (replicate (z - w) 0)))
-
   pub opens : onPart (openedBy row) a k (x ++ (y ++ replicate z 0)) ≡ x ++ (row ++ (y ++ replicate (z - w) 0))
   unfolding openedBy
   opens =
@@ -48,19 +50,14 @@ module _ (x row y : List ℕ) (w a k z : ℕ) (ex : length x ≡ a) (er : length
       let lp : length p ≡ length y + w = length-append y (replicate w 0) ∙ ap (λ (n : ℕ). length y + n) (length-replicate {A = ℕ} w 0) in
       let lk : length p ≡ k = lp ∙ ek in
       let t : length y ≡ length p - length row = omega arith in
-      ap (onPart (openedBy row) a k) zeros-apart
+      ap (λ (l : List ℕ). onPart (openedBy row) a k (x ++ l))
+      (ap (λ (l : List ℕ). y ++ l) (zeros-split w z h) ∙ sym (append-assoc y (replicate w 0) (replicate (z - w) 0)))
       ∙ on-seam x p (replicate (z - w) 0) a k ex lk (openedBy row)
       ∙ ap (λ (l : List ℕ). x ++ ((row ++ l) ++ replicate (z - w) 0)) (take-at y (replicate w 0) (length p - length row) t)
-      ∙ sym row-apart
+      ∙ ap (λ (l : List ℕ). x ++ l) (append-assoc row y (replicate (z - w) 0))
 
   pub closes : onPart (closedUp w) a k (x ++ (row ++ (y ++ replicate (z - w) 0))) ≡ x ++ (y ++ replicate z 0)
-  unfolding closedUp
-  closes =
-      let lk : length (row ++ y) ≡ k = length-append row y ∙ omega arith in
-      ap (onPart (closedUp w) a k) row-apart
-      ∙ on-seam x (row ++ y) (replicate (z - w) 0) a k ex lk (closedUp w)
-      ∙ ap (λ (l : List ℕ). x ++ ((l ++ replicate w 0) ++ replicate (z - w) 0)) (drop-at row y w er)
-      ∙ sym zeros-apart
+  closes = closes-part x row y (replicate (z - w) 0) w a k ex er ek ∙ ap (λ (l : List ℕ). x ++ (y ++ l)) (sym (zeros-split w z h))
 
 -- the shift by w, and then the last w bytes cleared
 pub shifts-closed : (w : ℕ) (p q z : List ℕ) → w ≤ length p → q ≡ drop w p ++ drop (length p - w) p

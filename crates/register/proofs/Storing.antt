@@ -2,7 +2,7 @@
 use Prim.Native.Nat.{ℕ, suc, _+_, _-_, _*_, _/_, _^_, _≤_, _<_}
 use mathlib.Core.Path.{_≡_, refl, sym, ap, ap₂, subst, _∙_}
 use mathlib.Core.Bool.{Bool, true, false, not, _&&_}
-use mathlib.Core.List.{List, _∷_, _++_}
+use mathlib.Core.List.{List, [], _∷_, _++_}
 use mathlib.Core.Option.{none}
 use native.Mathlib.Omega.{arith}
 use lib.Dec.{eqb, ltb}
@@ -10,8 +10,8 @@ use lib.ListN.{length, length-append}
 use lib.Pow.{shr-shr}
 use Rattle.model.specs.Map.{Row, Map, Asc, isSome, find, has, put, del}
 use Rattle.model.specs.Flow.{State}
-use Rattle.model.proofs.MapLaws.{asc-put, asc-keep, keep-all}
-use Rattle.model.proofs.MapPlace.{AllBelow, put-in, put-over, find-out, del-out}
+use Rattle.model.proofs.MapLaws.{asc-put, asc-keep}
+use Rattle.model.proofs.MapPlace.{put-in, put-over, find-out}
 use Rattle.rows.specs.Packing.{num, digits, each, Fit}
 use Rattle.rows.proofs.Bytes.{digits-num, num-lt}
 use Rattle.register.specs.Layout.{Layout, rowAt}
@@ -20,13 +20,12 @@ use Rattle.register.specs.State.{unsplit, encode}
 use Rattle.register.specs.Stored.{Laid, Sized, Fits, Stored, Group, cases, events, rowsOf, keyBitsOf, restOf, spareOf, splitOf, withRows}
 use Rattle.register.specs.Search.{keyAt, probeKey, Placed}
 use Rattle.register.specs.Moves.{inserted, replaced, removed, withCount}
-use Rattle.register.specs.TakenOutBytes.{standsAt, PlacedAt, DropDone}
-use Rattle.register.specs.TakenOutBytes.DropDone.{misfit, absent, gone}
+use Rattle.register.specs.TakenOutBytes.{standsAt, PlacedAt}
 use Rattle.register.proofs.MixedKeys.{group-bits, few, number-by, sizes-by}
-use Rattle.register.proofs.RowBytes.{fits-append, fits-left, fits-right}
+use Rattle.register.proofs.RowBytes.{fits-append, fits-left, fits-right, fits-out}
 use Rattle.register.proofs.States.{room-holds, stored-few, stored-end}
 use Rattle.register.proofs.Changes.{countAt, startOf, afterOf, insert-encode, remove-encode, replace-encode}
-use Rattle.register.proofs.Places.{keys, Apart, Within, apart, within, good-rows, fits-rows, bits-placed, bits-same}
+use Rattle.register.proofs.Places.{keys, Apart, Within, within-out, apart, within, good-rows, fits-rows, bits-placed, bits-same}
 
 -- ---- a row put in, by what a search found
 
@@ -75,10 +74,6 @@ module _ (l : Layout) (g : Group) (row : List ℕ) (e : length row ≡ l .bytes)
 fits-in : (g : Group) (l : Layout) (us vs : Map ℕ) (r : Row ℕ) → Sized g l r → Fits g l (us ++ vs) → Fits g l (us ++ r ∷ vs)
 unfolding Fits
 fits-in g l us vs r p f = fits-append g l us (r ∷ vs) (fits-left g l us vs f) (p, fits-right g l us vs f)
-
-fits-out : (g : Group) (l : Layout) (us vs : Map ℕ) (r : Row ℕ) → Fits g l (us ++ r ∷ vs) → Fits g l (us ++ vs)
-unfolding Fits
-fits-out g l us vs r f = fits-append g l us vs (fits-left g l us (r ∷ vs) f) (fits-right g l us (r ∷ vs) f .1)
 
 module _ (l : Layout) (lay : Laid l) (g : Group) (a : List ℕ) (s : State ℕ ℕ) (h : Stored l a s) where
   abbrev m : Map ℕ
@@ -198,7 +193,7 @@ module _ (l : Layout) (lay : Laid l) (g : Group) (a : List ℕ) (s : State ℕ �
         let lp : length (put r m) ≡ length m = ap length pe ∙ length-append us (r ∷ vs) ∙ omega arith in
         let fm : Fits g l (us ++ x ∷ vs) = subst (Fits g l) (p .whole) (fits-rows l lay g a s h) in
         stored-with (put r m) b (asc-put 0 r m (omega arith) (good-rows l lay g a s h))
-        (rw pe (fits-in g l us vs r (row-fits l g row er f lay) (fits-out g l us vs x fm)))
+        (rw pe (fits-in g l us vs r (row-fits l g row er f lay) (fits-out g l us (x ∷ []) vs fm)))
         (omega (arith, h .few)) len
         (e
         ∙ ap (replaced (l .bytes) i row) (cut-bytes (us ++ x ∷ vs) (p .whole))
@@ -230,30 +225,16 @@ module _ (l : Layout) (lay : Laid l) (g : Group) (a : List ℕ) (s : State ℕ �
         let lm : length m ≡ length us + suc (length vs) = ap length (p .whole) ∙ length-append us (x ∷ vs) in
         let lu : length us ≡ i - startOf g s = p .count in
         let tot = total-rows g s in
-        let de : del u m ≡ us ++ vs
-        = ap₂ (λ (k : ℕ) (y : Map ℕ). del k y) (sym (p .is)) (p .whole) ∙ del-out us x vs (subst (λ (k : ℕ). AllBelow k us) (sym (p .is)) (p .below)) (p .above) in
+        let de : del u m ≡ us ++ vs = within-out p in
         let ld : length (del u m) ≡ length us + length vs = ap length de ∙ length-append us vs in
         let ec : end - startOf g s - 1 ≡ length us + length vs = omega arith in
         let en : n ≡ n - 1 + 1 = omega arith in
         let fm : Fits g l (us ++ x ∷ vs) = subst (Fits g l) (p .whole) (fits-rows l lay g a s h) in
         stored-with (del u m) b (asc-keep 0 (λ j. not (eqb j u)) m (good-rows l lay g a s h))
-        (rw de (fits-out g l us vs x fm))
+        (rw de (fits-out g l us (x ∷ []) vs fm))
         (omega (arith, h .few)) len
         (e
         ∙ ap₂ (λ (k : ℕ) (y : List ℕ). withCount (countAt g) k (removed (l .bytes) i n y)) ec (cut-bytes (us ++ x ∷ vs) (p .whole))
         ∙ ap (λ (k : ℕ). withCount (countAt g) (length us + length vs) (removed (l .bytes) i k (encode l (length a) (withRows g (us ++ x ∷ vs) s)))) en
         ∙ remove-encode l g (length a) s us vs x i (n - 1) (omega arith) (omega arith) (subst (λ (k : ℕ). rowAt l k ≤ length a) en (stored-end l lay a s h))
         ∙ ap (λ (y : Map ℕ). encode l (length a) (withRows g y s)) (sym de))
-
-  module _ (probe : List ℕ) where
-    abbrev k : ℕ
-    k = splitOf g l (num probe) .key
-
-    pub drop-done : (b : List ℕ) (ok : Bool) → length b ≡ length a →
-        DropDone (l .bytes) (keyBitsOf g l - spareOf g l (num probe / 2 ^ restOf g l)) (countAt g) (startOf g s) end n probe a b ok →
-        (ok ≡ true) × Stored l b (withRows g (del k m) s)
-    drop-done b ok len (misfit x q e) = absurd (x (stored-few l lay a s h) (stored-end l lay a s h))
-    drop-done b ok len (absent i pl st q e) =
-        let d : del k m ≡ m = keep-all k m (out k (i - startOf g s) (searched-apart probe i pl st)) in
-        (q, rw (e, d, with-self g s) h)
-    drop-done b ok len (gone i pl st q e) = (q, drop-gone k b i (pl .low) (searched-within probe i pl st) len e)

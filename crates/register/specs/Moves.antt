@@ -28,6 +28,10 @@ replaced w i row reg = onPart (λ p. row) (4 + w * i) w reg
 abbrev pub removed : ℕ → ℕ → ℕ → List ℕ → List ℕ
 removed w i n reg = onPart (closedUp w) (4 + w * i) (4 + w * n - (4 + w * i)) reg
 
+-- rows i up to i + j of n taken out, and zeros behind the others
+abbrev pub removedRows : ℕ → ℕ → ℕ → ℕ → List ℕ → List ℕ
+removedRows w i j n reg = onPart (closedUp (w * j)) (4 + w * i) (4 + w * n - (4 + w * i)) reg
+
 -- the count at two bytes of the header
 unfoldable pub withCount : ℕ → ℕ → List ℕ → List ℕ
 withCount at v reg = take at reg ++ (digits 2 v ++ drop (at + 2) reg)

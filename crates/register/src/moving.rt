@@ -3,7 +3,7 @@ ghost use mathlib.Core.Path.{_≡_};
 ghost use mathlib.Core.List.{_++_};
 ghost use Prim.Native.Nat.{_+_, _-_, _*_, _≤_, _<_};
 ghost use lib.ListN.{length, take, drop, replicate};
-ghost use Rattle.register.specs.Moves.{closedUp, removed};
+ghost use Rattle.register.specs.Moves.{closedUp, removed, removedRows};
 
 // Moves each byte of the part w places on; the last w go, and the first w stay.
 pub fn shift_right(part: &mut [u8], w: usize)
@@ -87,12 +87,20 @@ pub fn close_rows(part: &mut [u8], w: usize, j: usize)
     }
 }
 
-// Row i of n goes, and zeros come in behind the others. The header stays.
+// Rows i up to i + j of n go, and zeros come in behind the others. The header stays.
+pub fn remove_rows(reg: &mut [u8], w: usize, i: usize, j: usize, n: usize)
+    requires { ⌜ (i + j ≤ n) × (4 + w * n ≤ length (now reg)) ⌝ }
+    ensures { λ _. ⌜ now (reg .exit) ≡ removedRows w i j n (now (reg .entry)) ⌝ }
+{
+    let from = 4 + w * i;
+    let to = 4 + w * n;
+    close_rows(&mut reg[from..to], w, j);
+}
+
+// Row i of n goes.
 pub fn remove_row(reg: &mut [u8], w: usize, i: usize, n: usize)
     requires { ⌜ (i < n) × (4 + w * n ≤ length (now reg)) ⌝ }
     ensures { λ _. ⌜ now (reg .exit) ≡ removed w i n (now (reg .entry)) ⌝ }
 {
-    let from = 4 + w * i;
-    let to = 4 + w * n;
-    close_row(&mut reg[from..to], w);
+    remove_rows(reg, w, i, 1, n);
 }

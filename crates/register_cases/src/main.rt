@@ -2,11 +2,9 @@
 // The images were packed by another tool (docs/IMAGES.md).
 ghost use Prim.Native.Nat.{_≤_};
 use home_care::layout::CASE_KEY;
-use home_care::layout::EVENT_KEY;
 use home_care::layout::ROW;
 use libc::STDOUT_FILENO;
 use markup::bytes::part;
-use register::remove::Part;
 
 fn word(s: &[u8]) {
     io::write_all(STDOUT_FILENO, s);
@@ -84,13 +82,14 @@ fn submit(reg: &mut [u8], track: u64, sub: &[u8]) -> bool {
     r == 0 && report[2] == 1
 }
 
-fn remove(reg: &mut [u8], part: Part, kbits: usize, row: &[u8]) -> bool
-    requires { ⌜ kbits ≤ 728 ⌝ }
+// Whether nothing stands by the count at two bytes.
+fn none(reg: &[u8], at: usize) -> bool
+    requires { ⌜ at ≤ 2 ⌝ }
 {
-    if row.len() == ROW {
-        return register::remove::remove(reg, part, ROW, kbits, row);
+    if reg.len() < 4 {
+        return false;
     }
-    false
+    register::counts::count(reg, at) == 0
 }
 
 // Any bytes, emptied: sound, and no case stands.
@@ -111,20 +110,28 @@ fn fill(reg: &mut [u8], case: &[u8], event: &[u8]) {
     counts(reg);
 }
 
-// Their rows take them out.
-fn clear(reg: &mut [u8], case: &[u8], event: &[u8]) {
-    yes(b"drop_event", remove(reg, Part::Events, EVENT_KEY, event));
-    yes(b"drop_case", remove(reg, Part::Cases, CASE_KEY, case));
+fn remove(reg: &mut [u8], row: &[u8]) {
+    if row.len() != ROW {
+        return;
+    }
+    register::remove::remove_case(reg, ROW, CASE_KEY, row);
+}
+
+// The case's row takes it out, and its event with it.
+fn clear(reg: &mut [u8], case: &[u8]) {
+    remove(reg, case);
+    yes(b"drop_event", none(reg, 2));
+    yes(b"drop_case", none(reg, 0));
     sound(reg);
     yes(b"zero", home_care::texts::all_zero(reg));
 }
 
 // Room for three rows.
-fn story(put_case: &[u8], put_event: &[u8], case: &[u8], event: &[u8]) {
+fn story(put_case: &[u8], put_event: &[u8], case: &[u8]) {
     let mut reg = [255u8; 277];
     begin(&mut reg);
     fill(&mut reg, put_case, put_event);
-    clear(&mut reg, case, event);
+    clear(&mut reg, case);
     let mut short = [255u8; 3];
     answer(b"three bytes, empty", exports::siad_empty(&mut short));
 }
@@ -148,13 +155,10 @@ fn from_files() {
     let e = read(b"put_event", &mut put_event);
     let mut cases = io::buffer();
     read(b"one_case", &mut cases);
-    let mut events = io::buffer();
-    read(b"case_and_event", &mut events);
     story(
         part(&put_case, 0, c),
         part(&put_event, 0, e),
         part(&cases, 4, 95),
-        part(&events, 95, 186),
     );
 }
 

@@ -11,8 +11,8 @@ use Rattle.apply.proofs.apply_case.Tie as tie
 cancels-requires : tie.Need-cancels-requires
 cancels-requires c κs = search needs
 
-remove-requires : tie.Need-remove-requires
-remove-requires c κs = search needs
+remove-case-requires : tie.Need-remove-case-requires
+remove-case-requires c κs = search needs
 
 put-case-requires : tie.Need-put-case-requires
 put-case-requires c κs = search needs
@@ -25,9 +25,9 @@ returns c =
     let a = c .before .before .before .before .before .before .before .before .before .before .args in
     let k = probeKey rowBytes keyBits (a .probe .now) in
     let d = caseWith (a .birth) (a .prevalente .now) (a .scales .now) in
-    let b = c .before .before .remove .last .0 in (
-      case-applied k d (a .reg .now) b (a .tipo) (case-out k d (a .reg .now) b (typeOf (a .tipo)) (sym (c .before .before .before .before .before .cancels .ensures) ∙ c .before .before .before .before .if1 .taken) (case-gone (a .probe .now) (a .reg .now) b (c .before .before .remove .result) (c .before .before .remove .ensures))),
-      c .before .before .remove .kept .0,
+    let b = c .before .before .remove-case .last .0 in (
+      case-applied k d (a .reg .now) b (a .tipo) (case-out k d (a .reg .now) b (typeOf (a .tipo)) (sym (c .before .before .before .before .before .cancels .ensures) ∙ c .before .before .before .before .if1 .taken) (case-gone (a .probe .now) (a .reg .now) b (c .before .before .remove-case .ensures))),
+      c .before .before .remove-case .kept .0,
     )
 
 same-length-2 : tie.Need-same-length-2
@@ -48,7 +48,7 @@ apply-case-spec =
     tie.close
     (tie.spec
     cancels-requires
-    remove-requires
+    remove-case-requires
     put-case-requires
     same-length
     returns

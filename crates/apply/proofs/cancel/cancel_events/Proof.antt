@@ -101,18 +101,18 @@ loop-less c = search needs
 loop-again : tie.Need-loop-again Inv-loop μ-loop
 loop-again c = one-fewer (c .before .before .before .before .before .before .before .before .before .before .before .before .before .before .before .before .before .before .before .before .before .before .before .before .before .before .before .before .before .args .reg .now) (probeKey rowBytes keyBits (c .before .before .before .before .before .before .before .before .before .before .before .before .before .before .before .before .before .before .before .before .before .before .before .before .before .before .before .before .before .args .probe .now)) (c .before .before .before .before .before .before .before .before .before .before .before .before .before .before .before .before .before .before .before .before .before .before .before .before .before .before .before .before .before .args .evs .now) (c .before .before .before .before .before .before .before .before .before .before .before .before .before .before .before .before .before .before .before .before .before .before .before .count .result) (c .before .before .before .before .before .before .before .before .before .before .before .before .before .before .before .before .before .before .before .before .before .before .before .count .result + c .before .before .before .before .before .before .before .before .before .before .before .before .before .before .before .before .before .before .before .before .before .count2 .result) (c .before .before .before .before .before .before .before .before .before .before .before .before .before .before .before .before .case-range .result .lo) (c .before .before .before .before .before .before .before .before .before .before .before .before .before .before .before .loop .reg) (c .before .before .before .before .before .before .before .before .before .before .before .before .before .before .before .loop .i) (c .before .before .before .before .before .before .before .before .before .before .before .before .before .before .before .loop .j) (c .before .before .before .before .before .before .before .before .before .before .before .before .before .before .before .loop .bound) (c .before .before .before .before .before .before .before .before .before .before .before .before .before .before .before .loop .inv) (λ s st. standing (probeKey rowBytes keyBits (c .before .before .before .before .before .before .before .before .before .before .before .before .before .before .before .before .before .before .before .before .before .before .before .before .before .before .before .before .before .args .probe .now)) (c .before .before .before .before .before .before .before .before .before .before .before .before .before .before .before .before .before .before .before .before .before .before .before .before .before .before .before .before .before .args .evs .now) (c .before .before .before .before .before .before .before .before .before .before .before .before .before .before .before .before .before .before .before .before .before .before .before .before .before .before .before .before .before .args .reg .now) (c .before .before .before .before .before .before .before .before .before .before .before .before .before .before .before .before .before .before .before .before .before .before .before .count .result) (c .before .before .before .before .before .before .before .before .before .before .before .before .before .before .before .before .before .before .before .before .before .count2 .result) (c .before .before .before .before .before .before .before .before .before .before .before .before .before .before .before .before .before .before .before .before .before .before .before .count .ensures .0) (c .before .before .before .before .before .before .before .before .before .before .before .before .before .before .before .before .before .before .before .before .before .count2 .ensures .0) s st .1) (c .before .before .before .before .before .before .before .before .before .before .before .before .before .before .before .before .case-range .ensures .low) (c .before .before .before .before .before .before .before .before .before .before .before .before .before .next-below .result) (c .before .before .before .before .before .before .before .before .before .before .before .before .before .next-below .ensures) (c .before .before .before .before .before .before .before .before .before .before .before .before .if3 .left) (c .before .before .before .before .before .before .before .before .before .place-by .result) (c .before .before .before .before .before .before .before .before .before .place-by .ensures) (omega arith) (c .before .before .before .before .before .before .before .before .if4 .left) (c .before .before .before .before .before .before .widen .last .0) (c .before .before .set-count .last .0) (c .before .before .before .before .before .before .widen .kept .0) (c .before .before .set-count .kept .0) (c .before .before .before .before .before .before .widen .ensures) (c .before .before .set-count .ensures)
 
-close-requires : tie.Need-close-requires Inv-loop μ-loop
-close-requires c κs =
+remove-rows-requires : tie.Need-remove-rows-requires Inv-loop μ-loop
+remove-rows-requires c κs =
     let v = c .before .before .loop .inv in
     let f : c .before .before .before .before .before .before .before .before .before .before .count .result + c .before .before .before .before .before .before .before .before .count2 .result ≤ mostRows = room-few rowBytes (c .before .before .before .before .before .before .before .before .before .before .count .result + c .before .before .before .before .before .before .before .before .count2 .result) (length (c .before .before .before .before .before .before .before .before .before .before .before .before .before .before .before .before .args .reg .now)) (c .before .before .before .before .before .before .room-for .result) (c .before .before .before .before .before .before .room-for .ensures) (not-false _ (c .before .before .before .before .before .if2 .left)) in
     let e : 4 + rowBytes * (c .before .before .before .before .before .before .before .before .before .before .count .result + c .before .before .before .before .before .before .before .before .count2 .result) ≤ length (c .before .before .before .before .before .before .before .before .before .before .before .before .before .before .before .before .args .reg .now) = room-end rowBytes (c .before .before .before .before .before .before .before .before .before .before .count .result + c .before .before .before .before .before .before .before .before .count2 .result) (length (c .before .before .before .before .before .before .before .before .before .before .before .before .before .before .before .before .args .reg .now)) (c .before .before .before .before .before .before .room-for .result) (c .before .before .before .before .before .before .room-for .ensures) (not-false _ (c .before .before .before .before .before .if2 .left)) (c .before .before .before .before .before .before .before .before .before .before .count .result + c .before .before .before .before .before .before .before .before .count2 .result) (omega arith) in
-    (v .high, omega arith, omega (arith, v .len))
+    (v .high, omega (arith, v .len))
 
 same-length-4 : tie.Need-same-length-4 Inv-loop μ-loop
 same-length-4 c = search needs
 
 returns-5 : tie.Need-returns-5 Inv-loop μ-loop
-returns-5 c = all-emptied (c .before .before .before .before .before .before .before .before .before .before .before .before .before .before .before .before .before .before .before .args .reg .now) (probeKey rowBytes keyBits (c .before .before .before .before .before .before .before .before .before .before .before .before .before .before .before .before .before .before .before .args .probe .now)) (c .before .before .before .before .before .before .before .before .before .before .before .before .before .before .before .before .before .before .before .args .evs .now) (c .before .before .before .before .before .before .before .before .before .before .before .before .before .count .result) (c .before .before .before .before .before .before .before .before .before .before .before .before .before .count .result + c .before .before .before .before .before .before .before .before .before .before .before .count2 .result) (c .before .before .before .before .before .before .case-range .result .lo) (c .before .before .before .before .before .loop .reg) (c .before .before .before .before .before .loop .i) (c .before .before .before .before .before .loop .j) (c .before .before .before .before .before .loop .bound) (c .before .before .before .before .before .loop .inv) (λ s st. standing (probeKey rowBytes keyBits (c .before .before .before .before .before .before .before .before .before .before .before .before .before .before .before .before .before .before .before .args .probe .now)) (c .before .before .before .before .before .before .before .before .before .before .before .before .before .before .before .before .before .before .before .args .evs .now) (c .before .before .before .before .before .before .before .before .before .before .before .before .before .before .before .before .before .before .before .args .reg .now) (c .before .before .before .before .before .before .before .before .before .before .before .before .before .count .result) (c .before .before .before .before .before .before .before .before .before .before .before .count2 .result) (c .before .before .before .before .before .before .before .before .before .before .before .before .before .count .ensures .0) (c .before .before .before .before .before .before .before .before .before .before .before .count2 .ensures .0) s st .1) (omega arith) (c .before .before .close .last .0) (c .before .before .close .ensures)
+returns-5 c = all-emptied (c .before .before .before .before .before .before .before .before .before .before .before .before .before .before .before .before .before .before .before .args .reg .now) (probeKey rowBytes keyBits (c .before .before .before .before .before .before .before .before .before .before .before .before .before .before .before .before .before .before .before .args .probe .now)) (c .before .before .before .before .before .before .before .before .before .before .before .before .before .before .before .before .before .before .before .args .evs .now) (c .before .before .before .before .before .before .before .before .before .before .before .before .before .count .result) (c .before .before .before .before .before .before .before .before .before .before .before .before .before .count .result + c .before .before .before .before .before .before .before .before .before .before .before .count2 .result) (c .before .before .before .before .before .before .case-range .result .lo) (c .before .before .before .before .before .loop .reg) (c .before .before .before .before .before .loop .i) (c .before .before .before .before .before .loop .j) (c .before .before .before .before .before .loop .bound) (c .before .before .before .before .before .loop .inv) (λ s st. standing (probeKey rowBytes keyBits (c .before .before .before .before .before .before .before .before .before .before .before .before .before .before .before .before .before .before .before .args .probe .now)) (c .before .before .before .before .before .before .before .before .before .before .before .before .before .before .before .before .before .before .before .args .evs .now) (c .before .before .before .before .before .before .before .before .before .before .before .before .before .before .before .before .before .before .before .args .reg .now) (c .before .before .before .before .before .before .before .before .before .before .before .before .before .count .result) (c .before .before .before .before .before .before .before .before .before .before .before .count2 .result) (c .before .before .before .before .before .before .before .before .before .before .before .before .before .count .ensures .0) (c .before .before .before .before .before .before .before .before .before .before .before .count2 .ensures .0) s st .1) (omega arith) (c .before .before .remove-rows .last .0) (c .before .before .remove-rows .ensures)
 
 pub cancel-events-spec : {M : Type 1} → statement M
 cancel-events-spec =
@@ -145,6 +145,6 @@ cancel-events-spec =
     set-count-requires
     loop-less
     loop-again
-    close-requires
+    remove-rows-requires
     same-length-4
     returns-5)
