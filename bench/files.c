@@ -334,9 +334,23 @@ static void carried(struct file *f, const struct kind *k) {
     put(f, "</FlsAssDom_1>");
 }
 
-/* Two cases, the first with one event, the second with so many that the register is full. The first is cancelled and
-   inserted, again and again: each time all of the second's rows move. */
-static void carried_again(struct file *f, const struct kind *k) {
+/* Cases with one event each, in front of one with so many that the register is full, are cancelled, the first one first:
+   each time all rows behind move, by two rows. */
+static void carried_ones(struct file *f, const struct kind *k) {
+    struct day first = day(0);
+    stand_cases(f, k->number + 1, first);
+    for (int i = 0; i < k->number; i++) stand_suspended(f, i, 0, 0);
+    stand_suspended(f, k->number, 0, 4096 - 2 * (k->number + 1));
+    f->year = (uint64_t)first.year;
+    f->quarter = (uint64_t)first.quarter;
+    put(f, "<FlsAssDom_1>");
+    for (int i = 0; i < k->number; i++) put_case(f, 'C', i, first.text);
+    put(f, "</FlsAssDom_1>");
+}
+
+/* Two cases, the first with one event, the second with so many that the register is full. The first is cancelled, which
+   takes its event along, and inserted, again and again: each time all of the second's rows move. */
+static void case_again(struct file *f, const struct kind *k) {
     struct day first = day(0);
     stand_cases(f, 2, first);
     stand_suspended(f, 0, 0, 0);
@@ -413,7 +427,8 @@ const struct kind kinds[] = {
     {"moves", "Track 2: 60 events put before 4,034 and cancelled", 2, moves, "", "", "", "", 60},
     {"moves_one", "Track 2: one event put before 4,093 and cancelled", 2, moves, "", "", "", "", 1},
     {"carried", "Track 1: 510 cases cancelled with 7 events each", 1, carried, "", "", "", "", 510},
-    {"carried_again", "Track 1: a case cancelled and put before 4,093 events", 1, carried_again, "", "", "", "", 4093},
+    {"carried_ones", "Track 1: 520 cases cancelled with an event each", 1, carried_ones, "", "", "", "", 520},
+    {"case_again", "Track 1: a case cancelled and put before 4,093 events", 1, case_again, "", "", "", "", 4093},
     {NULL, NULL, 0, NULL, "", "", "", "", 0},
 };
 

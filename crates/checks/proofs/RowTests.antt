@@ -1,15 +1,16 @@
 -- Tests of every row and of every key of a map, as rows are put in and taken out.
 use Prim.Native.Nat.{ℕ, _^_, _<_}
-use mathlib.Core.Path.{_≡_, refl, sym, ap, _∙_}
+use mathlib.Core.Path.{_≡_, refl, ap, _∙_}
 use mathlib.Core.Bool.{Bool, true, false, cond, not, _&&_, _||_, false≢true}
 use mathlib.Core.List.{[], _∷_}
 use mathlib.Core.Option.{some}
 use lib.Dec.{eqb, ltb}
 use borrow.Author.Tests.{eqb-true, eq-eqb, ltb-true, lt-ltb}
 use Rattle.laws.specs.Lists.{all}
-use Rattle.laws.proofs.Truth.{and-left, and-right}
+use Rattle.laws.proofs.Truth.{and-left, and-right, and-false}
 use Rattle.laws.proofs.Every.{and-tell}
 use Rattle.model.specs.Map.{Row, Map, isSome, find, has, put, keep, putAll, delAll}
+use Rattle.model.proofs.MapLaws.{keep-same, keep-keep}
 use Rattle.model.specs.Transmission.{Kind, insert, vary, cancel}
 use Rattle.model.specs.Flow.{State, applied}
 use Rattle.register.specs.Stored.{Group, cases, events, keyBitsOf, restOf, Sized, Fits}
@@ -102,16 +103,11 @@ module _ {F : Type 0} (p : ℕ → Bool) where
 
   -- rows all of whose keys pass a second test
   pub keep-within : (q : ℕ → Bool) (m : Map F) → ((k : ℕ) → p k ≡ true → q k ≡ true) → keep p (keep q m) ≡ keep p m
-  unfolding keep
-  keep-within q [] h = refl
-  keep-within q (x ∷ m) h = go (p (x .key)) refl (q (x .key)) refl (keep-within q m h)
+  keep-within q m h = keep-keep p q m ∙ keep-same (λ k. q k && p k) p m (λ k. both (p k) (q k) (h k))
     where
-      go : (b : Bool) → p (x .key) ≡ b → (c : Bool) → q (x .key) ≡ c → keep p (keep q m) ≡ keep p m →
-          keep p (cond c (x ∷ keep q m) (keep q m)) ≡ cond b (x ∷ keep p m) (keep p m)
-      go true e true f ih = rw e (ap (λ (n : Map F). x ∷ n) ih)
-      go true e false f ih = absurd (false≢true (sym f ∙ h (x .key) e))
-      go false e true f ih = rw e ih
-      go false e false f ih = ih
+      both : (a b : Bool) → (a ≡ true → b ≡ true) → b && a ≡ a
+      both true b f = rw (f refl)
+      both false b f = and-false b
 
   -- a test of the rows whose keys pass, as one of every row
   pub kept-all : (q : Row F → Bool) (m : Map F) → all q (keep p m) ≡ all (λ x. not (p (x .key)) || q x) m

@@ -2,9 +2,9 @@
 use Prim.Native.Nat.{ℕ, _+_}
 use Prim.Native.Char.{Char, code}
 use Prim.Native.String as string
-use mathlib.Core.Path.{_≡_, refl}
+use mathlib.Core.Path.{_≡_, refl, ap, _∙_}
 use mathlib.Core.Bool.{false}
-use mathlib.Core.List.{List, [], _∷_, map, flatMap}
+use mathlib.Core.List.{List, [], _∷_, _++_, map, flatMap}
 use native.Mathlib.Omega.{arith}
 use lib.ListN.{length, replicate}
 use Rattle.laws.specs.Lists.{all, any, same, somePair, bytes}
@@ -14,15 +14,16 @@ use Rattle.model.specs.Map.{find, put, keep, putAll, delAll, anyIn, allIn, twic
 use Rattle.model.specs.Checks.{first}
 use Rattle.model.specs.Machine.{run, answers}
 use Rattle.model.specs.Flow.{State, empty, machine}
-use Rattle.model.specs.Log.{sumOf, distinct, acceptedBy, eventsIn, eventsOut, casesCancelled, carriedOnce}
+use Rattle.model.specs.Log.{sumOf, distinct, atZeros, acceptedBy, eventsIn, eventsOut, casesCancelled, carriedOnce}
+use Rattle.model.proofs.MachineLaws.{taken-answers}
 use Rattle.rows.specs.Packing.{packs}
 use Rattle.register.specs.Layout.{caseNamed}
 use Rattle.register.specs.Sound.{eventsOf}
-use Rattle.home_care.specs.Row.{Key, Event, never, eventNumber, siad}
+use Rattle.home_care.specs.Row.{Key, Case, Event, never, keyNumber, eventNumber, eventRow, siad}
 use Rattle.home_care.specs.Fits.{eventWith}
 use Rattle.home_care.specs.Record.{Head, Said, Record, padded, admission, events, eventNumbers}
 use Rattle.home_care.specs.Anomalies.{Context}
-use Rattle.checks.specs.Flow.{flow, eventRows}
+use Rattle.checks.specs.Flow.{flow, caseRow, eventRows}
 use Rattle.checks.specs.CheckOrder.{siadMachine}
 
 -- quarter 2 of 2018, and room for four rows
@@ -37,11 +38,14 @@ abbrev head : Char → Head
 head t = record { tipo = code t; key = key }
 
 -- Track 1: born in 1940, with this prevalente
+abbrev caseSaid : string.String → Case
+caseSaid prevalente = record { birth = 1940; prevalente = padded (bytes prevalente); scales = 1 ∷ 2 ∷ 3 ∷ 1 ∷ 2 ∷ 0 ∷ [] }
+
 abbrev case : Char → string.String → Record
 case t prevalente =
     admission (head t)
     (record {
-      case = record { birth = 1940; prevalente = padded (bytes prevalente); scales = 1 ∷ 2 ∷ 3 ∷ 1 ∷ 2 ∷ 0 ∷ [] };
+      case = caseSaid prevalente;
       residence = record { region = bytes "010"; asl = bytes "101"; comune = bytes "001001"; stato = [] };
     })
 
@@ -106,33 +110,58 @@ back = refl
 
 -- ---- K2: "counted once for each case"
 
--- two visits stand, and one file cancels their case, inserts it again, cancels it again
+-- two visits stand
 abbrev before : State ℕ ℕ
-before = run (siadMachine context) empty (case "I" "0000" ∷ send "I" (visit 10 1 ∷ visit 11 1 ∷ []) ∷ [])
+before =
+    record {
+      cases = caseRow key (caseSaid "0000") ∷ [];
+      events = eventRow (keyNumber key) (eventNumber (visit 10 1)) ∷ eventRow (keyNumber key) (eventNumber (visit 11 1)) ∷ [];
+    }
 
+pub stood : run (siadMachine context) empty (case "I" "0000" ∷ send "I" (visit 10 1 ∷ visit 11 1 ∷ []) ∷ []) ≡ before
+unfolding run machine first find put keep putAll delAll anyIn allIn twice eventRows eventNumbers all any same somePair packs yearsTo firstOf
+stood = refl
+
+-- and one file cancels their case, inserts it again, cancels it again
 abbrev file : List Record
 file = case "C" "0000" ∷ case "I" "0000" ∷ case "C" "0000" ∷ []
 
 abbrev accepted : List Record
 accepted = acceptedBy (siadMachine context) before file
 
--- each record is accepted, and no event is left
-pub all-accepted : (length accepted ≡ 3) × (length (before .events) ≡ 2) × (run (siadMachine context) before file .events ≡ [])
-unfolding acceptedBy run machine first find put keep putAll delAll anyIn allIn twice eventRows eventNumbers all any same somePair packs yearsTo firstOf
-all-accepted = (refl, refl, refl)
+-- each record is accepted, and nothing is left
+pub all-zero : answers (siadMachine context) before file ≡ 0 ∷ 0 ∷ 0 ∷ []
+unfolding answers machine first find put keep putAll delAll anyIn allIn twice eventRows eventNumbers all any same somePair packs yearsTo firstOf
+all-zero = refl
 
+pub all-accepted : accepted ≡ file
+unfolding atZeros
+all-accepted = taken-answers (siadMachine context) before file [] ∙ ap (λ (ns : List ℕ). atZeros (ns ++ []) file) all-zero
+
+pub none-left : run (siadMachine context) before file ≡ empty
+unfolding run machine first find put keep putAll delAll anyIn allIn twice eventRows eventNumbers all any same somePair packs yearsTo firstOf
+none-left = refl
+
+-- the two visits once
 pub once : carriedOnce flow (caseNamed siad) (before .events) accepted ≡ 2
-unfolding sumOf distinct flatMap acceptedBy run machine first find put keep putAll delAll anyIn allIn twice eventRows eventNumbers all any same somePair packs yearsTo firstOf
-once = refl
+unfolding sumOf distinct flatMap keep any packs firstOf
+once = ap (carriedOnce flow (caseNamed siad) (before .events)) all-accepted
 
--- counted for each cancellation the total would be wrong
-pub each-time : sumOf (λ c. length (eventsOf siad c (before .events))) (flatMap (casesCancelled flow) accepted) ≡ 4
-unfolding sumOf flatMap acceptedBy run machine first find put keep putAll delAll anyIn allIn twice eventRows eventNumbers all any same somePair packs yearsTo firstOf
-each-time = refl
+-- counted for each cancellation they would be four, and the total wrong
+abbrev eachTime : List Record → ℕ
+eachTime log = sumOf (λ c. length (eventsOf siad c (before .events))) (flatMap (casesCancelled flow) log)
+
+pub each-time : eachTime accepted ≡ 4
+unfolding sumOf flatMap keep packs firstOf
+each-time = ap eachTime all-accepted
 
 pub not-each-time :
-    length (run (siadMachine context) before file .events)
-    + (sumOf (eventsOut flow) accepted + sumOf (λ c. length (eventsOf siad c (before .events))) (flatMap (casesCancelled flow) accepted))
-    ≡ length (before .events) + sumOf (eventsIn flow) accepted → ⊥
-unfolding sumOf flatMap acceptedBy run machine first find put keep putAll delAll anyIn allIn twice eventRows eventNumbers all any same somePair packs yearsTo firstOf
-not-each-time e = let z : _≡_ {A = ℕ} 4 2 = e in omega arith
+    length (run (siadMachine context) before file .events) + (sumOf (eventsOut flow) accepted + eachTime accepted) ≡
+    length (before .events) + sumOf (eventsIn flow) accepted → ⊥
+unfolding sumOf
+not-each-time e =
+    let gone : length (run (siadMachine context) before file .events) ≡ 0 = ap (λ (s : State ℕ ℕ). length (s .events)) none-left in
+    let named : sumOf (eventsOut flow) accepted ≡ 0 = ap (sumOf (eventsOut flow)) all-accepted in
+    let new : sumOf (eventsIn flow) accepted ≡ 0 = ap (sumOf (eventsIn flow)) all-accepted in
+    let four = each-time in
+    omega arith

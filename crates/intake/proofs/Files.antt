@@ -40,8 +40,8 @@ pub record Alike (a b : Submitted) : Type 0 where
   pub number : a .number ≡ b .number
 
 -- any record, where a list has none
-abbrev none : Record
-none = events (record { tipo = 0; key = record { region = 0; asl = []; taken = 0; id = [] } }) []
+abbrev blank : Record
+blank = events (record { tipo = 0; key = record { region = 0; asl = []; taken = 0; id = [] } }) []
 
 module _ (x : Call) (reg : List ℕ) where
   abbrev call : Submitted
@@ -103,7 +103,7 @@ module _ (x : Call) (reg : List ℕ) where
           λ e. d2 .discarded (leftBy x reg i) (getD rs i d) n z .0 (sym (byte d i l) ∙ e),
           λ e. byte d i l ∙ d2 .discarded (leftBy x reg i) (getD rs i d) n z .1 e,
         );
-        never-16 = λ i l e. never-16 (context x reg) (leftBy x reg i) (getD rs i none) (sym (byte none i l) ∙ e);
+        never-16 = λ i l e. never-16 (context x reg) (leftBy x reg i) (getD rs i blank) (sym (byte blank i l) ∙ e);
         long = length-append ns (drop (length rs) (x .answerList)) ∙ omega (arith, ns-length, length-drop (length rs) (x .answerList));
         later = drop-at ns (drop (length rs) (x .answerList)) (length rs) ns-length;
         counts =
@@ -143,10 +143,10 @@ module _ (x : Call) (reg : List ℕ) where
     byte-same : (i : ℕ) → i < a .records → Dec (getD (b .answers) i 0 ≡ 0) → getD (a .answers) i 0 ≡ getD (b .answers) i 0
     byte-same i l (yes z) =
         let k : i < b .records = omega (arith, records-same) in
-        h .zero none i l .1 (g .zero none i k .0 z) ∙ sym z
+        h .zero blank i l .1 (g .zero blank i k .0 z) ∙ sym z
     byte-same i l (no z) =
         let k : i < b .records = omega (arith, records-same) in
-        h .other none i (getD (b .answers) i 0) l z .1 (g .other none i (getD (b .answers) i 0) k z .0 refl)
+        h .other blank i (getD (b .answers) i 0) l z .1 (g .other blank i (getD (b .answers) i 0) k z .0 refl)
 
     each-same : (i : ℕ) (t : Bool) → ltb i (a .records) ≡ t → getD (a .answers) i 0 ≡ getD (b .answers) i 0
     each-same i true e = byte-same i (ltb-true i (a .records) e) (ℕ-discrete (getD (b .answers) i 0) 0)

@@ -9,7 +9,8 @@ use Rattle.model.specs.Machine.{Machine, accepts, step, run}
 use Rattle.model.specs.Log.{acceptedBy, runAll, calls, Lawful}
 use Rattle.model.specs.Flow.{State, empty, machine}
 use Rattle.model.specs.Demands.{Demand3, Sequences}
-use Rattle.model.proofs.MachineLaws.{Every, run-keeps-ok, runAll-keeps-ok}
+use Rattle.laws.proofs.Every.{Every}
+use Rattle.model.proofs.MachineLaws.{run-keeps-ok, runAll-keeps-ok}
 use Rattle.model.proofs.Demands.{demand3}
 use Rattle.model.proofs.TransmissionLaws.{sequences}
 use Rattle.register.specs.RoomAndEmptying.{room}

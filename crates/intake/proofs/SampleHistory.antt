@@ -23,7 +23,7 @@ use Rattle.intake.specs.FileAnswers.{Call, Submitted, contextOf, submitt
 use Rattle.intake.specs.RecordsIn.{recordsIn}
 use Rattle.intake.specs.Histories.{Entry, entry, entryFlow, regAfter, logOf, CaseSays, EventSays}
 use Rattle.intake.proofs.OnBytes.{on-bytes}
-use Rattle.intake.proofs.Samples.{admissions, visits, cancellation, withdrawal, register, key, caseSaid, visit, admit, send, second-gives, third-gives, fourth-gives, second-records, third-records, fourth-records, after-first, after-second, after-fourth, both-stand}
+use Rattle.intake.proofs.Samples.{admissions, visits, cancellation, withdrawal, mistake, register, key, caseSaid, visit, admit, send, second-gives, third-gives, fourth-gives, fifth-gives, second-records, third-records, fourth-records, fifth-records, after-first, after-second, after-fourth, both-stand}
 
 abbrev n : ℕ
 n = length register
@@ -71,10 +71,25 @@ undone =
     ∙ append-assoc (logOf n (admissions ∷ [])) (inserting ∷ []) (cancelling ∷ []))
     (record { inserts = refl; cancels = refl; cases = λ k. refl; events = λ k. refl })
 
+-- the same of a case, beside another case's events: its cancellation carries none of them away
+abbrev mistaking : Char → Entry
+mistaking tipo = entry (contextOf mistake n) (admit "B" tipo "0101")
+
+log-fifth : logOf n (admissions ∷ visits ∷ mistake ∷ []) ≡ logOf n (admissions ∷ visits ∷ []) ++ mistaking "I" ∷ mistaking "C" ∷ []
+unfolding atZeros
+log-fifth =
+    let e = ap (submitted mistake) after-second ∙ fifth-gives in
+    adds (admissions ∷ visits ∷ []) mistake (0 ∷ 0 ∷ 9 ∷ 9 ∷ []) _ (ap (λ (r : Submitted). r .answer) e) (ap (λ (r : Submitted). r .answers) e) fifth-records
+
+pub case-undone : regAfter register (admissions ∷ visits ∷ mistake ∷ []) ≡ regAfter register (admissions ∷ visits ∷ [])
+case-undone =
+    on-bytes register long .undone (admissions ∷ visits ∷ []) (mistake ∷ []) (mistaking "I") (mistaking "C") log-fifth
+    (record { inserts = refl; cancels = refl; cases = λ k. refl; events = λ k. refl })
+
 -- ---- the case cancelled while its events stand
 
 abbrev withdrawing : Char → string.String → Entry
-withdrawing tipo prevalente = entry (contextOf withdrawal n) (admit tipo prevalente)
+withdrawing tipo prevalente = entry (contextOf withdrawal n) (admit "A" tipo prevalente)
 
 abbrev later : List Entry
 later = withdrawing "C" "0202" ∷ withdrawing "I" "0101" ∷ withdrawing "C" "0101" ∷ []

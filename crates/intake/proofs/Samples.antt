@@ -1,5 +1,5 @@
--- Four files computed from their bytes on: a Track 1 file with three records of one case, a Track 2 file with that case's events, one that cancels them, and a
--- Track 1 file that cancels the case while they stand.
+-- Five files computed from their bytes on: a Track 1 file with three records of one case, a Track 2 file with that case's events, one that cancels them, a
+-- Track 1 file that cancels the case while they stand, and one that inserts and cancels another case beside them.
 use Prim.Native.Nat.{ℕ}
 use Prim.Native.Char.{Char, code}
 use Prim.Native.String as string
@@ -57,12 +57,12 @@ opening tipo = bytes "<Assistenza><Trasmissione tipo=\"" ++ (code tipo ∷ bytes
 abbrev sender : List ℕ
 sender = bytes "<Erogatore><CodiceRegione>010</CodiceRegione><CodiceASL>101</CodiceASL></Erogatore>"
 
-abbrev idRec : List ℕ
-idRec = bytes "<Id_Rec>" ++ (replicate 88 (code "A") ++ bytes "</Id_Rec>")
+abbrev idRec : Char → List ℕ
+idRec id = bytes "<Id_Rec>" ++ (replicate 88 (code id) ++ bytes "</Id_Rec>")
 
--- Track 1: a record of that type, with that prevalente
-abbrev admitted : Char → string.String → List ℕ
-admitted tipo prevalente =
+-- Track 1: of the case with that letter, a record of that type, with that prevalente
+abbrev admitted : Char → Char → string.String → List ℕ
+admitted id tipo prevalente =
     opening tipo ++
     (parts
     ("<Assistito><DatiAnagrafici><CUNI>ABC</CUNI><validitaCI>0</validitaCI><tipologiaCI>99</tipologiaCI><AnnoNascita>1951</AnnoNascita><Genere>1</Genere>" ∷
@@ -71,7 +71,7 @@ admitted tipo prevalente =
     "<Conviventi><NucleoFamiliare>2</NucleoFamiliare><AssistenteNonFamiliare>1</AssistenteNonFamiliare></Conviventi>" ∷ []) ++
     (sender ++
     (bytes "<Eventi><PresaInCarico data=\"2018-05-01\" soggettoRichiedente=\"1\">" ++
-    (idRec ++
+    (idRec id ++
     parts
     ("</PresaInCarico><Valutazione data=\"2018-05-02\"><Patologia><Prevalente>" ∷ prevalente ∷ "</Prevalente><Concomitante>015</Concomitante></Patologia>" ∷
     "<Autonomia>1</Autonomia><GradoMobilita>3</GradoMobilita><Disturbi><Cognitivi>1</Cognitivi><Comportamentali>2</Comportamentali></Disturbi>" ∷
@@ -89,7 +89,7 @@ admitted tipo prevalente =
 abbrev happened : Char → List string.String → List ℕ
 happened tipo these =
     opening tipo ++
-    (sender ++ (bytes "<Eventi><PresaInCarico data=\"2018-05-01\">" ++ (idRec ++ parts ("</PresaInCarico>" ∷ these) ++ bytes "</Eventi></Assistenza>")))
+    (sender ++ (bytes "<Eventi><PresaInCarico data=\"2018-05-01\">" ++ (idRec "A" ++ parts ("</PresaInCarico>" ∷ these) ++ bytes "</Eventi></Assistenza>")))
 
 -- a visit and a suspension
 abbrev two : List string.String
@@ -100,7 +100,7 @@ two =
 
 -- the case is inserted, inserted again, and varied
 abbrev cases : List ℕ
-cases = bytes "<FlsAssDom_1>" ++ (admitted "I" "0101" ++ (admitted "I" "0101" ++ (admitted "V" "0202" ++ bytes "</FlsAssDom_1>")))
+cases = bytes "<FlsAssDom_1>" ++ (admitted "A" "I" "0101" ++ (admitted "A" "I" "0101" ++ (admitted "A" "V" "0202" ++ bytes "</FlsAssDom_1>")))
 
 -- the two are inserted; then a record without events; and the two are cancelled
 abbrev inserted : List ℕ
@@ -111,7 +111,11 @@ cancelled = bytes "<FlsAssDom_2>" ++ (happened "C" two ++ bytes "</FlsAssDom_2>"
 
 -- the case is cancelled, inserted again, and cancelled again
 abbrev withdrawn : List ℕ
-withdrawn = bytes "<FlsAssDom_1>" ++ (admitted "C" "0202" ++ (admitted "I" "0101" ++ (admitted "C" "0101" ++ bytes "</FlsAssDom_1>")))
+withdrawn = bytes "<FlsAssDom_1>" ++ (admitted "A" "C" "0202" ++ (admitted "A" "I" "0101" ++ (admitted "A" "C" "0101" ++ bytes "</FlsAssDom_1>")))
+
+-- another case is inserted by mistake, and cancelled at once
+abbrev mistaken : List ℕ
+mistaken = bytes "<FlsAssDom_1>" ++ (admitted "B" "I" "0101" ++ (admitted "B" "C" "0101" ++ bytes "</FlsAssDom_1>"))
 
 -- all of quarter 2 of 2018, with an answer list of four bytes 9
 abbrev pub admissions : Call
@@ -126,12 +130,18 @@ cancellation = callOf cancelled 2 2018 2 (replicate 4 9)
 abbrev pub withdrawal : Call
 withdrawal = callOf withdrawn 1 2018 2 (replicate 4 9)
 
+abbrev pub mistake : Call
+mistake = callOf mistaken 1 2018 2 (replicate 4 9)
+
 -- a register with room for four rows, whatever it held
 abbrev pub register : List ℕ
 register = replicate 368 7
 
+abbrev pub keyOf : Char → Key
+keyOf id = record { region = 10; asl = bytes "101"; taken = dayNumber 2018 5 1; id = replicate 88 (code id) }
+
 abbrev pub key : Key
-key = record { region = 10; asl = bytes "101"; taken = dayNumber 2018 5 1; id = replicate 88 (code "A") }
+key = keyOf "A"
 
 -- the case as a record with that prevalente says it
 abbrev pub caseSaid : string.String → Case
@@ -147,9 +157,9 @@ visit = eventWith 1 (dayNumber 2018 5 5) never 3 2 0
 abbrev pub suspension : Event
 suspension = eventWith 2 (dayNumber 2018 5 10) (dayNumber 2018 5 12) 1 0 0
 
-abbrev pub admit : Char → string.String → Record
-admit tipo prevalente =
-    admission (record { tipo = code tipo; key = key })
+abbrev pub admit : Char → Char → string.String → Record
+admit id tipo prevalente =
+    admission (record { tipo = code tipo; key = keyOf id })
     (record { case = caseSaid prevalente; residence = record { region = bytes "999"; asl = bytes "999"; comune = bytes "999999"; stato = bytes "fr" } })
 
 abbrev pub send : Char → Record
@@ -213,7 +223,17 @@ unfolding all any same turns loop decimalAfter runLength skipWs byte name value 
     zeros others rowIn from rowsBytes encode emptied calls ascending isSound submitted
 fourth-gives = refl
 
--- the records of the second file and of the third
+-- the other case inserted into the last row of room and cancelled: every byte is as before, those of the events too
+pub fifth-gives : submitted mistake (holding standing) ≡
+    record { answer = 0; number = 0; records = 2; accepted = 2; discarded = 0; register = holding standing; answers = 0 ∷ 0 ∷ 9 ∷ 9 ∷ [] }
+unfolding all any same turns loop decimalAfter runLength skipWs byte name value comment dashed declared attribute attributesStep attributes differ tag endTag
+    piece content element declares declaration miscStep misc document namedIn recordOf firstNamed valueIn saidIn wordingIn dayOf track1 track2
+    seek enough faultIn firstBad shapeOf fitsText isDate tooMany
+    somePair firstOf yearsTo find put keep putAll delAll anyIn allIn twice first run answers machine packs eventNumbers eventRows
+    zeros others rowIn from rowsBytes encode emptied calls ascending isSound submitted
+fifth-gives = refl
+
+-- the records of the second file, and of those after it
 pub second-records : recordsIn visits ≡ send "I" ∷ events (record { tipo = code "I"; key = key }) [] ∷ []
 unfolding all any same turns loop decimalAfter runLength skipWs byte name value comment dashed declared attribute attributesStep attributes differ tag endTag
     piece content element declares declaration miscStep misc document namedIn recordOf firstNamed valueIn saidIn wordingIn dayOf track1 track2
@@ -226,11 +246,17 @@ unfolding all any same turns loop decimalAfter runLength skipWs byte name value 
     firstOf packs
 third-records = refl
 
-pub fourth-records : recordsIn withdrawal ≡ admit "C" "0202" ∷ admit "I" "0101" ∷ admit "C" "0101" ∷ []
+pub fourth-records : recordsIn withdrawal ≡ admit "A" "C" "0202" ∷ admit "A" "I" "0101" ∷ admit "A" "C" "0101" ∷ []
 unfolding all any same turns loop decimalAfter runLength skipWs byte name value comment dashed declared attribute attributesStep attributes differ tag endTag
     piece content element declares declaration miscStep misc document namedIn recordOf firstNamed valueIn saidIn wordingIn dayOf track1 track2
     firstOf packs
 fourth-records = refl
+
+pub fifth-records : recordsIn mistake ≡ admit "B" "I" "0101" ∷ admit "B" "C" "0101" ∷ []
+unfolding all any same turns loop decimalAfter runLength skipWs byte name value comment dashed declared attribute attributesStep attributes differ tag endTag
+    piece content element declares declaration miscStep misc document namedIn recordOf firstNamed valueIn saidIn wordingIn dayOf track1 track2
+    firstOf packs
+fifth-records = refl
 
 -- what the first record alone leaves
 pub first-record : leftBy admissions begun 1 ≡ held "0101"

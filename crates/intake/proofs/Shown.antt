@@ -16,7 +16,7 @@ use Rattle.model.specs.Log.{LastIs, Shown, EventStands, carriesAway, ofCase}
 use Rattle.model.specs.Flow.{State, empty, machine}
 use Rattle.model.proofs.MapLaws.{no-some}
 use Rattle.model.proofs.ChecksLaws.{clear}
-use Rattle.model.proofs.MachineLaws.{Every, every-at}
+use Rattle.laws.proofs.Every.{Every, every-at}
 use Rattle.model.proofs.Histories.{AllTaken, all-at, takenAll-all, log-every}
 use Rattle.register.specs.Layout.{caseNamed}
 use Rattle.register.specs.State.{encode}
@@ -138,7 +138,7 @@ module _ (n : ℕ) (xs : List Call) (k v : ℕ) where
 
   pub event-says : EventStands entryFlow k (logOf n xs) v → EventSays (logOf n xs) k v
   unfolding find
-  event-says h = go (h .by .context) (h .by .said) (h .is-last) (h .none-later) (h .keeps) (h .carries)
+  event-says h = let s = h .shown in go (s .by .context) (s .by .said) (s .is-last) (h .none-later) (s .keeps) (s .carries)
     where
       go : (c : Context) (r : Record) (l : LastIs (λ e. has k (entryFlow .eventRows e)) (logOf n xs) (entry c r)) →
           any (carriesAway entryFlow k) (l .after) ≡ false → isCancel (flow .kind r) ≡ false → find k (flow .eventRows r) ≡ some v → EventSays (logOf n xs) k v

@@ -23,7 +23,8 @@ use Rattle.model.specs.Flow as flows
 use Rattle.model.specs.Flow.{State}
 use Rattle.model.specs.Demands.{OneTrack}
 use Rattle.model.specs.Demands.OneTrack.{cases-only, events-only}
-use Rattle.model.proofs.MachineLaws.{Every, run-keeps-ok}
+use Rattle.laws.proofs.Every.{Every}
+use Rattle.model.proofs.MachineLaws.{run-keeps-ok}
 use Rattle.rows.specs.Packing.{each, Fit}
 use Rattle.register.specs.Layout.{caseNamed}
 use Rattle.register.specs.RoomAndEmptying.{room}

@@ -1,7 +1,7 @@
 -- A case that is newly inserted has no events yet: in a sound state every event's case stands. So its cancellation carries none of the earlier ones away.
 use Prim.Native.Nat.{ℕ}
 use mathlib.Core.Path.{_≡_, refl, sym, ap, _∙_, subst}
-use mathlib.Core.Bool.{Bool, true, false, true≢false}
+use mathlib.Core.Bool.{true, false, true≢false}
 use mathlib.Core.List.{List, _∷_, _++_}
 use mathlib.Core.Option.{Option, none, some}
 use Rattle.laws.proofs.Truth.{or-left}
@@ -10,7 +10,8 @@ use Rattle.model.specs.Machine.{run}
 use Rattle.model.specs.Log.{Undoes}
 use Rattle.model.specs.Flow.{State, empty, machine}
 use Rattle.model.proofs.MapLaws.{not-in}
-use Rattle.model.proofs.MachineLaws.{Every, every-front, run-keeps-ok}
+use Rattle.laws.proofs.Every.{Every, every-front}
+use Rattle.model.proofs.MachineLaws.{run-keeps-ok}
 use Rattle.model.proofs.Histories.{AllTaken, all-at, takenAll-all, log-every}
 use Rattle.register.specs.Layout.{caseNamed}
 use Rattle.home_care.specs.Row.{siad}

@@ -7,21 +7,13 @@ use mathlib.Core.Option.{Option, none, some}
 use lib.Dec.{eqb}
 use Rattle.laws.specs.Lists.{any, somePair}
 use Rattle.laws.proofs.Order.{Tri, below, equal, above, tri}
-use Rattle.laws.proofs.Truth.{or-left, or-right}
+use Rattle.laws.proofs.Truth.{or-left, or-right, or-swap, or-mix}
+use Rattle.laws.proofs.Lists.{any-or}
 use Rattle.laws.proofs.Every.{Every}
 use Rattle.model.specs.Map.{Row, Map, isSome, orElse, find, has, put, putAll, delAll, keep, Asc, anyIn, twice}
 use Rattle.model.proofs.Lists.{any-same}
 use Rattle.model.proofs.MapLaws.{find-keep, find-putAll, asc-keep, asc-putAll, ext}
 use Rattle.checks.proofs.RowTests.{has-more, has-first}
-
-or-swap : (a b c : Bool) → a || (b || c) ≡ b || (a || c)
-or-swap true true c = refl
-or-swap true false c = refl
-or-swap false b c = refl
-
-or-mix : (a b c d : Bool) → (a || b) || (c || d) ≡ (a || c) || (b || d)
-or-mix true b c d = refl
-or-mix false b c d = or-swap b c d
 
 -- ---- lists
 
@@ -31,11 +23,6 @@ module _ {A : Type 0} where
   unfolding any
   any-agree p q [] f h = refl
   any-agree p q (x ∷ l) f h = ap₂ (λ (a b : Bool). a || b) (f x (h .0)) (any-agree p q l f (h .1))
-
-  any-or : (p q : A → Bool) (l : List A) → any (λ x. p x || q x) l ≡ any p l || any q l
-  unfolding any
-  any-or p q [] = refl
-  any-or p q (x ∷ l) = ap (λ (b : Bool). (p x || q x) || b) (any-or p q l) ∙ or-mix (p x) (q x) (any p l) (any q l)
 
   -- some element with some element, where none goes with itself: some two, one way round or the other
   pub all-pairs : (p : A → A → Bool) (l : List A) → Every (λ x. p x x ≡ false) l → any (λ c. any (p c) l) l ≡ somePair (λ a b. p a b || p b a) l

@@ -1,18 +1,19 @@
 -- A case's rows, which ascend: what is looked for in a part of them, and an event found by its key.
 use Prim.Native.Nat.{ℕ, zero, suc, _+_, _-_, _*_, _≤_, _<_, _^_}
 use mathlib.Core.Path.{_≡_, refl, sym, ap, ap₂, _∙_}
-use mathlib.Core.Bool.{Bool, true, false, _||_, or-false, or-true, or-assoc, true≢false}
-use mathlib.Core.List.{List, [], _∷_, _++_, map}
+use mathlib.Core.Bool.{Bool, true, false, _||_, or-false, or-true, true≢false}
+use mathlib.Core.List.{List, [], _∷_, map}
 use native.Mathlib.Omega.{arith}
 use lib.Dec.{eqb}
 use borrow.Author.Tests.{ne-eqb, eq-eqb}
 use Rattle.laws.specs.Lists.{any, somePair}
 use Rattle.laws.proofs.Order.{Tri, below, equal, above, tri}
 use Rattle.laws.proofs.Truth.{or-left, or-right}
+use Rattle.laws.proofs.Lists.{any-append}
 use Rattle.laws.proofs.Every.{any-tell}
-use Rattle.model.specs.Map.{Row, Map}
+use Rattle.model.specs.Map.{Row}
 use Rattle.register.specs.Layout.{eventRest, rowIn}
-use Rattle.register.specs.State.{from, split, eventsFrom}
+use Rattle.register.specs.State.{from, split}
 use Rattle.register.specs.Search.{Rises, Placed}
 use Rattle.register.proofs.From.{from-cut}
 use Rattle.register.proofs.Walks.{from-next, from-none, from-every}
@@ -26,11 +27,6 @@ map-from : (f : ℕ → Row ℕ) (i k : ℕ) → map eventNumberIn (from f i k) 
 unfolding from
 map-from f i zero = refl
 map-from f i (suc k) = ap (λ (l : List ℕ). eventNumberIn (f i) ∷ l) (map-from f (suc i) k)
-
-any-append : (q : ℕ → Bool) (a b : List ℕ) → any q (a ++ b) ≡ (any q a || any q b)
-unfolding any
-any-append q [] b = refl
-any-append q (x ∷ a) b = ap (λ (t : Bool). q x || t) (any-append q a b) ∙ sym (or-assoc (q x) (any q a) (any q b))
 
 module _ (reg : List ℕ) where
   rows : (i k : ℕ) → standingIn reg i k ≡ from (eventAt reg) i (k - i)

@@ -1,7 +1,7 @@
 // A record's answer: the first of its checks that holds, in the order of J2 and J3.
 ghost use mathlib.Core.Path.{_≡_};
 ghost use mathlib.Core.Bool.{true, false};
-ghost use mathlib.Core.List.{List, map};
+ghost use mathlib.Core.List.{List};
 ghost use Prim.Native.Nat.{_+_, _≤_, _<_};
 ghost use lib.ListN.{length};
 ghost use Rattle.days.specs.DayNumbers.{dayCount};
@@ -12,8 +12,7 @@ ghost use Rattle.model.specs.Transmission.{isInsert, isCancel};
 ghost use Rattle.register.specs.Layout.{rowAt, casesHeld, eventsHeld};
 ghost use Rattle.register.specs.State.{stateOf};
 ghost use Rattle.register.specs.Search.{probeKey};
-ghost use Rattle.register.specs.Sound.{eventsOf};
-ghost use Rattle.home_care.specs.Row.{rowBytes, keyBits, eventNumberIn, siad};
+ghost use Rattle.home_care.specs.Row.{rowBytes, keyBits, siad};
 ghost use Rattle.home_care.specs.Record.{Head, Admission, Said, admission, events, typeOf};
 ghost use Rattle.soundness.specs.Sound.{isSound};
 ghost use Rattle.checks.specs.CheckOrder.{checksOf};

@@ -1,7 +1,7 @@
 -- Tests of whole lists as facts of every element, and two tests that hold together.
 use mathlib.Core.Path.{_≡_, refl, sym, ap₂, _∙_}
 use mathlib.Core.Bool.{Bool, true, false, not, _&&_, _||_, false≢true}
-use mathlib.Core.List.{List, [], _∷_}
+use mathlib.Core.List.{List, [], _∷_, _++_}
 use Rattle.laws.specs.Lists.{all, any}
 use Rattle.laws.proofs.Truth.{or-left, or-right, and-left, and-right}
 
@@ -17,6 +17,20 @@ module _ {A : Type 0} where
   pub every-both : {P Q R : A → Type 0} (l : List A) → ((x : A) → P x → Q x → R x) → Every P l → Every Q l → Every R l
   every-both [] f h g = tt
   every-both (x ∷ l) f h g = (f x (h .0) (g .0), every-both l f (h .1) (g .1))
+
+-- of a list that is cut
+module _ {A : Type 0} (P : A → Type 0) where
+  pub every-append : (a b : List A) → Every P a → Every P b → Every P (a ++ b)
+  every-append [] b h g = g
+  every-append (x ∷ a) b h g = (h .0, every-append a b (h .1) g)
+
+  pub every-front : (a b : List A) → Every P (a ++ b) → Every P a
+  every-front [] b h = tt
+  every-front (x ∷ a) b h = (h .0, every-front a b (h .1))
+
+  pub every-at : (a : List A) (x : A) (b : List A) → Every P (a ++ x ∷ b) → P x
+  every-at [] x b h = h .0
+  every-at (y ∷ a) x b h = every-at a x b (h .1)
 
 -- a test f of a whole list that is v where q is v at every element: `all` with true, `any` with false
 module _ {A : Type 0} (v : Bool) (op : Bool → Bool → Bool) (q : A → Bool) (f : List A → Bool) (step : (x : A) (l : List A) → f (x ∷ l) ≡ op (q x) (f l)) where

@@ -1,12 +1,12 @@
--- Tests on every element of a list.
+-- Tests on every element of a list, and on some.
 use Prim.Native.Nat.{ℕ, zero, suc, _<_}
-use mathlib.Core.Path.{_≡_, refl}
-use mathlib.Core.Bool.{Bool, true, false, _&&_}
+use mathlib.Core.Path.{_≡_, refl, sym, ap, _∙_}
+use mathlib.Core.Bool.{Bool, true, false, _&&_, _||_, or-assoc}
 use mathlib.Core.List.{List, [], _∷_, _++_}
 use native.Mathlib.Omega.{arith}
 use lib.ListN.{length, getD}
-use Rattle.laws.specs.Lists.{all}
-use Rattle.laws.proofs.Truth.{and-left, and-right}
+use Rattle.laws.specs.Lists.{all, any}
+use Rattle.laws.proofs.Truth.{and-left, and-right, or-mix}
 
 -- what all pass, the one at a place passes
 pub all-at : (p : ℕ → Bool) (l : List ℕ) → all p l ≡ true → (i : ℕ) → i < length l → p (getD l i 0) ≡ true
@@ -40,3 +40,17 @@ pub all-map : {A : Type 0} (p q : A → Bool) → ((x : A) → p x ≡ true → 
 unfolding all
 all-map p q f [] h = refl
 all-map p q f (x ∷ l) h = rw (f x (and-left (p x) (all p l) h)) (all-map p q f l (and-right (p x) (all p l) h))
+
+-- ---- some element
+
+module _ {A : Type 0} (p : A → Bool) where
+  pub any-append : (a b : List A) → any p (a ++ b) ≡ (any p a || any p b)
+  unfolding any
+  any-append [] b = refl
+  any-append (x ∷ a) b = ap (λ (t : Bool). p x || t) (any-append a b) ∙ sym (or-assoc (p x) (any p a) (any p b))
+
+  -- one test or the other
+  pub any-or : (q : A → Bool) (l : List A) → any (λ x. p x || q x) l ≡ any p l || any q l
+  unfolding any
+  any-or q [] = refl
+  any-or q (x ∷ l) = ap (λ (b : Bool). (p x || q x) || b) (any-or q l) ∙ or-mix (p x) (q x) (any p l) (any q l)

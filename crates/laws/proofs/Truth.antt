@@ -39,3 +39,12 @@ and-right false b e = absurd (false≢true e)
 pub and-false : (a : Bool) → a && false ≡ false
 and-false true = refl
 and-false false = refl
+
+pub or-swap : (a b c : Bool) → a || (b || c) ≡ b || (a || c)
+or-swap true true c = refl
+or-swap true false c = refl
+or-swap false b c = refl
+
+pub or-mix : (a b c d : Bool) → (a || b) || (c || d) ≡ (a || c) || (b || d)
+or-mix true b c d = refl
+or-mix false b c d = or-swap b c d

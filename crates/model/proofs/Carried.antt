@@ -4,16 +4,18 @@ use mathlib.Core.Path.{_≡_, refl, sym, ap, ap₂, _∙_}
 use mathlib.Core.Logic.{_↔_}
 use mathlib.Core.Bool.{Bool, true, false, cond, not, _&&_, _||_, true≢false}
 use mathlib.Core.List.{List, [], _∷_, _++_, map, flatMap}
-use mathlib.Core.Option.{Option, some}
+use mathlib.Core.Option.{some}
 use native.Mathlib.Omega.{arith}
 use lib.Dec.{eqb}
 use lib.ListN.{length}
 use borrow.Author.Tests.{eqb-true}
 use Rattle.laws.specs.Lists.{all, any}
 use Rattle.laws.proofs.Truth.{or-left, or-right, and-left, and-right}
-use Rattle.model.proofs.MapLaws.{keep-true, keep-none}
+use Rattle.laws.proofs.Lists.{any-append, any-or}
+use Rattle.laws.proofs.Every.{Every, every-map}
+use Rattle.model.proofs.MapLaws.{keep-true, keep-same, keep-keep, keep-none}
 use Rattle.model.proofs.MapSizes.{size-keep}
-use Rattle.model.proofs.MachineLaws.{Every, every-map, taken-every}
+use Rattle.model.proofs.MachineLaws.{taken-every}
 use Rattle.model.proofs.FlowHistories.{events-plain}
 use Rattle.model.specs.Map.{Map, isSome, find, has, keep, putAll, delAll}
 use Rattle.model.specs.Checks.{Check}
@@ -27,23 +29,6 @@ use Rattle.model.specs.Demands.OneTrack.{cases-only, events-only}
 -- ---- rows that pass one of two tests
 
 module _ {F : Type 0} where
-  keep-keep : (p q : ℕ → Bool) (m : Map F) → keep (λ k. not (p k)) (keep (λ k. not (q k)) m) ≡ keep (λ k. not (q k || p k)) m
-  unfolding keep
-  keep-keep p q [] = refl
-  keep-keep p q (x ∷ m) = go (q (x .key)) (p (x .key)) refl (keep-keep p q m)
-    where
-      go : (b c : Bool) → p (x .key) ≡ c → keep (λ k. not (p k)) (keep (λ k. not (q k)) m) ≡ keep (λ k. not (q k || p k)) m →
-          keep (λ k. not (p k)) (cond (not b) (x ∷ keep (λ k. not (q k)) m) (keep (λ k. not (q k)) m)) ≡
-          cond (not (b || c)) (x ∷ keep (λ k. not (q k || p k)) m) (keep (λ k. not (q k || p k)) m)
-      go true c e ih = ih
-      go false true e ih = rw e ih
-      go false false e ih = rw e (ap (λ (n : Map F). x ∷ n) ih)
-
-  pub keep-same : (p q : ℕ → Bool) (m : Map F) → ((k : ℕ) → p k ≡ q k) → keep p m ≡ keep q m
-  unfolding keep
-  keep-same p q [] h = refl
-  keep-same p q (x ∷ m) h = rw (h (x .key), keep-same p q m h) refl
-
   -- tests that never both hold
   keep-either : (p q : ℕ → Bool) (m : Map F) → ((k : ℕ) → p k ≡ true → q k ≡ false) →
       length (keep (λ k. p k || q k) m) ≡ length (keep p m) + length (keep q m)
@@ -66,7 +51,7 @@ module _ {F : Type 0} (own : ℕ → ℕ) (m : Map F) where
   rowsOf c = keep (λ k. eqb (own k) c) m
 
   -- counted case by case, each case once
-  pub each-once : (cs : List ℕ) → sumOf (λ c. length (rowsOf c)) (distinct cs) ≡ length (keep (λ k. any (eqb (own k)) cs) m)
+  each-once : (cs : List ℕ) → sumOf (λ c. length (rowsOf c)) (distinct cs) ≡ length (keep (λ k. any (eqb (own k)) cs) m)
   unfolding distinct sumOf any
   each-once [] = sym (ap length (keep-none (λ k. false) m (λ k. refl)))
   each-once (c ∷ cs) = go (any (eqb c) cs) refl (each-once cs)
@@ -98,15 +83,6 @@ has-keys k (x ∷ m) = go (eqb k (x .key)) (has-keys k m)
     go true ih = refl
     go false ih = ih
 
-any-append : {A : Type 0} (p : A → Bool) (a b : List A) → any p (a ++ b) ≡ (any p a || any p b)
-unfolding any
-any-append p [] b = refl
-any-append p (x ∷ a) b = go (p x) (any-append p a b)
-  where
-    go : (c : Bool) → any p (a ++ b) ≡ (any p a || any p b) → (c || any p (a ++ b)) ≡ ((c || any p a) || any p b)
-    go true ih = refl
-    go false ih = ih
-
 empty-map : {F : Type 0} (m : Map F) → eqb (length m) 0 ≡ true → m ≡ []
 empty-map [] e = refl
 empty-map (x ∷ m) e = absurd (let z : length (x ∷ m) ≡ 0 = eqb-true (length (x ∷ m)) 0 e in omega arith)
@@ -130,6 +106,10 @@ keys-none : {F : Type 0} (b : Bool) (m : Map F) → m ≡ [] → cond b (map (λ
 keys-none true m e = ap (map (λ x. x .key)) e
 keys-none false m e = refl
 
+neither : (a b : Bool) → not a && not b ≡ not (a || b)
+neither true b = refl
+neither false b = refl
+
 module _ {F E R : Type 0} (f : Flow F E R) (checks : R → List (Check (State F E))) where
   -- one record without event rows
   one-left : (t : Kind) (cs : Map F) (w : ℕ → Bool) (s : State F E) → applied t cs [] w s .events ≡ keep (λ k. not (isCancel t && w k)) (s .events)
@@ -143,7 +123,7 @@ module _ {F E R : Type 0} (f : Flow F E R) (checks : R → List (Check (State F 
   act-left s r e = ap (λ (es : Map E). applied (f .kind r) (f .caseRows r) es (f .away r) s .events) e ∙ one-left (f .kind r) (f .caseRows r) (f .away r) s
 
   -- what a file without event rows leaves of the events: those that no accepted cancellation carries away
-  pub left-after : (s : State F E) (rs : List R) → Every (λ r. f .eventRows r ≡ []) rs →
+  left-after : (s : State F E) (rs : List R) → Every (λ r. f .eventRows r ≡ []) rs →
       run (machine f checks) s rs .events ≡ keep (λ k. not (any (carriesAway f k) (acceptedBy (machine f checks) s rs))) (s .events)
   unfolding run acceptedBy any
   left-after s [] h = sym (keep-true (λ k. true) (s .events) (λ k. refl))
@@ -162,9 +142,18 @@ module _ {F E R : Type 0} (f : Flow F E R) (checks : R → List (Check (State F 
       go true old new =
           new
           ∙ ap (keep (λ k. not (any (carriesAway f k) (acceptedBy m (m .act s r) rs)))) (act-left s r (h .0))
-          ∙ keep-keep (λ k. any (carriesAway f k) (acceptedBy m (m .act s r) rs)) (λ k. carriesAway f k r) (s .events)
+          ∙ keep-keep (λ k. not (any (carriesAway f k) (acceptedBy m (m .act s r) rs))) (λ k. not (carriesAway f k r)) (s .events)
+          ∙ keep-same _ (λ k. not (carriesAway f k r || any (carriesAway f k) (acceptedBy m (m .act s r) rs))) (s .events)
+          (λ k. neither (carriesAway f k r) (any (carriesAway f k) (acceptedBy m (m .act s r) rs)))
 
   -- ---- in a file of one track
+
+  -- K2, where `own k` is the case of the event k
+  abbrev Total : (ℕ → ℕ) → State F E → List R → Type 0
+  Total own s rs =
+      length (run (machine f checks) s rs .events)
+      + (sumOf (eventsOut f) (acceptedBy (machine f checks) s rs) + carriedOnce f own (s .events) (acceptedBy (machine f checks) s rs))
+      ≡ length (s .events) + sumOf (eventsIn f) (acceptedBy (machine f checks) s rs)
 
   module _ (own : ℕ → ℕ) (along : (r : R) (k : ℕ) → f .away r k ≡ has (own k) (f .caseRows r)) where
     -- an event is carried away where its case is among those cancelled
@@ -183,14 +172,12 @@ module _ {F E R : Type 0} (f : Flow F E R) (checks : R → List (Check (State F 
         ap₂ _||_ (away-named k r) (any-named k log) ∙ sym (any-append (eqb (own k)) (casesCancelled f r) (flatMap (casesCancelled f) log))
 
     -- Track 1: no record has events of its own
-    once-cases : (s : State F E) (rs : List R) → Every (λ r. f .eventRows r ≡ []) rs →
-        length (run (machine f checks) s rs .events) + (sumOf (eventsOut f) (acceptedBy (machine f checks) s rs) + carriedOnce f own (s .events) (acceptedBy (machine f checks) s rs)) ≡
-        length (s .events) + sumOf (eventsIn f) (acceptedBy (machine f checks) s rs)
+    once-cases : (s : State F E) (rs : List R) → Every (λ r. f .eventRows r ≡ []) rs → Total own s rs
     once-cases s rs h =
         let log : List R = acceptedBy (machine f checks) s rs in
         let few : Every (λ r. f .eventRows r ≡ []) log = taken-every (machine f checks) (λ r. f .eventRows r ≡ []) s rs h in
-        let out : sumOf (eventsOut f) log ≡ 0 = sum-none (eventsOut f) log (every-map _ (λ r. eventsOut f r ≡ 0) (λ r. count-none (isCancel (f .kind r)) (f .eventRows r)) log few) in
-        let new : sumOf (eventsIn f) log ≡ 0 = sum-none (eventsIn f) log (every-map _ (λ r. eventsIn f r ≡ 0) (λ r. count-none (isInsert (f .kind r)) (f .eventRows r)) log few) in
+        let out : sumOf (eventsOut f) log ≡ 0 = sum-none (eventsOut f) log (every-map log (λ r. count-none (isCancel (f .kind r)) (f .eventRows r)) few) in
+        let new : sumOf (eventsIn f) log ≡ 0 = sum-none (eventsIn f) log (every-map log (λ r. count-none (isInsert (f .kind r)) (f .eventRows r)) few) in
         let gone : carriedOnce f own (s .events) log ≡ length (keep (λ k. any (carriesAway f k) log) (s .events))
         = each-once own (s .events) (flatMap (casesCancelled f) log)
         ∙ ap length (keep-same (λ k. any (eqb (own k)) (flatMap (casesCancelled f) log)) (λ k. any (carriesAway f k) log) (s .events) (λ k. sym (any-named k log))) in
@@ -209,69 +196,65 @@ module _ {F E R : Type 0} (f : Flow F E R) (checks : R → List (Check (State F 
     unfolding find
     away-none r e k = along r k ∙ ap (has (own k)) e
 
-    once-events : Lawful f checks → (s : State F E) → Good s → (rs : List R) → Every (λ r. f .caseRows r ≡ []) rs →
-        length (run (machine f checks) s rs .events) + (sumOf (eventsOut f) (acceptedBy (machine f checks) s rs) + carriedOnce f own (s .events) (acceptedBy (machine f checks) s rs)) ≡
-        length (s .events) + sumOf (eventsIn f) (acceptedBy (machine f checks) s rs)
+    once-events : Lawful f checks → (s : State F E) → Good s → (rs : List R) → Every (λ r. f .caseRows r ≡ []) rs → Total own s rs
     unfolding distinct sumOf
     once-events w s g rs h =
         let log : List R = acceptedBy (machine f checks) s rs in
         let gone : carriedOnce f own (s .events) log ≡ 0
         = ap (λ (cs : List ℕ). sumOf (λ c. length (keep (λ k. eqb (own k) c) (s .events))) (distinct cs))
         (none-named log (taken-every (machine f checks) (λ r. f .caseRows r ≡ []) s rs h)) in
-        omega (arith, events-plain f checks w s g rs (every-map _ (λ r. (k : ℕ) → f .away r k ≡ false) away-none rs h))
+        omega (arith, events-plain f checks w s g rs (every-map rs away-none h))
 
-  pub once : Lawful f checks → (s : State F E) → Good s → (rs : List R) (own : ℕ → ℕ) → ((r : R) (k : ℕ) → f .away r k ≡ has (own k) (f .caseRows r)) → OneTrack f rs →
-      length (run (machine f checks) s rs .events) + (sumOf (eventsOut f) (acceptedBy (machine f checks) s rs) + carriedOnce f own (s .events) (acceptedBy (machine f checks) s rs)) ≡
-      length (s .events) + sumOf (eventsIn f) (acceptedBy (machine f checks) s rs)
+  pub once : Lawful f checks → (s : State F E) → Good s → (rs : List R) (own : ℕ → ℕ) → ((r : R) (k : ℕ) → f .away r k ≡ has (own k) (f .caseRows r)) →
+      OneTrack f rs → Total own s rs
   once w s g rs own along (cases-only h) = once-cases own along s rs (every-empty (f .eventRows) rs h)
   once w s g rs own along (events-only h) = once-events own along w s g rs (every-empty (f .caseRows) rs h)
 
 -- ---- "no accepted cancellation of its case came later"
 
-module _ {R : Type 0} (p q : R → Bool) where
-  split-any : (l : List R) → any (λ r. p r || q r) l ≡ false → (any p l ≡ false) × (any q l ≡ false)
-  unfolding any
-  split-any [] e = (refl, refl)
-  split-any (r ∷ l) e =
-      let h : p r || q r ≡ false = or-left (p r || q r) (any (λ r. p r || q r) l) e in
-      let ih = split-any l (or-right (p r || q r) (any (λ r. p r || q r) l) e) in
-      (rw (or-left (p r) (q r) h) (ih .0), rw (or-right (p r) (q r) h) (ih .1))
-
-  join-any : (l : List R) → any p l ≡ false → any q l ≡ false → any (λ r. p r || q r) l ≡ false
-  unfolding any
-  join-any [] a b = refl
-  join-any (r ∷ l) a b =
-      rw (or-left (p r) (any p l) a, or-left (q r) (any q l) b) (join-any l (or-right (p r) (any p l) a) (or-right (q r) (any q l) b))
-
 -- the last record that speaks of an event is the last with its key, none that carries it away after it
 pub in-words : {F E R : Type 0} (f : Flow F E R) (k : ℕ) (log : List R) (v : E) →
     Shown (f .kind) (λ r. find k (f .eventRows r)) (ofEvent f k) log v ↔ EventStands f k log v
-in-words f k log v = (to, from)
+in-words {R = R} f k log v = (to, from)
   where
+    named : R → Bool
+    named r = has k (f .eventRows r)
+
     to : Shown (f .kind) (λ r. find k (f .eventRows r)) (ofEvent f k) log v → EventStands f k log v
     to h =
-        let n = split-any (λ r. has k (f .eventRows r)) (carriesAway f k) (h .is-last .after) (h .is-last .none-after) in
+        let n : any named (h .is-last .after) || any (carriesAway f k) (h .is-last .after) ≡ false
+        = sym (any-or named (carriesAway f k) (h .is-last .after)) ∙ h .is-last .none-after in
         record {
-          by = h .by;
-          is-last =
-              record { before = h .is-last .before; after = h .is-last .after; list = h .is-last .list; passes = ap isSome (h .carries); none-after = n .0 };
-          keeps = h .keeps;
-          carries = h .carries;
-          none-later = n .1;
+          shown =
+              record {
+                by = h .by;
+                is-last =
+                    record {
+                      before = h .is-last .before;
+                      after = h .is-last .after;
+                      list = h .is-last .list;
+                      passes = ap isSome (h .carries);
+                      none-after = or-left (any named (h .is-last .after)) (any (carriesAway f k) (h .is-last .after)) n;
+                    };
+                keeps = h .keeps;
+                carries = h .carries;
+              };
+          none-later = or-right (any named (h .is-last .after)) (any (carriesAway f k) (h .is-last .after)) n;
         }
 
     from : EventStands f k log v → Shown (f .kind) (λ r. find k (f .eventRows r)) (ofEvent f k) log v
     from h =
+        let l = h .shown .is-last in
         record {
-          by = h .by;
+          by = h .shown .by;
           is-last =
               record {
-                before = h .is-last .before;
-                after = h .is-last .after;
-                list = h .is-last .list;
-                passes = rw (ap isSome (h .carries)) refl;
-                none-after = join-any (λ r. has k (f .eventRows r)) (carriesAway f k) (h .is-last .after) (h .is-last .none-after) (h .none-later);
+                before = l .before;
+                after = l .after;
+                list = l .list;
+                passes = rw (ap isSome (h .shown .carries)) refl;
+                none-after = any-or named (carriesAway f k) (l .after) ∙ rw (l .none-after) (h .none-later);
               };
-          keeps = h .keeps;
-          carries = h .carries;
+          keeps = h .shown .keeps;
+          carries = h .shown .carries;
         }

@@ -11,7 +11,8 @@ use lib.ListN.{length}
 use Rattle.laws.proofs.Truth.{cond-both, or-left, or-right}
 use Rattle.model.proofs.MapLaws.{find-nil, not-in, no-some, keep-none}
 use Rattle.model.proofs.Lists.{lastOf-iff}
-use Rattle.model.proofs.MachineLaws.{Every, run-append, step-taken, run-keeps, runAll-keeps, conserved, total-taken, total-same}
+use Rattle.laws.proofs.Every.{Every}
+use Rattle.model.proofs.MachineLaws.{run-append, step-taken, run-keeps, runAll-keeps, conserved, total-taken, total-same}
 use Rattle.model.proofs.Histories.{resolve, runAll-look, AllTaken, all-back, takenAll-all, log-run}
 use Rattle.model.proofs.FlowLaws.{same, case-found, event-found, good-applied, cases-size, events-size, fits-applied}
 use Rattle.model.specs.Map.{isSome, find, has, Asc, delAll, anyIn}

@@ -7,7 +7,8 @@ use mathlib.Core.Option.{Option, none, some}
 use lib.Dec.{eqb}
 use borrow.Author.Tests.{eqb-true}
 use Rattle.model.proofs.Lists.{lastOf-append}
-use Rattle.model.proofs.MachineLaws.{Every, every-append, run-append, taken-append, taken-every}
+use Rattle.laws.proofs.Every.{Every, every-append}
+use Rattle.model.proofs.MachineLaws.{run-append, taken-append, taken-every}
 use Rattle.model.specs.Map.{orElse}
 use Rattle.model.specs.Machine.{Machine, accepts, step, run}
 use Rattle.model.specs.Log.{lastOf, acceptedBy, runAll, takenAll}

@@ -8,30 +8,9 @@ use native.Mathlib.Omega.{arith}
 use lib.ListN.{length, getD, take}
 use lib.Dec.{eqb}
 use borrow.Author.Tests.{eqb-true, ne-eqb}
+use Rattle.laws.proofs.Every.{Every}
 use Rattle.model.specs.Machine.{Machine, zeros, others, accepts, step, run, answers}
 use Rattle.model.specs.Log.{sumOf, atZeros, acceptedBy, total, runAll}
-
--- ---- what holds of every record of a list
-abbrev pub Every : {R : Type 0} → (R → Type 0) → List R → Type 0
-Every P [] = Unit {0}
-Every P (r ∷ rs) = P r × Every P rs
-
-module _ {R : Type 0} (P : R → Type 0) where
-  pub every-append : (a b : List R) → Every P a → Every P b → Every P (a ++ b)
-  every-append [] b h g = g
-  every-append (r ∷ a) b h g = (h .0, every-append a b (h .1) g)
-
-  pub every-front : (a b : List R) → Every P (a ++ b) → Every P a
-  every-front [] b h = tt
-  every-front (r ∷ a) b h = (h .0, every-front a b (h .1))
-
-  pub every-at : (a : List R) (r : R) (b : List R) → Every P (a ++ r ∷ b) → P r
-  every-at [] r b h = h .0
-  every-at (x ∷ a) r b h = every-at a r b (h .1)
-
-  pub every-map : (Q : R → Type 0) → ((r : R) → P r → Q r) → (l : List R) → Every P l → Every Q l
-  every-map Q f [] h = tt
-  every-map Q f (r ∷ l) h = (f r (h .0), every-map Q f l (h .1))
 
 pub zeros-others : (ns : List ℕ) → zeros ns + others ns ≡ length ns
 unfolding zeros others

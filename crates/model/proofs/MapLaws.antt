@@ -2,7 +2,7 @@
 use Prim.Native.Nat.{ℕ, suc, _≤_, _<_}
 use mathlib.Core.Path.{_≡_, refl, sym, ap, _∙_}
 use mathlib.Core.Logic.{_⊎_, inl, inr}
-use mathlib.Core.Bool.{Bool, true, false, cond, not, _||_, true≢false, false≢true}
+use mathlib.Core.Bool.{Bool, true, false, cond, not, _&&_, _||_, true≢false, false≢true}
 use mathlib.Core.List.{[], _∷_}
 use mathlib.Core.Option.{Option, none, some}
 use native.Mathlib.Omega.{arith}
@@ -212,6 +212,23 @@ module _ {F : Type 0} where
   unfolding keep
   keep-true p [] h = refl
   keep-true p (x ∷ m) h = simp (h (x .key), keep-true p m h)
+
+  pub keep-same : (p q : ℕ → Bool) (m : Map F) → ((k : ℕ) → p k ≡ q k) → keep p m ≡ keep q m
+  unfolding keep
+  keep-same p q [] h = refl
+  keep-same p q (x ∷ m) h = rw (h (x .key), keep-same p q m h)
+
+  -- two tests, one after the other
+  pub keep-keep : (p q : ℕ → Bool) (m : Map F) → keep p (keep q m) ≡ keep (λ k. q k && p k) m
+  unfolding keep
+  keep-keep p q [] = refl
+  keep-keep p q (x ∷ m) = go (q (x .key)) (p (x .key)) refl (keep-keep p q m)
+    where
+      go : (b c : Bool) → p (x .key) ≡ c → keep p (keep q m) ≡ keep (λ k. q k && p k) m →
+          keep p (cond b (x ∷ keep q m) (keep q m)) ≡ cond (b && c) (x ∷ keep (λ k. q k && p k) m) (keep (λ k. q k && p k) m)
+      go true true e ih = rw e (ap (λ (n : Map F). x ∷ n) ih)
+      go true false e ih = rw e ih
+      go false c e ih = ih
 
   pub keep-none : (p : ℕ → Bool) (m : Map F) → ((k : ℕ) → p k ≡ false) → keep p m ≡ []
   unfolding keep

@@ -28,7 +28,8 @@ pub record Flow (F E R : Type 0) : Type 0 where
   pub eventRows : R → Map E
   pub away : R → ℕ → Bool
 
--- W1, W2: "puts whole rows in the place of those with their keys"; W3: "takes out the rows with the record's keys"
+-- W1, W2: "puts whole rows in the place of those with their keys"; W3: "takes out the rows with the record's keys, and one of Track 1 all events of its
+-- case": those that w tells
 abbrev pub applied : {F E : Type 0} → Kind → Map F → Map E → (ℕ → Bool) → State F E → State F E
 applied insert cs es w s = record { cases = putAll cs (s .cases); events = putAll es (s .events) }
 applied vary cs es w s = record { cases = putAll cs (s .cases); events = putAll es (s .events) }

@@ -102,11 +102,8 @@ module _ {F E R : Type 0} (f : Flow F E R) where
 
   -- K6: "the last accepted record with its key inserts or varies it and, of an event, no accepted cancellation of its case came later"
   pub record EventStands (k : ℕ) (log : List R) (v : E) : Type 0 where
-    pub by : R
-    pub is-last : LastIs (λ r. has k (f .eventRows r)) log by
-    pub keeps : isCancel (f .kind by) ≡ false
-    pub carries : find k (f .eventRows by) ≡ some v
-    pub none-later : any (carriesAway k) (is-last .after) ≡ false
+    pub shown : Shown (f .kind) (λ r. find k (f .eventRows r)) (λ r. has k (f .eventRows r)) log v
+    pub none-later : any (carriesAway k) (shown .is-last .after) ≡ false
 
   -- what it then shows
   abbrev pub caseShown : ℕ → R → Option F

@@ -9,13 +9,13 @@ use Rattle.register.specs.Moves.{removed, removedRows, withCount}
 use Rattle.register.specs.Search.{keyAt, probeKey, Placed, Ranged}
 use Rattle.register.specs.RoomAndEmptying.{mostRows}
 
--- row i is of the group and has the row's key
+-- row i stands before row hi and begins with the probe's key
 abbrev pub standsAt : ℕ → ℕ → ℕ → List ℕ → List ℕ → ℕ → Bool
-standsAt w k hi row a i = ltb i hi && eqb (keyAt w k a i) (probeKey w k row)
+standsAt w k hi probe a i = ltb i hi && eqb (keyAt w k a i) (probeKey w k probe)
 
--- i is the row's place in the group
+-- i is the place of the probe's key among the rows from lo up to hi
 abbrev pub PlacedAt : ℕ → ℕ → ℕ → ℕ → List ℕ → List ℕ → ℕ → Type 0
-PlacedAt w k lo hi row a i = Placed (keyAt w k a) (probeKey w k row) lo hi i
+PlacedAt w k lo hi probe a i = Placed (keyAt w k a) (probeKey w k probe) lo hi i
 
 -- case i and the events from row lo up to hi taken out, with the counts: first the rows between close up, and the row that they free goes with the events
 abbrev pub caseTaken : ℕ → ℕ → ℕ → ℕ → ℕ → ℕ → List ℕ → List ℕ

@@ -76,7 +76,7 @@ fn close_row(part: &mut [u8], w: usize)
 }
 
 // The same by j rows of w bytes, with a branch for one row as above.
-pub fn close_rows(part: &mut [u8], w: usize, j: usize)
+fn close_rows(part: &mut [u8], w: usize, j: usize)
     requires { ⌜ w * j ≤ length (now part) ⌝ }
     ensures { λ _. ⌜ now (part .exit) ≡ closedUp (w * j) (now (part .entry)) ⌝ }
 {
