@@ -20,7 +20,7 @@ use Rattle.intake.specs.FileAnswers.{Submitted, submitted}
 use Rattle.intake.specs.Demands.{Answered, leftBy}
 use Rattle.intake.proofs.SoundBytes.{fit-zeros}
 use Rattle.intake.proofs.Files.{taken-answers, Alike, answered-once}
-use Rattle.intake.proofs.Samples.{admissions, begun, held, holding, first-gives, first-record}
+use Rattle.intake.proofs.Samples.{admissions, begun, held, holding, first-record, gives}
 
 fit : Fit (each 8 begun)
 unfolding emptied calls
@@ -39,20 +39,20 @@ differ e =
 
 module _ (r : Submitted) (d : Answered admissions begun r) where
   alike : Alike r (submitted admissions begun)
-  alike = answered-once admissions begun r (submitted admissions begun) d (taken-answers admissions begun fit (ap (λ (g : Submitted). g .answer) first-gives))
+  alike = answered-once admissions begun r (submitted admissions begun) d (taken-answers admissions begun fit (ap (λ (g : Submitted). g .answer) (gives .first)))
 
   answers-are : r .answers ≡ 0 ∷ 14 ∷ 0 ∷ 9 ∷ []
-  answers-are = alike .answers ∙ ap (λ (g : Submitted). g .answers) first-gives
+  answers-are = alike .answers ∙ ap (λ (g : Submitted). g .answers) (gives .first)
 
   register-is : r .register ≡ holding (held "0202")
-  register-is = alike .register ∙ ap (λ (g : Submitted). g .register) first-gives
+  register-is = alike .register ∙ ap (λ (g : Submitted). g .register) (gives .first)
 
   -- X6: "Counts are invented (K3): the answer list fixes them"
   pub invented : (r .records ≡ 3) × (r .accepted ≡ 2) × (r .discarded ≡ 1)
   invented = (
-    alike .records ∙ ap (λ (g : Submitted). g .records) first-gives,
-    alike .accepted ∙ ap (λ (g : Submitted). g .accepted) first-gives,
-    alike .discarded ∙ ap (λ (g : Submitted). g .discarded) first-gives,
+    alike .records ∙ ap (λ (g : Submitted). g .records) (gives .first),
+    alike .accepted ∙ ap (λ (g : Submitted). g .accepted) (gives .first),
+    alike .discarded ∙ ap (λ (g : Submitted). g .discarded) (gives .first),
   )
 
   -- X4: "Everything is discarded"

@@ -23,7 +23,7 @@ use Rattle.intake.specs.FileAnswers.{Call, Submitted, contextOf, submitt
 use Rattle.intake.specs.RecordsIn.{recordsIn}
 use Rattle.intake.specs.Histories.{Entry, entry, entryFlow, regAfter, logOf, CaseSays, EventSays}
 use Rattle.intake.proofs.OnBytes.{on-bytes}
-use Rattle.intake.proofs.Samples.{admissions, visits, cancellation, withdrawal, mistake, register, key, caseSaid, visit, admit, send, second-gives, third-gives, fourth-gives, fifth-gives, second-records, third-records, fourth-records, fifth-records, after-first, after-second, after-fourth, both-stand}
+use Rattle.intake.proofs.Samples.{admissions, visits, cancellation, withdrawal, mistake, register, key, caseSaid, visit, admit, send, after-first, after-second, after-fourth, both-stand, gives, says}
 
 abbrev n : ℕ
 n = length register
@@ -51,16 +51,16 @@ cancelling = entry (contextOf cancellation n) (send "C")
 log-second : logOf n (admissions ∷ visits ∷ []) ≡ logOf n (admissions ∷ []) ++ inserting ∷ []
 unfolding atZeros
 log-second =
-    let e = ap (submitted visits) after-first ∙ second-gives in
+    let e = ap (submitted visits) after-first ∙ gives .second in
     adds (admissions ∷ []) visits (0 ∷ 20 ∷ 9 ∷ 9 ∷ []) _ (ap (λ (r : Submitted). r .answer) e) (ap (λ (r : Submitted). r .answers) e)
-    second-records
+    (says .second)
 
 log-third : logOf n (admissions ∷ visits ∷ cancellation ∷ []) ≡ logOf n (admissions ∷ visits ∷ []) ++ cancelling ∷ []
 unfolding atZeros
 log-third =
-    let e = ap (submitted cancellation) after-second ∙ third-gives in
+    let e = ap (submitted cancellation) after-second ∙ gives .third in
     adds (admissions ∷ visits ∷ []) cancellation (0 ∷ 9 ∷ 9 ∷ 9 ∷ []) _ (ap (λ (r : Submitted). r .answer) e) (ap (λ (r : Submitted). r .answers) e)
-    third-records
+    (says .third)
 
 -- the insertion undone, in two files
 pub undone : regAfter register (admissions ∷ visits ∷ cancellation ∷ []) ≡ regAfter register (admissions ∷ [])
@@ -78,8 +78,8 @@ mistaking tipo = entry (contextOf mistake n) (admit "B" tipo "0101")
 log-fifth : logOf n (admissions ∷ visits ∷ mistake ∷ []) ≡ logOf n (admissions ∷ visits ∷ []) ++ mistaking "I" ∷ mistaking "C" ∷ []
 unfolding atZeros
 log-fifth =
-    let e = ap (submitted mistake) after-second ∙ fifth-gives in
-    adds (admissions ∷ visits ∷ []) mistake (0 ∷ 0 ∷ 9 ∷ 9 ∷ []) _ (ap (λ (r : Submitted). r .answer) e) (ap (λ (r : Submitted). r .answers) e) fifth-records
+    let e = ap (submitted mistake) after-second ∙ gives .fifth in
+    adds (admissions ∷ visits ∷ []) mistake (0 ∷ 0 ∷ 9 ∷ 9 ∷ []) _ (ap (λ (r : Submitted). r .answer) e) (ap (λ (r : Submitted). r .answers) e) (says .fifth)
 
 pub case-undone : regAfter register (admissions ∷ visits ∷ mistake ∷ []) ≡ regAfter register (admissions ∷ visits ∷ [])
 case-undone =
@@ -97,9 +97,9 @@ later = withdrawing "C" "0202" ∷ withdrawing "I" "0101" ∷ withdrawing "C" "0
 log-fourth : logOf n (admissions ∷ visits ∷ withdrawal ∷ []) ≡ logOf n (admissions ∷ visits ∷ []) ++ later
 unfolding atZeros
 log-fourth =
-    let e = ap (submitted withdrawal) after-second ∙ fourth-gives in
+    let e = ap (submitted withdrawal) after-second ∙ gives .fourth in
     adds (admissions ∷ visits ∷ []) withdrawal (0 ∷ 0 ∷ 0 ∷ 9 ∷ []) _ (ap (λ (r : Submitted). r .answer) e) (ap (λ (r : Submitted). r .answers) e)
-    fourth-records
+    (says .fourth)
 
 -- the last record with the visit's key inserted it, and a cancellation of its case came later: it doesn't stand
 pub visit-last : LastIs (λ e. has visitKey (entryFlow .eventRows e)) (logOf n (admissions ∷ visits ∷ withdrawal ∷ [])) inserting

@@ -183,80 +183,44 @@ begun = regAfter register []
 abbrev pub holding : State ℕ ℕ → List ℕ
 holding s = encode siad 368 s
 
--- Track 1: accepted, 14, accepted; the case stands as the third record says it
-pub first-gives : submitted admissions begun ≡
-    record { answer = 0; number = 0; records = 3; accepted = 2; discarded = 1; register = holding (held "0202"); answers = 0 ∷ 14 ∷ 0 ∷ 9 ∷ [] }
-unfolding all any same turns loop decimalAfter runLength skipWs byte name value comment dashed declared attribute attributesStep attributes differ tag endTag
-    piece content element declares declaration miscStep misc document namedIn recordOf firstNamed valueIn saidIn wordingIn dayOf track1 track2
-    seek enough faultIn firstBad shapeOf fitsText isDate tooMany
-    somePair firstOf yearsTo find put keep putAll delAll anyIn allIn twice first run answers machine packs eventNumbers eventRows
-    zeros others rowIn from rowsBytes encode emptied calls ascending isSound submitted
-first-gives = refl
+-- what the five calls give
+pub record Given : Type 0 where
+  -- Track 1: accepted, 14, accepted; the case stands as the third record says it
+  pub first : submitted admissions begun ≡
+      record { answer = 0; number = 0; records = 3; accepted = 2; discarded = 1; register = holding (held "0202"); answers = 0 ∷ 14 ∷ 0 ∷ 9 ∷ [] }
+  -- Track 2: accepted, 20; the accepted record's events stand
+  pub second : submitted visits (holding (held "0202")) ≡
+      record { answer = 0; number = 0; records = 2; accepted = 1; discarded = 1; register = holding standing; answers = 0 ∷ 20 ∷ 9 ∷ 9 ∷ [] }
+  -- the events cancelled: accepted; every byte is as it was before they were inserted
+  pub third : submitted cancellation (holding standing) ≡
+      record { answer = 0; number = 0; records = 1; accepted = 1; discarded = 0; register = holding (held "0202"); answers = 0 ∷ 9 ∷ 9 ∷ 9 ∷ [] }
+  -- the case cancelled while its events stand: accepted, and they go with it; inserted again it comes back without them; the last leaves nothing
+  pub fourth : submitted withdrawal (holding standing) ≡
+      record { answer = 0; number = 0; records = 3; accepted = 3; discarded = 0; register = holding empty; answers = 0 ∷ 0 ∷ 0 ∷ 9 ∷ [] }
+  -- the other case inserted into the last row of room and cancelled: every byte is as before, those of the events too
+  pub fifth : submitted mistake (holding standing) ≡
+      record { answer = 0; number = 0; records = 2; accepted = 2; discarded = 0; register = holding standing; answers = 0 ∷ 0 ∷ 9 ∷ 9 ∷ [] }
 
--- Track 2: accepted, 20; the accepted record's events stand
-pub second-gives : submitted visits (holding (held "0202")) ≡
-    record { answer = 0; number = 0; records = 2; accepted = 1; discarded = 1; register = holding standing; answers = 0 ∷ 20 ∷ 9 ∷ 9 ∷ [] }
+pub gives : Given
 unfolding all any same turns loop decimalAfter runLength skipWs byte name value comment dashed declared attribute attributesStep attributes differ tag endTag
     piece content element declares declaration miscStep misc document namedIn recordOf firstNamed valueIn saidIn wordingIn dayOf track1 track2
     seek enough faultIn firstBad shapeOf fitsText isDate tooMany
     somePair firstOf yearsTo find put keep putAll delAll anyIn allIn twice first run answers machine packs eventNumbers eventRows
     zeros others rowIn from rowsBytes encode emptied calls ascending isSound submitted
-second-gives = refl
-
--- the events cancelled: accepted; every byte is as it was before they were inserted
-pub third-gives : submitted cancellation (holding standing) ≡
-    record { answer = 0; number = 0; records = 1; accepted = 1; discarded = 0; register = holding (held "0202"); answers = 0 ∷ 9 ∷ 9 ∷ 9 ∷ [] }
-unfolding all any same turns loop decimalAfter runLength skipWs byte name value comment dashed declared attribute attributesStep attributes differ tag endTag
-    piece content element declares declaration miscStep misc document namedIn recordOf firstNamed valueIn saidIn wordingIn dayOf track1 track2
-    seek enough faultIn firstBad shapeOf fitsText isDate tooMany
-    somePair firstOf yearsTo find put keep putAll delAll anyIn allIn twice first run answers machine packs eventNumbers eventRows
-    zeros others rowIn from rowsBytes encode emptied calls ascending isSound submitted
-third-gives = refl
-
--- the case cancelled while its events stand: accepted, and they go with it; inserted again it comes back without them; the last leaves nothing
-pub fourth-gives : submitted withdrawal (holding standing) ≡
-    record { answer = 0; number = 0; records = 3; accepted = 3; discarded = 0; register = holding empty; answers = 0 ∷ 0 ∷ 0 ∷ 9 ∷ [] }
-unfolding all any same turns loop decimalAfter runLength skipWs byte name value comment dashed declared attribute attributesStep attributes differ tag endTag
-    piece content element declares declaration miscStep misc document namedIn recordOf firstNamed valueIn saidIn wordingIn dayOf track1 track2
-    seek enough faultIn firstBad shapeOf fitsText isDate tooMany
-    somePair firstOf yearsTo find put keep putAll delAll anyIn allIn twice first run answers machine packs eventNumbers eventRows
-    zeros others rowIn from rowsBytes encode emptied calls ascending isSound submitted
-fourth-gives = refl
-
--- the other case inserted into the last row of room and cancelled: every byte is as before, those of the events too
-pub fifth-gives : submitted mistake (holding standing) ≡
-    record { answer = 0; number = 0; records = 2; accepted = 2; discarded = 0; register = holding standing; answers = 0 ∷ 0 ∷ 9 ∷ 9 ∷ [] }
-unfolding all any same turns loop decimalAfter runLength skipWs byte name value comment dashed declared attribute attributesStep attributes differ tag endTag
-    piece content element declares declaration miscStep misc document namedIn recordOf firstNamed valueIn saidIn wordingIn dayOf track1 track2
-    seek enough faultIn firstBad shapeOf fitsText isDate tooMany
-    somePair firstOf yearsTo find put keep putAll delAll anyIn allIn twice first run answers machine packs eventNumbers eventRows
-    zeros others rowIn from rowsBytes encode emptied calls ascending isSound submitted
-fifth-gives = refl
+gives = record { first = refl; second = refl; third = refl; fourth = refl; fifth = refl }
 
 -- the records of the second file, and of those after it
-pub second-records : recordsIn visits ≡ send "I" ∷ events (record { tipo = code "I"; key = key }) [] ∷ []
-unfolding all any same turns loop decimalAfter runLength skipWs byte name value comment dashed declared attribute attributesStep attributes differ tag endTag
-    piece content element declares declaration miscStep misc document namedIn recordOf firstNamed valueIn saidIn wordingIn dayOf track1 track2
-    firstOf packs
-second-records = refl
+pub record Written : Type 0 where
+  pub second : recordsIn visits ≡ send "I" ∷ events (record { tipo = code "I"; key = key }) [] ∷ []
+  pub third : recordsIn cancellation ≡ send "C" ∷ []
+  pub fourth : recordsIn withdrawal ≡ admit "A" "C" "0202" ∷ admit "A" "I" "0101" ∷ admit "A" "C" "0101" ∷ []
+  pub fifth : recordsIn mistake ≡ admit "B" "I" "0101" ∷ admit "B" "C" "0101" ∷ []
 
-pub third-records : recordsIn cancellation ≡ send "C" ∷ []
+pub says : Written
 unfolding all any same turns loop decimalAfter runLength skipWs byte name value comment dashed declared attribute attributesStep attributes differ tag endTag
     piece content element declares declaration miscStep misc document namedIn recordOf firstNamed valueIn saidIn wordingIn dayOf track1 track2
     firstOf packs
-third-records = refl
-
-pub fourth-records : recordsIn withdrawal ≡ admit "A" "C" "0202" ∷ admit "A" "I" "0101" ∷ admit "A" "C" "0101" ∷ []
-unfolding all any same turns loop decimalAfter runLength skipWs byte name value comment dashed declared attribute attributesStep attributes differ tag endTag
-    piece content element declares declaration miscStep misc document namedIn recordOf firstNamed valueIn saidIn wordingIn dayOf track1 track2
-    firstOf packs
-fourth-records = refl
-
-pub fifth-records : recordsIn mistake ≡ admit "B" "I" "0101" ∷ admit "B" "C" "0101" ∷ []
-unfolding all any same turns loop decimalAfter runLength skipWs byte name value comment dashed declared attribute attributesStep attributes differ tag endTag
-    piece content element declares declaration miscStep misc document namedIn recordOf firstNamed valueIn saidIn wordingIn dayOf track1 track2
-    firstOf packs
-fifth-records = refl
+says = record { second = refl; third = refl; fourth = refl; fifth = refl }
 
 -- what the first record alone leaves
 pub first-record : leftBy admissions begun 1 ≡ held "0101"
@@ -269,15 +233,15 @@ first-record = refl
 -- the register after one, two and three of them
 pub after-first : regAfter register (admissions ∷ []) ≡ holding (held "0202")
 unfolding calls
-after-first = ap (λ (r : Submitted). r .register) first-gives
+after-first = ap (λ (r : Submitted). r .register) (gives .first)
 
 pub after-second : regAfter register (admissions ∷ visits ∷ []) ≡ holding standing
 unfolding calls
-after-second = ap (λ (b : List ℕ). submitted visits b .register) after-first ∙ ap (λ (r : Submitted). r .register) second-gives
+after-second = ap (λ (b : List ℕ). submitted visits b .register) after-first ∙ ap (λ (r : Submitted). r .register) (gives .second)
 
 pub after-fourth : regAfter register (admissions ∷ visits ∷ withdrawal ∷ []) ≡ holding empty
 unfolding calls
-after-fourth = ap (λ (b : List ℕ). submitted withdrawal b .register) after-second ∙ ap (λ (r : Submitted). r .register) fourth-gives
+after-fourth = ap (λ (b : List ℕ). submitted withdrawal b .register) after-second ∙ ap (λ (r : Submitted). r .register) (gives .fourth)
 
 -- the accepted events stand beside their case
 pub both-stand : stateOf siad (regAfter register (admissions ∷ visits ∷ [])) ≡ standing
