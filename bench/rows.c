@@ -35,8 +35,8 @@ static void make(struct record *r, int number, size_t n) {
     r->rows = calloc(n, sizeof *r->rows);
     if (!r->events || !r->rows) exit(2);
     for (size_t i = 0; i < n; i++) {
-        uint64_t dates = (EROGAZIONE * 131072ull + TAKEN_IN + 1 + i) * 131072 + NO_END;
-        r->events[i] = ((dates * 128 + CODE) * 128 + ACCESSES) * 4;
+        uint64_t key = (EROGAZIONE * 131072ull + TAKEN_IN + 1 + i) * 128 + CODE;
+        r->events[i] = ((key * 131072 + NO_END) * 128 + ACCESSES) * 4;
         memcpy(r->rows[i], r->probe, ROW);
         put_bits(r->rows[i], at, 52, r->events[i]);
     }

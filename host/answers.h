@@ -30,7 +30,8 @@ static const struct answer_words {
     {SIAD_NO_ROOM, "an insertion (I, inserimento) for which the register has too few rows left"},
     {SIAD_NO_EVENT, "no event in the record"},
     {SIAD_CONFIRMATION, "confermaPrecedente is 1 with an assessment (Valutazione), or 2 without one"},
-    {SIAD_EVENT_TWICE, "one event twice in the record: the same kind on the same date"},
+    {SIAD_EVENT_TWICE, "one event twice in the record: the same kind on the same date, of visits (Erogazione) also "
+                       "the same operator"},
     {SIAD_ENDS_BEFORE, "a suspension (Sospensione) ends before it begins"},
     {SIAD_NO_CASE, "the case (presa in carico) does not stand"},
     {SIAD_BEFORE_TAKING_IN, "an event's date is before the taking in (presa in carico)"},

@@ -156,46 +156,110 @@ static void taken(const char *folder, size_t reg_len, unsigned first, unsigned s
     free(answers);
 }
 
-/* One file of one or two records that must be taken into a register of three rows; the answer list is lent with 9s. */
-static void submits(const uint8_t *sub, size_t n, uint64_t track, uint8_t *reg, size_t records, unsigned first,
-                    unsigned second) {
+/* One file of one or two records that must be taken into a register of some rows; the answer list is lent with 9s. */
+static void submits(const uint8_t *sub, size_t n, uint64_t track, uint8_t *reg, size_t rows, size_t records,
+                    unsigned first, unsigned second) {
     uint8_t *answers = filled(2, 9);
     uint64_t report[SIAD_REPORT] = {77, 77, 77, 77};
-    IS(siad_submit(sub, n, track, 2018, 2, reg, SIAD_REGISTER_BYTES(3), answers, 2, report), SIAD_TAKEN);
+    IS(siad_submit(sub, n, track, 2018, 2, reg, SIAD_REGISTER_BYTES(rows), answers, 2, report), SIAD_TAKEN);
     IS(report[SIAD_RECORDS], records);
     IS(answers[0], first);
     IS(answers[1], second);
-    IS(siad_sound(reg, SIAD_REGISTER_BYTES(3)), 0);
+    IS(siad_sound(reg, SIAD_REGISTER_BYTES(rows)), 0);
     free(answers);
+}
+
+#define VISIT(day, operator, more) \
+    "<Erogazione data=\"2018-" day "\"" more "><TipoOperatore>" operator "</TipoOperatore></Erogazione>"
+
+/* A file with one record of Track 2, of the case of case_twice. */
+static uint8_t *events_of_case(char type, const char *events, size_t *n) {
+    static const char record[] =
+        "<FlsAssDom_2><Assistenza><Trasmissione tipo=\"%c\"/><Erogatore><CodiceRegione>%s</CodiceRegione>"
+        "<CodiceASL>%s</CodiceASL></Erogatore><Eventi><PresaInCarico data=\"%s\"><Id_Rec>%s</Id_Rec></PresaInCarico>"
+        "%s</Eventi></Assistenza></FlsAssDom_2>";
+    char text[1024];
+    *n = (size_t)snprintf(text, sizeof text, record, type, region, asl, date, id, events);
+    if (*n >= sizeof text) exit(2);
+    uint8_t *p = filled(*n, 0);
+    memcpy(p, text, *n);
+    return p;
 }
 
 /* A case and two events fill a register; the case is cancelled, and the register is as if it were emptied. */
 static void carried_away(const char *folder) {
-    static const char visits[] =
-        "<FlsAssDom_2><Assistenza><Trasmissione tipo=\"I\"/><Erogatore><CodiceRegione>%s</CodiceRegione>"
-        "<CodiceASL>%s</CodiceASL></Erogatore><Eventi><PresaInCarico data=\"%s\"><Id_Rec>%s</Id_Rec></PresaInCarico>"
-        "<Erogazione data=\"2018-05-02\"><TipoOperatore>1</TipoOperatore></Erogazione>"
-        "<Erogazione data=\"2018-06-30\"><TipoOperatore>2</TipoOperatore></Erogazione></Eventi></Assistenza>"
-        "</FlsAssDom_2>";
     static const char type[] = "tipo=\"I";
-    char text[1024];
-    size_t n, events = (size_t)snprintf(text, sizeof text, visits, region, asl, date, id);
-    size_t len = SIAD_REGISTER_BYTES(3);
-    uint8_t *sub = submission(folder, "case_twice", &n), *visited = filled(events, 0), *reg = filled(len, 0);
-    memcpy(visited, text, events);
-    submits(sub, n, 1, reg, 2, SIAD_ACCEPTED, SIAD_STANDS);
-    submits(visited, events, 2, reg, 1, SIAD_ACCEPTED, 9);
+    size_t n, events, rows = 3, len = SIAD_REGISTER_BYTES(rows);
+    uint8_t *sub = submission(folder, "case_twice", &n), *reg = filled(len, 0);
+    uint8_t *visited = events_of_case('I', VISIT("05-02", "1", "") VISIT("06-30", "2", ""), &events);
+    submits(sub, n, 1, reg, rows, 2, SIAD_ACCEPTED, SIAD_STANDS);
+    submits(visited, events, 2, reg, rows, 1, SIAD_ACCEPTED, 9);
     IS(reg[0] * 256u + reg[1], 1);
     IS(reg[2] * 256u + reg[3], 2);
     finding(reg, len, 1);
     for (size_t i = 0; i + sizeof type - 1 <= n; i++)
         if (memcmp(sub + i, type, sizeof type - 1) == 0) sub[i + sizeof type - 2] = 'C';
-    submits(sub, n, 1, reg, 2, SIAD_ACCEPTED, SIAD_STANDS_NOT);
+    submits(sub, n, 1, reg, rows, 2, SIAD_ACCEPTED, SIAD_STANDS_NOT);
     IS(all(reg, len, 0), 1);
     finding(reg, len, 0);
-    submits(visited, events, 2, reg, 1, SIAD_NO_CASE, 9);
+    submits(visited, events, 2, reg, rows, 1, SIAD_NO_CASE, 9);
     free(sub);
     free(visited);
+    free(reg);
+}
+
+/* One record of that case over a register of four rows. */
+static void sends(uint8_t *reg, char type, const char *events, unsigned answer) {
+    size_t n;
+    uint8_t *sub = events_of_case(type, events, &n);
+    submits(sub, n, 2, reg, 4, 1, answer, 9);
+    free(sub);
+}
+
+/* Behind the case's row stand these events' rows: what is not the case's in them, bytes 82 to 90 (R13, R23 to R29). */
+static void rows_are(const uint8_t *reg, const uint8_t wanted[][9], size_t n) {
+    enum { KEY = SIAD_ROW_BYTES - 9 };
+    const uint8_t *case_row = reg + SIAD_HEADER_BYTES, *row = case_row;
+    IS(reg[0] * 256u + reg[1], 1);
+    IS(reg[2] * 256u + reg[3], n);
+    for (size_t i = 0; i < n; i++) {
+        row += SIAD_ROW_BYTES;
+        IS(memcmp(row, case_row, KEY) == 0, 1);
+        IS(memcmp(row + KEY, wanted[i], SIAD_ROW_BYTES - KEY) == 0, 1);
+    }
+    IS(all(row + SIAD_ROW_BYTES, SIAD_ROW_BYTES * (3 - n), 0), 1);
+}
+
+/* Two operators on one day and a suspension: their rows, worked out by hand. Then the visits by their keys. */
+static void two_operators(const char *folder) {
+    static const uint8_t rows[][9] = {
+        {0x05, 0x54, 0x6A, 0x01, 0xFF, 0xFF, 0x80, 0x00, 0x00}, /* 2018-05-02, operator 1 */
+        {0x05, 0x54, 0x6A, 0x02, 0xFF, 0xFF, 0x83, 0x00, 0x00}, /* 2018-05-02, operator 2, three accesses */
+        {0x06, 0x54, 0x6A, 0x89, 0x54, 0x6B, 0x80, 0x00, 0x00}, /* 2018-05-03 to 2018-05-05, Motivazione 9 */
+    };
+    static const char one[] = VISIT("05-02", "1", ""), two[] = VISIT("05-02", "2", " numAccessi=\"3\"");
+    static const char three[] = VISIT("05-02", "3", "");
+    size_t n;
+    uint8_t *sub = submission(folder, "case_twice", &n), *reg = filled(SIAD_REGISTER_BYTES(4), 0);
+    submits(sub, n, 1, reg, 4, 2, SIAD_ACCEPTED, SIAD_STANDS);
+    sends(reg, 'I', VISIT("05-02", "1", "") VISIT("05-02", "1", " numAccessi=\"3\""), SIAD_EVENT_TWICE);
+    sends(reg, 'I',
+          VISIT("05-02", "2", " numAccessi=\"3\"") VISIT("05-02", "1", "") "<Sospensione dataInizio=\"2018-05-03\" "
+          "dataFine=\"2018-05-05\"><Motivazione>9</Motivazione></Sospensione>",
+          SIAD_ACCEPTED);
+    rows_are(reg, rows, 3);
+    sends(reg, 'I', one, SIAD_STANDS);
+    sends(reg, 'I', three, SIAD_NO_ROOM);
+    sends(reg, 'V', three, SIAD_STANDS_NOT);
+    sends(reg, 'C', three, SIAD_STANDS_NOT);
+    rows_are(reg, rows, 3);
+    sends(reg, 'C', one, SIAD_ACCEPTED);
+    rows_are(reg, rows + 1, 2);
+    sends(reg, 'V', one, SIAD_STANDS_NOT);
+    sends(reg, 'I', one, SIAD_ACCEPTED);
+    sends(reg, 'V', two, SIAD_ACCEPTED);
+    rows_are(reg, rows, 3);
+    free(sub);
     free(reg);
 }
 
@@ -239,6 +303,7 @@ int main(int argc, char **argv) {
     taken(argv[1], SIAD_REGISTER_BYTES(1), SIAD_ACCEPTED, SIAD_STANDS);
     taken(argv[1], SIAD_REGISTER_BYTES(160), SIAD_ACCEPTED, SIAD_STANDS);
     carried_away(argv[1]);
+    two_operators(argv[1]);
     nulls(argv[1]);
     words();
     puts(bad ? "FAILED" : "ok");

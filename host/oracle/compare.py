@@ -64,8 +64,10 @@ EVENTS = {b"Rivalutazione": (0, b"data"), b"Erogazione": (1, b"data"), b"Sospens
 
 
 def told(sub):
-    """each record's type, its case's key and its events' keys, as the numbers that their bits make (R8, R9): packed here, not by the oracle"""
+    """each record's type, its case's key and its events' keys, as the numbers that their bits make (R8, R9): packed here, not by the oracle. Of an event that
+       is no Erogazione (kind 1) the code's seven bits are zero"""
     number = lambda t: (date.fromisoformat(t.decode()) - date(1900, 1, 1)).days
+    key = lambda case, kind, at, e: case << 26 | kind << 24 | number(e.attrs[at]) << 7 | (int(O.text_at(e, b"TipoOperatore")) if kind == 1 else 0)
     out = []
     for r in O.parse(sub).items:
         if isinstance(r, O.Elem):
@@ -75,21 +77,21 @@ def told(sub):
             for value, bits in [(c, 7) for c in asl] + [(number(taking.attrs[b"data"]), 17)] + [(c, 7) for c in ident]:
                 case = case << bits | value
             named = [(EVENTS[e.name], e) for e in O.kid(r, b"Eventi").items if isinstance(e, O.Elem) and e.name in EVENTS]
-            out.append((O.kid(r, b"Trasmissione").attrs[b"tipo"], case, [case << 19 | kind << 17 | number(e.attrs[at]) for (kind, at), e in named]))
+            out.append((O.kid(r, b"Trasmissione").attrs[b"tipo"], case, [key(case, kind, at, e) for (kind, at), e in named]))
     return out
 
 
 def keys_in(reg):
-    """the keys of the cases and of the events that stand, as numbers, read off the bytes (R1, R2)"""
+    """the keys of the cases and of the events that stand, as numbers, read off the bytes (R1, R2, R9)"""
     cases, events = int.from_bytes(reg[:2], "big"), int.from_bytes(reg[2:4], "big")
     rows = [int.from_bytes(reg[4 + 91 * i:95 + 91 * i], "big") for i in range(cases + events)]
-    return [r >> 66 for r in rows[:cases]], [r >> 47 for r in rows[cases:]]
+    return [r >> 66 for r in rows[:cases]], [r >> 40 if r >> 64 & 3 == 1 else r >> 47 << 7 for r in rows[cases:]]
 
 
 def conserved(records, track, reg, after, answers):
     """K1, and E1's total: "for events subtracts those carried away, counted once for each case from the register before the call" """
     (cases0, events0), (cases1, events1) = keys_in(reg), keys_in(after)
-    had = Counter(e >> 19 for e in events0)
+    had = Counter(e >> 26 for e in events0)
     accepted = [r for r, a in zip(records, answers) if a == 0]
     cancelled = {case for tipo, case, _ in accepted if tipo == b"C"} if track == 1 else set()
     keys = lambda t: sum(len(events) for tipo, _, events in accepted if tipo == t)
@@ -101,7 +103,7 @@ def conserved(records, track, reg, after, answers):
 def count_carried(records, reg, answers):
     """what a taken Track 1 file met of cases with events, so that a run shows that it is not empty"""
     cases, events = keys_in(reg)
-    left, since = Counter(e >> 19 for e in events), {}       # since: the accepted types behind the cancellation that carried events away
+    left, since = Counter(e >> 26 for e in events), {}       # since: the accepted types behind the cancellation that carried events away
     stayed, room = len(cases) + len(events), O.room(reg)     # stayed: the rows, were those of carried events no room
     for (tipo, case, _), a in zip(records, answers):
         stayed += {b"I": 1, b"C": -1}.get(tipo, 0) if a == 0 else 0
@@ -122,6 +124,26 @@ def count_carried(records, reg, answers):
             C["17 behind events carried away"] += 1
 
 
+def count_operators(records, reg, answers):
+    """what a taken Track 2 file met of visits (Erogazione) of one case and day: beside another operator's, by the same operator, by one who didn't come"""
+    stand = {k for k in keys_in(reg)[1] if k >> 24 & 3 == 1}
+    days = Counter(k >> 7 for k in stand)
+    for (tipo, _, keys), a in zip(records, answers):
+        visits, t = [k for k in keys if k >> 24 & 3 == 1], tipo.decode()
+        own, each = Counter(k >> 7 for k in set(visits)), set(visits)
+        if any(own[k >> 7] > 1 or days[k >> 7] > (k in stand) for k in each):
+            C["%s of a visit beside another operator's: %d" % (t, a)] += 1
+        if len(each) < len(visits):
+            C["a visit by the same operator twice in a record: %d" % a] += 1
+        if tipo == b"I" and each & stand:
+            C["I of a visit that the same operator made: %d" % a] += 1
+        if tipo != b"I" and any(k not in stand and days[k >> 7] for k in each):
+            C["%s of a visit that only another operator made: %d" % (t, a)] += 1
+        if a == 0 and tipo != b"V":
+            stand = stand - each if tipo == b"C" else stand | each
+            days = Counter(k >> 7 for k in stand)
+
+
 def check_submit(sub, track, year, quarter, reg, answers):
     mine = O.submit(sub, track, year, quarter, reg, answers)
     theirs, kept = lib_submit(sub, track, year, quarter, reg, answers)
@@ -139,8 +161,7 @@ def check_submit(sub, track, year, quarter, reg, answers):
         records = told(sub)
         if not conserved(records, track, reg, theirs[5], theirs[6]):
             diff("total", (sub, track, year, quarter, reg, answers), mine, theirs)
-        if track == 1:
-            count_carried(records, reg, theirs[6])
+        (count_carried if track == 1 else count_operators)(records, reg, theirs[6])
     return mine
 
 
@@ -373,21 +394,31 @@ def rec1(w, tipo=None, key=None, calm=False):
     return N(b"Assistenza", kids)
 
 
+OPERATORS = [1, 2, 7, 9, 10, 13, 99]
+
+
 def ev_tree(rng, kind, when, end=None, calm=False, code=None):
+    """code: the operator, the Motivazione or the motivo; without one, any"""
+    code = b"%d" % (code or rng.choice({O.RIV: [1, 2], O.ERO: OPERATORS, O.SOS: [1, 2, 3, 9], O.CON: [1, 9, 12, 97, 99]}[kind]))
     if kind == O.RIV:
         conf = t12(rng)
         withv = (conf == b"2") != (not calm and rng.random() < 0.04)
         return N(b"Rivalutazione", [val_tree(rng, 2, prev(rng, 0 if calm else 0.05))] if withv else [],
-                 (b"data", d2t(when)), (b"motivo", t12(rng)), (b"confermaPrecedente", conf))
+                 (b"data", d2t(when)), (b"motivo", code), (b"confermaPrecedente", conf))
     if kind == O.ERO:
         acc = [(b"numAccessi", rng.choice([b"1", b"9", b"10", b"99"]))] if rng.random() < 0.5 else []
         pres = [N(b"Prestazioni", [L(b"TipoPrestazione", rng.choice([b"1", b"21", b"021", b"+5"])), L(b"numPrestazione", rng.choice([b"1", b"99", b"+07"]))])
                 for _ in range(rng.choice([0, 0, 0, 1, 2]))]
-        return N(b"Erogazione", [L(b"TipoOperatore", rng.choice([b"1", b"9", b"10", b"13", b"99"]))] + pres, (b"data", d2t(when)), *acc)
+        return N(b"Erogazione", [L(b"TipoOperatore", code)] + pres, (b"data", d2t(when)), *acc)
     if kind == O.SOS:
         a = [(b"dataInizio", d2t(when))] + ([(b"dataFine", d2t(end))] if end is not None else [])
-        return N(b"Sospensione", [L(b"Motivazione", rng.choice([b"1", b"2", b"3", b"9"]))], *a)
-    return N(b"Conclusione", [L(b"Motivazione", rng.choice([b"1", b"9", b"12", b"97", b"99"]))], (b"dataAD", d2t(when)))
+        return N(b"Sospensione", [L(b"Motivazione", code)], *a)
+    return N(b"Conclusione", [L(b"Motivazione", code)], (b"dataAD", d2t(when)))
+
+
+def operator(rng, kind):
+    """what an event's key has behind its date: an Erogazione's operator, two of them often, and of other kinds 0"""
+    return rng.choice([2, 7] if rng.random() < 0.5 else OPERATORS) if kind == O.ERO else 0
 
 
 def rec2(w, reg, tipo=None, n=None):
@@ -407,14 +438,15 @@ def rec2(w, reg, tipo=None, n=None):
     fit = [d for d in w.days if d >= k[2]] if rng.random() < 0.85 else w.days
     pick = lambda: w.day() if not fit or rng.random() < 0.08 else rng.choice(fit)
     if tipo in b"VC" and have and rng.random() < 0.9:
-        for kd in rng.sample(list(have), min(len(have), max(n, 1))):
-            evs.append((kd[0], kd[1]))
+        for kind, d, code in rng.sample(list(have), min(len(have), max(n, 1))):
+            evs.append((kind, d, code if rng.random() < 0.96 else operator(rng, kind)))
         if rng.random() < 0.15:
-            evs.append((rng.randint(0, 3), pick()))
+            kind = rng.randint(0, 3)
+            evs.append((kind, pick(), operator(rng, kind)))
     elif n > 20:
         days = list(range(w.first, w.last + 1))
         for i in range(n):
-            evs.append((i // len(days), days[i % len(days)]))
+            evs.append((i // len(days), days[i % len(days)], operator(rng, i // len(days))))
     else:
         for _ in range(n):
             kind = rng.choice([0, 0, 1, 1, 1, 1, 2, 2, 2]) if rng.random() < 0.85 else 3
@@ -423,13 +455,15 @@ def rec2(w, reg, tipo=None, n=None):
                 d = rng.choice([w.last, w.last - 1, w.last, d])
             if kind == 2 and rng.random() < 0.1:
                 d = max(0, w.first - rng.randint(0, 20))
-            evs.append((kind, d))
+            evs.append((kind, d, operator(rng, kind)))
+            if kind == 1 and rng.random() < 0.2:             # another operator on that day
+                evs.append((kind, d, operator(rng, kind)))
     if n <= 20 and evs and rng.random() < 0.04:
         evs.append(rng.choice(evs))
     elif n <= 20:
         evs = list(dict.fromkeys(evs))
     seen, trees = 0, []
-    for kind, d in sorted(evs, key=lambda e: e[0]):
+    for kind, d, code in sorted(evs, key=lambda e: e[0]):
         if kind == 3:
             if seen:
                 continue
@@ -445,7 +479,7 @@ def rec2(w, reg, tipo=None, n=None):
                 end = d - rng.choice([1, 2])
             if end is not None:
                 end = max(0, min(O.LAST_DAY, end))
-        trees.append(ev_tree(rng, kind, d, end))
+        trees.append(ev_tree(rng, kind, d, end, code=code))
     kids = head(tipo, 2, k)
     kids.append(N(b"Eventi", [N(b"PresaInCarico", [L(b"Id_Rec", k[3])], (b"data", d2t(k[2])))] + trees))
     return N(b"Assistenza", kids)
@@ -659,8 +693,9 @@ def raw_rows(rng, w, n_cases, n_events, wrong):
         end = O.NO_END
         if kind == 2 and rng.random() < 0.85:
             end = min(O.LAST_DAY, max(0, d + rng.choice([0, 0, 1, 1, 2, 5, -1 if rng.random() < 0.1 else 0])))
-        code = rng.choice(sorted(O.CODES[kind]))
-        evs[k, kind, d] = (kind, d, end, code, rng.choice([0, 1, 99]) if kind == 1 else 0, rng.choice([1, 2]) if kind == 0 else 0)
+        for code in rng.sample(sorted(O.CODES[kind]), rng.choice([1, 1, 1, 2, 3]) if kind == 1 else 1):
+            apart = kind == 1 or rng.random() < 0.03         # a second row of the day, with another code, is sound of kind 1 only
+            evs[k, kind, d, code if apart else 0] = (kind, d, code, end, rng.choice([0, 1, 99]) if kind == 1 else 0, rng.choice([1, 2]) if kind == 0 else 0)
     cf = [O.unpack(O.pack_case(k, cases[k]), O.CASE_WIDTHS) for k in sorted(cases)]
     ef = [O.unpack(O.pack_event(x[0], evs[x]), O.EVENT_WIDTHS) for x in sorted(evs)]
     for _ in range(wrong):
@@ -679,11 +714,39 @@ def raw_rows(rng, w, n_cases, n_events, wrong):
     return cr, er
 
 
+def old_layout(row):
+    """an event's row as it was before E2: the end date in front of the code"""
+    n = int.from_bytes(row, "big")
+    return (((n >> 47 << 17 | n >> 23 & O.NO_END) << 7 | n >> 40 & 127) << 23 | n & (1 << 23) - 1).to_bytes(91, "big")
+
+
+def mutate_events(rng, b, first, n):
+    """rows `first` to n - 1 are events: one row's code changed, two that follow each other swapped, or the old layout"""
+    at = lambda i: slice(4 + 91 * i, 95 + 91 * i)
+    code = lambda i: int.from_bytes(b[at(i)], "big") >> 40 & 127
+    i = rng.randrange(first, n)
+    same = [j for j in range(first, n - 1) if b[at(j)][:85] == b[at(j + 1)][:85]]       # the same case, kind and day, but for a bit of it
+    if same and rng.random() < 0.6:
+        i = rng.choice(same)
+    x = rng.random()
+    if x < 0.45:
+        new = rng.choice([code(min(i + 1, n - 1)), code(max(i - 1, first)), code(i) + 1, code(i) - 1, 1, 2, 9, 99, rng.randrange(128)]) & 127
+        row = int.from_bytes(b[at(i)], "big")
+        b[at(i)] = (row ^ (code(i) ^ new) << 40).to_bytes(91, "big")
+    elif x < 0.75 and i + 1 < n:
+        b[at(i)], b[at(i + 1)] = b[at(i + 1)], b[at(i)]
+    else:
+        for j in range(first, n) if rng.random() < 0.7 else [i]:
+            b[at(j)] = old_layout(b[at(j)])
+
+
 def mutate_reg(rng, reg):
     b = bytearray(reg)
     n = int.from_bytes(b[0:2], "big") + int.from_bytes(b[2:4], "big") if len(b) >= 4 else 0
-    op = rng.randint(0, 8)
-    if op == 0 and b:
+    op = rng.randint(0, 10)
+    if op >= 9 and len(b) >= 4 + 91 * n and int.from_bytes(b[0:2], "big") < n:
+        mutate_events(rng, b, int.from_bytes(b[0:2], "big"), n)
+    elif op == 0 and b:
         i = rng.randrange(len(b) * 8 if rng.random() < 0.3 else max(1, min(len(b), 4 + 91 * n)) * 8)
         b[i // 8] ^= 128 >> i % 8
     elif op == 1 and len(b) >= 4:
@@ -1085,3 +1148,4 @@ if __name__ == "__main__":
     t0 = time.time()
     globals()["g_" + sys.argv[1]](int(sys.argv[2]), int(sys.argv[3]))
     print(json.dumps({"generator": sys.argv[1], "seed": int(sys.argv[2]), "seconds": round(time.time() - t0), "counts": dict(sorted(C.items()))}))
+    sys.exit(C["diff"] > 0)

@@ -67,15 +67,18 @@ def dense2(rng, w, parts, bad):
         evs += rng.sample(sorted(have), min(len(have), rng.randint(1, 3)))
     if tipo == b"I" or yes(bad / 2):
         for _ in range(rng.randint(0, 4)):
-            kind = rng.choice([0, 1, 2, 2, 2, 3])
+            kind = rng.choice([0, 1, 1, 2, 2, 2, 3])
             lo = ck[2] if not yes(bad / 2) else w.first
-            evs.append((kind, min(w.last, lo + rng.choice([0, 1, 2, 3, 5, 8, 13, 30, 60]))))
+            d = min(w.last, lo + rng.choice([0, 1, 2, 3, 5, 8, 13, 30, 60]))
+            evs += [(kind, d, K.operator(rng, kind)) for _ in range(rng.choice([1, 1, 2]) if kind == 1 else 1)]
         if evs and yes(bad / 3):
             evs.append(rng.choice(evs))
     if not yes(bad / 2):
         evs = list(dict.fromkeys(evs))
     trees, con = [], 0
-    for kind, d in sorted(evs, key=lambda e: e[0]):
+    for kind, d, code in sorted(evs, key=lambda e: e[0]):
+        if yes(bad / 6):
+            code = K.operator(rng, kind)
         if kind == 3:
             con += 1
             if con > 1:
@@ -86,7 +89,7 @@ def dense2(rng, w, parts, bad):
         if kind == 2 and rng.random() < 0.8:
             end = d - 1 if yes(bad / 2) else d + rng.choice([0, 0, 1, 2, 4])
             end = max(0, min(O.LAST_DAY, end if yes(bad / 6) else max(w.first, min(end, max(d, w.last)))))
-        t = K.ev_tree(rng, kind, d, end, True)
+        t = K.ev_tree(rng, kind, d, end, True, code)
         if kind == 0:
             conf = rng.choice([b"1", b"2"])
             t.a[2][1] = conf
@@ -169,7 +172,7 @@ def stand_by_words(accepted):
         for key in keys:
             events[key] = place, tipo
     return (sorted(k for k, tipo in cases.items() if tipo != b"C"),
-            sorted(k for k, (place, tipo) in events.items() if tipo != b"C" and cancelled.get(k >> 19, -1) < place))
+            sorted(k for k, (place, tipo) in events.items() if tipo != b"C" and cancelled.get(k >> 26, -1) < place))
 
 
 class History:
@@ -251,15 +254,16 @@ class History:
 
     def events(self, tipo, k, named):
         """a record of Track 2; each Sospensione has one day"""
-        trees = [K.ev_tree(self.rng, kind, d, d, True) for kind, d in sorted(named)]
+        trees = [K.ev_tree(self.rng, kind, d, d, True, code) for kind, d, code in sorted(named)]
         return N(b"Assistenza", head(tipo, 2, k) + [N(b"Eventi", [N(b"PresaInCarico", [L(b"Id_Rec", k[3])], (b"data", d2t(k[2])))] + trees)])
 
     def new(self, k, span, n):
         """at most n events of the quarter that the case hasn't had yet"""
         days = range(max(k[2], span[2]), span[3] + 1)
-        room = [(kind, d) for kind in (O.RIV, O.ERO, O.SOS) for d in days if (kind, d) not in self.ever.get(k, ())]
+        keys = ((O.RIV, 0), (O.ERO, 2), (O.ERO, 7), (O.SOS, 0))                  # a day's visits are by one operator or by two
+        room = [(kind, d, code) for kind, code in keys for d in days if (kind, d, code) not in self.ever.get(k, ())]
         if span is self.spans[-1] and self.rng.random() < 0.1 and not any(e[0] == O.CON for e in self.ever.get(k, ())):
-            room.append((O.CON, span[3]))
+            room.append((O.CON, span[3], 0))
         named = self.rng.sample(room, min(n, len(room)))
         self.ever.setdefault(k, set()).update(named)
         return named
@@ -339,7 +343,7 @@ def full_registers(rng):
     for before, of, behind in ((0, 4093, 0), (1, 4091, 1), (4091, 1, 1), (1, 1, 4091), (2000, 93, 2000), (1500, 1000, 1500), (0, 128, 3900), (3900, 128, 0)):
         rows = []
         for k, n in zip(packed, (before, of, behind)):
-            rows += [O.pack_event(k, (O.ERO, k[2] + i, O.NO_END, 1 + i % 13, i % 100, 0)) for i in range(n)]
+            rows += [O.pack_event(k, (O.ERO, k[2] + i // 3, 1 + i % 3 * 5, O.NO_END, i % 100, 0)) for i in range(n)]
         reg = bytes([0, 3]) + len(rows).to_bytes(2, "big") + b"".join([O.pack_case(k, (1950, b"123", (0,) * 6)) for k in packed] + rows)
         reg = reg.ljust(4 + 91 * 4096 + rng.choice([0, 0, 91]), b"\0")
         more = (b"010", b"zzz", w.first, b"Z" * 88)
@@ -377,3 +381,4 @@ if __name__ == "__main__":
     print(json.dumps({"generator": sys.argv[1], "seed": int(sys.argv[2]), "seconds": round(time.time() - t0), "counts": dict(sorted(C.items()))}))
     if sys.argv[1] == "carried" and not C["cancellations that carried events away"]:
         sys.exit("carried: no cancellation carried events away")
+    sys.exit(C["diff"] > 0)

@@ -7,7 +7,7 @@ def main():
     T0 = O.day(b"2018-04-10")
     k = (10, b"101", T0, K.ID88)
     case = O.unpack(O.pack_case(k, (1950, b"12345", (1, 2, 3, 0, 1, 2))), O.CASE_WIDTHS)
-    evs = [(0, T0 + 5, O.NO_END, 1, 0, 1), (1, T0 + 5, O.NO_END, 13, 7, 0), (2, T0 + 5, T0 + 7, 9, 0, 0), (2, T0 + 5, O.NO_END, 9, 0, 0), (3, T0 + 5, O.NO_END, 97, 0, 0)]
+    evs = [(0, T0 + 5, 1, O.NO_END, 0, 1), (1, T0 + 5, 13, O.NO_END, 7, 0), (2, T0 + 5, 9, T0 + 7, 0, 0), (2, T0 + 5, 9, O.NO_END, 0, 0), (3, T0 + 5, 97, O.NO_END, 0, 0)]
     row = lambda f, w: O.pack(list(zip(f, w)))
     days = [0, 1, T0 - 1, T0, T0 + 1, T0 + 4, T0 + 5, T0 + 6, T0 + 7, 73047, 73048, 73049, 73050, 131069, 131070, 131071, 65535, 65536, 36583, 43464]
     values = lambda w: days if w == 17 else range(min(1 << w, 16384))
@@ -51,7 +51,7 @@ def main():
             for code in range(128):
                 for acc, conf in ((0, 0), (0, 1), (7, 0), (0, 2), (0, 3), (99, 0), (100, 0)):
                     f = e0[:]
-                    f[93], f[96], f[97], f[98] = kind, code, acc, conf
+                    f[93], f[95], f[97], f[98] = kind, code, acc, conf
                     n += 1
                     go([c0], [row(f, O.EVENT_WIDTHS)], n=n)
     e = [row(O.unpack(O.pack_event(k, x), O.EVENT_WIDTHS), O.EVENT_WIDTHS) for x in evs[:2]]
@@ -75,13 +75,20 @@ def main():
                     for lx, ly in ((0, 0), (1, 0), (0, 1), (2, 2), (-1, 0), (None, 0), (0, None), (None, None)):
                         def at(z, d, l):
                             day = z[1] + d
-                            return (z[0], day, O.NO_END if z[0] != 2 or l is None else day + l, *z[3:])
+                            return (z[0], day, z[2], O.NO_END if z[0] != 2 or l is None else day + l, *z[4:])
                         rows = sorted([O.pack_event(k, at(x, dx, lx)), O.pack_event(k, at(y, dy, ly))])
                         if (lx, ly) == (0, 0) or 2 in (x[0], y[0]):
                             go([c0], rows, n=1)
+    for x in evs:                                               # two rows of one day that differ in the code: any two of its kind's list, in both orders
+        for a in sorted(O.CODES[x[0]]):
+            for b in sorted(O.CODES[x[0]]):
+                go([c0], [O.pack_event(k, (*x[:2], code, *x[3:])) for code in (a, b)], n=a)
+        for end in [x[3], O.NO_END] + list(range(0, O.LAST_DAY + 1, 97)):       # the layout before E2, with an end date of any day
+            go([c0], [K.old_layout(O.pack_event(k, (*x[:3], end, *x[4:])))], n=end)
 
 
 if __name__ == "__main__":
     t0 = time.time()
     main()
     print(json.dumps({"generator": "fields", "seed": 0, "seconds": round(time.time() - t0), "counts": dict(sorted(K.C.items()))}))
+    sys.exit(K.C["diff"] > 0)

@@ -162,7 +162,7 @@ REGION_NUMBERS = {int(r) for r in REGIONS}
 ID_SET = bytes(c for c in range(33, 127) if c not in b"&<>\"'")   # S16: "88 characters from 33 to 126 but `&`, `<`, `>`, `"`, `'`"
 TEXT_SET = bytes(c for c in ALLOWED if c not in b"<&")            # M1, M2, M15
 ALNUM = b"0123456789ABCDEFGHIJKLMNOPQRSTUVWXYZabcdefghijklmnopqrstuvwxyz"
-NO_END = (1 << 17) - 1                                       # R25: "all ones for none"
+NO_END = (1 << 17) - 1                                       # R26: "all ones for none"
 
 
 def only(text, chars):
@@ -400,21 +400,27 @@ RIV, ERO, SOS, CON = 0, 1, 2, 3                              # R23: "0 Rivalutaz
 
 
 def events_of(r):
-    """[(kind, date, end, code, accesses, conferma)], with the Rivalutazione's Valutazione beside"""
+    """[(kind, date, code, end, accesses, conferma)], in the row's order (R23 to R28), with the Rivalutazione's Valutazione beside"""
     out = []
     for e in kid(r, b"Eventi").items:
         if not isinstance(e, Elem):
             continue
         if e.name == b"Rivalutazione":
-            out.append(((RIV, day(e.attrs[b"data"]), NO_END, int(e.attrs[b"motivo"]), 0, int(e.attrs[b"confermaPrecedente"])), kid(e, b"Valutazione")))
+            out.append(((RIV, day(e.attrs[b"data"]), int(e.attrs[b"motivo"]), NO_END, 0, int(e.attrs[b"confermaPrecedente"])), kid(e, b"Valutazione")))
         elif e.name == b"Erogazione":
-            out.append(((ERO, day(e.attrs[b"data"]), NO_END, int(text_at(e, b"TipoOperatore")), int(e.attrs.get(b"numAccessi", b"0")), 0), None))
+            out.append(((ERO, day(e.attrs[b"data"]), int(text_at(e, b"TipoOperatore")), NO_END, int(e.attrs.get(b"numAccessi", b"0")), 0), None))
         elif e.name == b"Sospensione":
             end = day(e.attrs[b"dataFine"]) if b"dataFine" in e.attrs else NO_END
-            out.append(((SOS, day(e.attrs[b"dataInizio"]), end, int(text_at(e, b"Motivazione")), 0, 0), None))
+            out.append(((SOS, day(e.attrs[b"dataInizio"]), int(text_at(e, b"Motivazione")), end, 0, 0), None))
         elif e.name == b"Conclusione":
-            out.append(((CON, day(e.attrs[b"dataAD"]), NO_END, int(text_at(e, b"Motivazione")), 0, 0), None))
+            out.append(((CON, day(e.attrs[b"dataAD"]), int(text_at(e, b"Motivazione")), NO_END, 0, 0), None))
     return out
+
+
+def event_key(e):
+    """R9 without the case's key: "its kind and its date, .. and of an Erogazione its code, the operator, too"; "zeros for a code that is no part of it" """
+    kind, when, code = e[:3]
+    return kind, when, code if kind == ERO else 0            # E2: "part of the key for kind 1 only"
 
 
 # ------------------------------------------------------------------ the register
@@ -442,8 +448,9 @@ def pack_case(k, body):
 
 
 def pack_event(k, ev):
-    kind, when, end, code, accesses, conferma = ev
-    return pack(key_fields(k) + [(kind, 2), (when, 17), (end, 17), (code, 7), (accesses, 7), (conferma, 2), (0, 14)])
+    kind, when, code, end, accesses, conferma = ev
+    # E2: "In event rows the code moves in front of the end date"
+    return pack(key_fields(k) + [(kind, 2), (when, 17), (code, 7), (end, 17), (accesses, 7), (conferma, 2), (0, 14)])
 
 
 def unpack(row, widths):
@@ -456,7 +463,7 @@ def unpack(row, widths):
 
 KEY_WIDTHS = [8, 7, 7, 7, 17] + [7] * 88
 CASE_WIDTHS = KEY_WIDTHS + [12] + [7] * 5 + [2] * 6 + [7]
-EVENT_WIDTHS = KEY_WIDTHS + [2, 17, 17, 7, 7, 2, 14]
+EVENT_WIDTHS = KEY_WIDTHS + [2, 17, 7, 17, 7, 2, 14]
 
 
 def read_key(f):
@@ -498,7 +505,7 @@ def read_event(row):
     k = read_key(f)
     if k is None:
         return None
-    kind, when, end, code, accesses, conferma, rest = f[93:]
+    kind, when, code, end, accesses, conferma, rest = f[93:]
     if when > LAST_DAY or rest != 0:                         # V4: "the date is a day", "and the zero bits are zero"
         return None
     if not (end == NO_END or kind == SOS and end <= LAST_DAY):   # V4: "the end date a Sospensione's day or all ones"
@@ -509,11 +516,11 @@ def read_event(row):
         return None
     if conferma not in ((1, 2) if kind == RIV else (0,)):    # V4: "conferma 1 or 2 for a Rivalutazione and else 0"
         return None
-    return k, (kind, when, end, code, accesses, conferma)
+    return k, (kind, when, code, end, accesses, conferma)
 
 
 def anomaly23(ev):
-    return ev[0] == SOS and ev[2] < ev[1]                    # A23: "ends before it begins"; none = all ones is never before
+    return ev[0] == SOS and ev[3] < ev[1]                    # A23: "ends before it begins"; none = all ones is never before
 
 
 def after_anomaly(taken, evs):
@@ -523,20 +530,20 @@ def after_anomaly(taken, evs):
     stops = [e for e in evs if e[0] == SOS]
     for i, a in enumerate(stops):                            # A26: "two Sospensione share a day, first and last days included"; "for ever"
         for b in stops[i + 1:]:
-            if a[1] <= b[2] and b[1] <= a[2]:
+            if a[1] <= b[3] and b[1] <= a[3]:
                 return 26
     ends = [e for e in evs if e[0] == CON]
     if len(ends) >= 2:                                       # A27: "there are two Conclusione"
         return 27
     for c in ends:                                           # A28: "an event's date or end date is after a Conclusione's date; a missing end is not"
         for e in evs:
-            if e[1] > c[1] or e[2] != NO_END and e[2] > c[1]:
+            if e[1] > c[1] or e[3] != NO_END and e[3] > c[1]:
                 return 28
     return 0
 
 
 class Register:
-    """A sound register taken apart: cases {key: body}, events {key: {(kind, date): event}}"""
+    """A sound register taken apart: cases {key: body}, events {key: {event_key: event}}"""
 
 
 def room(reg):
@@ -558,7 +565,7 @@ def load(reg):
     if None in cases or None in events:                      # V3, V4
         return None
     ck = [k for k, _ in cases]
-    ek = [(k, e[0], e[1]) for k, e in events]
+    ek = [(k, event_key(e)) for k, e in events]              # R3: "a key being the number that its bits make"
     if any(a >= b for a, b in zip(ck, ck[1:])) or any(a >= b for a, b in zip(ek, ek[1:])):   # V5: "Keys ascend strictly"
         return None
     out = Register()
@@ -568,7 +575,7 @@ def load(reg):
     for k, e in events:
         if k not in out.cases:                               # V6: "The case of every event stands"
             return None
-        out.events[k][e[0], e[1]] = e
+        out.events[k][event_key(e)] = e
     for k, evs in out.events.items():                        # V7: "The events of each case are free of 23 and of 25 to 28"
         evs = list(evs.values())
         if any(map(anomaly23, evs)) or after_anomaly(k[2], evs):
@@ -577,7 +584,7 @@ def load(reg):
 
 
 def store(r, length):
-    evs = sorted((k, e) for k, d in r.events.items() for e in d.values())   # key, kind, date come first: the key's order
+    evs = sorted(((k, e) for k, d in r.events.items() for e in d.values()), key=lambda x: (x[0], event_key(x[1])))
     out = len(r.cases).to_bytes(2, "big") + len(evs).to_bytes(2, "big")
     out += b"".join(pack_case(k, r.cases[k]) for k in sorted(r.cases))
     out += b"".join(pack_event(k, e) for k, e in evs)
@@ -651,7 +658,7 @@ def apply2(r, rec, in_quarter):
     if not evs:                                              # A20: "the record has no event"
         return 20
     for e in evs:                                            # A10: "of a Sospensione `dataFine`, .. or `dataInizio` where it has no end"
-        if not in_quarter(e[2] if e[0] == SOS and e[2] != NO_END else e[1]):
+        if not in_quarter(e[3] if e[0] == SOS and e[3] != NO_END else e[1]):
             return 10
     for e, v in pairs:                                       # A21: "a Rivalutazione has conferma 1 and a Valutazione, or 2 and none"
         if e[0] == RIV and (e[5] == 1) == (v is not None):
@@ -659,8 +666,8 @@ def apply2(r, rec, in_quarter):
     for e, v in pairs:                                       # A13
         if v is not None and text_at(v, b"Patologia", b"Prevalente") == b"000":
             return 13
-    keys = [(e[0], e[1]) for e in evs]
-    if len(set(keys)) < len(keys):                           # A22: "two events of the record have one key"
+    keys = list(map(event_key, evs))                         # E2: "refusals 14, 15 and 22 use the new key, order unchanged"
+    if len(set(keys)) < len(keys):                           # A22: "two events of the record have one key (R9)"
         return 22
     if any(map(anomaly23, evs)):
         return 23
@@ -720,9 +727,18 @@ def submit(sub, track, year, quarter, reg, answers):
     return 0, 0, len(records), accepted, len(records) - accepted, store(r, len(reg)), got + answers[len(got):]
 
 
-if __name__ == "__main__":                                   # P1, P5 and P6
+if __name__ == "__main__":                                   # P1, P5 and P6; E2's rows, worked out by hand
     assert LAST_DAY == 73048 and day(b"2000-02-29") == 36583 and day(b"1900-02-29") is None
     k = (10, b"101", day(b"2018-05-01"), b"A" * 88)
     assert pack_case(k, (1950, b"123", (0,) * 6))[:6].hex() == "0a62c18aa34e"
+    may = lambda d: day(b"2018-05-%02d" % d)
+    two, one, stop = (ERO, may(2), 2, NO_END, 3, 0), (ERO, may(2), 1, NO_END, 0, 0), (SOS, may(3), 9, may(5), 0, 0)
+    for e, last in ((two, "05546a02ffff830000"), (one, "05546a01ffff800000"), (stop, "06546a89546b800000")):
+        row = pack_event(k, e)
+        bits = int.from_bytes(row, "big") >> 40              # R9: "its row's first 688 bits"
+        assert row[82:].hex() == last and row[:6].hex() == "0a62c18aa34e" and read_event(row) == (k, e)
+        assert event_key(e) == (bits >> 24 & 3, bits >> 7 & NO_END, bits & 127 if e[0] == ERO else 0)
+    of = lambda *evs: sound(bytes([0, 1, 0, len(evs)]) + pack_case(k, (1950, b"123", (0,) * 6)) + b"".join(pack_event(k, e) for e in evs))
+    assert of(one, two, stop) == 0 and of(two, one) == of(two, two) == of(stop, two) == of((RIV, may(2), 1, NO_END, 0, 1), (RIV, may(2), 2, NO_END, 0, 1)) == 3
     assert sound(bytes(4)) == 0 and sound(bytes(3)) == 3 and room(bytes(94)) == 0 and room(bytes(95)) == 1
     print("ok")

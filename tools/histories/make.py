@@ -28,11 +28,18 @@ def key(id="A", region=10, asl="101", taken="2018-05-01"):
 def case(id="A", birth=1940, prevalente="250"):
     return bits(*key(id), (birth, 12), *chars(prevalente, 5), *[(0, 2)] * 6, (0, 7))
 def event(kind, date, end=None, code=1, accesses=0, conferma=0, id="A"):
-    return bits(*key(id), (kind, 2), (day(date), 17), (NEVER if end is None else day(end), 17), (code, 7), (accesses, 7), (conferma, 2), (0, 14))
+    return bits(*key(id), (kind, 2), (day(date), 17), (code, 7), (NEVER if end is None else day(end), 17), (accesses, 7), (conferma, 2), (0, 14))
 def reval(date, code=1, conferma=1, **k): return event(0, date, code=code, conferma=conferma, **k)
 def visit(date, code=2, accesses=0, **k): return event(1, date, code=code, accesses=accesses, **k)
 def susp(date, end=None, code=1, **k): return event(2, date, end, code=code, **k)
 def concl(date, code=1, **k): return event(3, date, code=code, **k)
+def old(row):
+    """an event's row as it was before E2: the end date in front of the code"""
+    s = format(int.from_bytes(row, "big"), "0%db" % (ROW * 8))
+    return int(s[:681] + s[688:705] + s[681:688] + s[705:], 2).to_bytes(ROW, "big")
+# bytes 82 to 90, worked out by hand from R23 to R29
+assert visit("2018-05-02", 2, 3)[82:].hex() == "05546a02ffff830000" and visit("2018-05-02", 1)[82:].hex() == "05546a01ffff800000"
+assert susp("2018-05-03", "2018-05-05", 9)[82:].hex() == "06546a89546b800000"
 class Reg:
     def __init__(self, n, cases=(), events=()):
         self.n, self.cases, self.events = n, list(cases), list(events)
@@ -133,7 +140,7 @@ F["prevalente_0000"] = f1(t1(prevalente="0000"))
 F["cases_a_000_b"] = f1(t1(), t1("C", prevalente="000"), t1("B"))
 F["no_event"] = f2(t2())
 F["visit"] = f2(t2([xv("2018-05-02", 2, 3)]))
-F["visit_varied"] = f2(t2([xv("2018-05-02", 5)], tipo="V"))
+F["visit_varied"] = f2(t2([xv("2018-05-02", 2, 7)], tipo="V"))
 F["visit_cancelled"] = f2(t2([xv("2018-05-02")], tipo="C"))
 F["visit_2018_04_30"] = f2(t2([xv("2018-04-30")]))
 F["visit_2018_05_03"] = f2(t2([xv("2018-05-03")]))
@@ -141,12 +148,37 @@ F["visit_2018_06_02"] = f2(t2([xv("2018-06-02")]))
 F["visit_2018_06_30"] = f2(t2([xv("2018-06-30")]))
 F["visit_2018_07_01"] = f2(t2([xv("2018-07-01")]))
 F["visits_2018_05_04_and_05"] = f2(t2([xv("2018-05-04"), xv("2018-05-05")]))
-F["visits_on_one_day"] = f2(t2([xv("2018-05-02", 2), xv("2018-05-02", 5)]))
+# operator 2 is a nurse, 7 a physiotherapist
+F["visits_on_one_day"] = f2(t2([xv("2018-05-02", 7), xv("2018-05-02", 2, 3)]))
+F["visits_on_one_day_cancelled"] = f2(t2([xv("2018-05-02", 2), xv("2018-05-02", 7)], tipo="C"))
+F["visits_on_one_day_varied"] = f2(*[t2([xv("2018-05-02", code, 9)], tipo="V") for code in (2, 7)])
+F["visits_in_two_records"] = f2(t2([xv("2018-05-02", 2, 3)]), t2([xv("2018-05-02", 7)]))
+F["visit_by_7"] = f2(t2([xv("2018-05-02", 7)]))
+F["visit_by_7_cancelled"] = f2(t2([xv("2018-05-02", 7, 99)], tipo="C"))
+F["visit_by_5_varied"] = f2(t2([xv("2018-05-02", 5, 3)], tipo="V"))
+F["visit_by_5_cancelled"] = f2(t2([xv("2018-05-02", 5, 3)], tipo="C"))
+F["visits_by_2_and_5_varied"] = f2(t2([xv("2018-05-02", 2, 7), xv("2018-05-02", 5)], tipo="V"))
+F["visits_by_2_and_5"] = f2(t2([xv("2018-05-02", 5), xv("2018-05-02", 2)]))
+F["visit_twice"] = f2(t2([xv("2018-05-02", 2, 3), xv("2018-05-02", 2)]))
+F["visit_twice_and_7"] = f2(t2([xv("2018-05-02", 2), xv("2018-05-02", 7), xv("2018-05-02", 2)]))
+F["visit_twice_in_two_records"] = f2(t2([xv("2018-05-02", 2, 3)]), t2([xv("2018-05-02", 2)]), t2([xv("2018-05-02", 7)]))
+OPERATORS = [*range(1, 14), 99]
+F["visits_by_all"] = f2(t2([xv("2018-05-02", code) for code in OPERATORS[::-1]]))
+F["visits_by_odd_cancelled"] = f2(t2([xv("2018-05-02", code) for code in OPERATORS if code % 2], tipo="C"))
 F["visits_the_second_stands"] = f2(t2([xv("2018-05-02")]), t2([xv("2018-05-04"), xv("2018-05-02")]), t2([xv("2018-05-06")]))
 F["revaluation_1_with"] = f2(t2([xr("2018-05-10", 1, 1, valut("250"))]))
 F["revaluation_2_without"] = f2(t2([xr("2018-05-10", 1, 2)]))
 F["revaluation_000"] = f2(t2([xr("2018-05-10", 1, 2, valut("000"))]))
 F["revaluation_2_with"] = f2(t2([xr("2018-05-10", 1, 2, valut("250"))]))
+F["revaluations_on_one_day"] = f2(t2([xr("2018-05-10", 1), xr("2018-05-10", 2)]))
+F["revaluations_in_two_records"] = f2(t2([xr("2018-05-10", 1)]), t2([xr("2018-05-10", 2)]))
+F["revaluation_motivo_2_varied"] = f2(t2([xr("2018-05-10", 2)], tipo="V"))
+F["revaluation_motivo_1_cancelled"] = f2(t2([xr("2018-05-10", 1)], tipo="C"))
+F["suspension_for_1"] = f2(t2([xs("2018-05-03", "2018-05-05")]))
+F["suspension_for_9"] = f2(t2([xs("2018-05-03", "2018-05-05", 9)]))
+F["suspension_for_9_varied"] = f2(t2([xs("2018-05-03", "2018-05-05", 9)], tipo="V"))
+F["suspension_for_2_cancelled"] = f2(t2([xs("2018-05-03", code=2)], tipo="C"))
+F["suspensions_from_05_03"] = f2(t2([xs("2018-05-03", "2018-05-05", 1), xs("2018-05-03", "2018-05-05", 9)]))
 F["suspension_backwards"] = f2(t2([xs("2018-05-05", "2018-05-03")]))
 F["suspension_june_to_july"] = f2(t2([xs("2018-06-28", "2018-07-02")]))
 F["suspensions_share_05_05"] = f2(t2([xs("2018-05-03", "2018-05-05"), xs("2018-05-05", "2018-05-09")]))
@@ -154,6 +186,9 @@ F["suspensions_apart"] = f2(t2([xs("2018-05-03", "2018-05-05"), xs("2018-05-06",
 F["suspension_without_end"] = f2(t2([xs("2018-05-10")]))
 F["suspension_in_june"] = f2(t2([xs("2018-06-20", "2018-06-21")]))
 F["conclusion_2018_06_01"] = f2(t2([xc("2018-06-01")]))
+F["conclusion_for_12"] = f2(t2([xc("2018-06-01", 12)]))
+F["conclusion_for_12_varied"] = f2(t2([xc("2018-06-01", 12)], tipo="V"))
+F["conclusion_for_99_cancelled"] = f2(t2([xc("2018-06-01", 99)], tipo="C"))
 F["conclusion_2018_06_02"] = f2(t2([xc("2018-06-02")]))
 F["conclusion_2018_07_31"] = f2(t2([xc("2018-07-31", 3)]))
 F["not_closed"] = "<FlsAssDom_2>\n"
@@ -175,7 +210,7 @@ F["case_d"] = f1(t1("D"))
 F["b_cancelled"] = f1(t1("B", "C"))
 F["b_cancelled_inserted_cancelled"] = f1(t1("B", "C"), t1("B"), t1("B", "C"))
 F["b_cancelled_with_faults"] = f1(t1("B", "C", birth="1879"), t1("B", "C", res=("999", "999", "999999", "It")), t1("B", "C", prevalente="000"), t1("D", "C"))
-F["old_events_of_b"] = f2(*[t2([xv("2018-05-02", 5)], "B", tipo) for tipo in "VCIV"], *[t2([xr("2018-05-10")], "B", tipo) for tipo in "VC"])
+F["old_events_of_b"] = f2(*[t2([xv("2018-05-02", 2, 5)], "B", tipo) for tipo in "VCIV"], *[t2([xr("2018-05-10")], "B", tipo) for tipo in "VC"])
 F["b_cancelled_and_d_to_h"] = f1(t1("B", "C"), *[t1(id) for id in "DEFGH"])
 AFTER_A, BEHIND = "A" * 87 + "B", "A" * 87 + "C"
 F["after_a_cancelled"] = f1(t1(AFTER_A, "C"))
@@ -185,7 +220,7 @@ F["depth_13"] = "<D>" * 12 + "<D/>" + "</D>" * 12 + "\n"
 
 A, B = case("A"), case("B")
 AV = case("A", 1941, "4019")
-V2 = visit("2018-05-02", 2, 3)
+V2, V7 = visit("2018-05-02", 2, 3), visit("2018-05-02", 7)
 # three cases whose Id_Recs differ in the last character, the middle one with 300 events; no row is free
 MANY = [(datetime.date(2018, 5, 1) + datetime.timedelta(i)).isoformat() for i in range(250)]
 MANY_OF = {
@@ -196,6 +231,9 @@ MANY_OF = {
 REGS = {
  "a_case_with_300_events": rows(343, [case(id) for id in MANY_OF], sum(MANY_OF.values(), [])).bytes(),
  "case_a": rows(2, [A]).bytes(),
+ # in the layout before E2
+ "old_visit": rows(2, [A], [old(V2)]).bytes(),
+ "old_suspension": rows(2, [A], [old(susp("2018-05-03", "2018-05-05", 9))]).bytes(),
  "case_a_and_a_bit_behind": rows(2, [A]).bytes()[:-1] + b"\x01",
 }
 

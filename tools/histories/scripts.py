@@ -36,10 +36,14 @@ script("answers/13_prevalente_000", note("000 is no prevalente, 0000 is one"), (
   sub(1, "prevalente_000", taken([13], rows(4))), sub(1, "prevalente_0000", taken([0], rows(4, [case("A", 1940, "0000")]))),
   note("Track 2: in the evaluation of a Rivalutazione"), sub(2, "revaluation_000", taken([13], rows(4, [case("A", 1940, "0000")]))))
 with_case("answers/14_stands_already", note("inserted twice: a case, an event"),
-  sub(1, "case_a", taken([14], rows(4, [A]))), sub(2, "visit", taken([0], rows(4, [A], [V2]))), sub(2, "visit", taken([14], rows(4, [A], [V2]))))
+  sub(1, "case_a", taken([14], rows(4, [A]))), sub(2, "visit", taken([0], rows(4, [A], [V2]))), sub(2, "visit", taken([14], rows(4, [A], [V2]))),
+  note("of two visits one is enough; another operator's visit of that day doesn't stand yet"),
+  sub(2, "visits_on_one_day", taken([14], rows(4, [A], [V2]))), sub(2, "visit_by_7", taken([0], rows(4, [A], [V2, V7]))))
 script("answers/15_does_not_stand", note("varied or cancelled, and never inserted: a case, an event"), ("rows 4", []),
   sub(1, "case_a_varied", taken([15], rows(4))), sub(1, "case_a_cancelled", taken([15], rows(4))), CASE,
-  sub(2, "visit_varied", taken([15], rows(4, [A]))), sub(2, "visit_cancelled", taken([15], rows(4, [A]))))
+  sub(2, "visit_varied", taken([15], rows(4, [A]))), sub(2, "visit_cancelled", taken([15], rows(4, [A]))),
+  note("by an operator who didn't come that day"), sub(2, "visit", taken([0], rows(4, [A], [V2]))),
+  sub(2, "visit_by_5_varied", taken([15], rows(4, [A], [V2]))), sub(2, "visit_by_5_cancelled", taken([15], rows(4, [A], [V2]))))
 script("answers/17_no_room", note("room for one row: a second case, an event"), ("rows 1", []),
   sub(1, "case_a", taken([0], rows(1, [A]))), sub(1, "case_b", taken([17], rows(1, [A]))), sub(2, "visit", taken([17], rows(1, [A]))))
 
@@ -48,7 +52,9 @@ script("answers/20_no_event", note("tested first: the case does not stand either
 with_case("answers/21_conferma", note("confermaPrecedente 1 with a Valutazione; 2 without; 2 with one is accepted"),
   sub(2, "revaluation_1_with", taken([21], rows(4, [A]))), sub(2, "revaluation_2_without", taken([21], rows(4, [A]))),
   sub(2, "revaluation_2_with", taken([0], rows(4, [A], [reval("2018-05-10", 1, 2)]))))
-with_case("answers/22_key_twice", note("two visits of one day in one record, whoever came"), sub(2, "visits_on_one_day", taken([22], rows(4, [A]))))
+with_case("answers/22_key_twice", note("in one record: two visits of a day by one operator; two Rivalutazioni of a day, two Sospensioni from one, whatever the code"),
+  sub(2, "visit_twice", taken([22], rows(4, [A]))), sub(2, "revaluations_on_one_day", taken([22], rows(4, [A]))), sub(2, "suspensions_from_05_03", taken([22], rows(4, [A]))),
+  note("two operators on one day are two visits"), sub(2, "visits_on_one_day", taken([0], rows(4, [A], [V2, V7]))))
 with_case("answers/23_ends_before_it_begins", note("a suspension from 2018-05-05 to 2018-05-03"), sub(2, "suspension_backwards", taken([23], rows(4, [A]))))
 script("answers/24_case_not_standing", note("an event, and no case"), ("rows 4", []), sub(2, "visit", taken([24], rows(4))))
 with_case("answers/25_before_the_taking_in", note("a visit on the day before"), sub(2, "visit_2018_04_30", taken([25], rows(4, [A]))))
@@ -67,13 +73,13 @@ script("answers/30_not_found", note("found; another Id_Rec; texts that no case h
   ("find 010 101 2018-02-30 A", at(30, 0)), ("find 010 101 2018-05-01 AA", at(30, 0)))
 
 # ---- histories
-E2 = [V2, susp("2018-06-28", "2018-07-02")]
-VV = visit("2018-05-02", 5)
+JULY = [V2, susp("2018-06-28", "2018-07-02")]
+VV = visit("2018-05-02", 2, 7)
 script("histories/a_case_over_two_quarters", note("second quarter: a case, a visit; a suspension that ends in July is the third quarter's"), ("rows 5", []),
   sub(1, "case_a", taken([0], rows(5, [A]))), sub(2, "visit", taken([0], rows(5, [A], [V2]))), sub(2, "suspension_june_to_july", taken([10], rows(5, [A], [V2]))),
   ("sound", ans(0)), ("find 010 101 2018-05-01 A", at(0, 4)),
   note("third quarter: the suspension, a visit whose row goes before it, the conclusion"),
-  sub(2, "suspension_june_to_july", taken([0], rows(5, [A], E2)), quarter=3),
+  sub(2, "suspension_june_to_july", taken([0], rows(5, [A], JULY)), quarter=3),
   sub(2, "visit_2018_07_01", taken([0], rows(5, [A], [V2, visit("2018-07-01"), susp("2018-06-28", "2018-07-02")])), quarter=3),
   sub(2, "conclusion_2018_07_31", taken([0], rows(5, [A], [V2, visit("2018-07-01"), susp("2018-06-28", "2018-07-02"), concl("2018-07-31", 3)])), quarter=3),
   note("corrections of the second quarter: the visit and the case are varied; a second conclusion is discarded"),
@@ -93,7 +99,7 @@ script("histories/inserted_and_cancelled", note("what stands before: case B"), (
   note("case A is inserted, its row before B's, and an event of it"),
   sub(1, "case_a", taken([0], AB6)), sub(2, "visit", taken([0], rows(6, [A, B], [V2]))),
   note("a file is refused and a record discarded; then the event is cancelled: the sum is the one before it"),
-  sub(2, "not_closed", refused(5, rows(6, [A, B], [V2]))), sub(2, "visits_on_one_day", taken([22], rows(6, [A, B], [V2]))), sub(2, "visit_cancelled", taken([0], AB6)),
+  sub(2, "not_closed", refused(5, rows(6, [A, B], [V2]))), sub(2, "visit_twice", taken([22], rows(6, [A, B], [V2]))), sub(2, "visit_cancelled", taken([0], AB6)),
   note("again a file refused and a record discarded; then the case is cancelled: the sum is the one before both"),
   sub(2, "events_129", refused(7, AB6, 1)), sub(1, "case_a", taken([14], AB6)), sub(1, "case_a_cancelled", taken([0], B6)), ("sound", ans(0)))
 ALL = [reval(d) for d in DAYS] + [visit(d) for d in DAYS] + [susp(d, d) for d in DAYS[:6]]
@@ -138,13 +144,13 @@ with_three("histories/the_neighbours_stay", "B is cancelled: its three events go
   ("find 010 101 2018-05-01 A", at(0, 4)), ("find 010 101 2018-05-01 B", at(30, 0)), ("find 010 101 2018-05-01 C", at(0, 95)))
 with_three("histories/cancelled_inserted_cancelled", "in one file B is cancelled, inserted, cancelled: its events go with the first, and once",
   sub(1, "b_cancelled_inserted_cancelled", taken([0, 0, 0], WITHOUT_B)), ("sound", ans(0)))
-BACK = rows(10, [A, B, C3], AE + [visit("2018-05-02", 5, id="B")] + CE)
+BACK = rows(10, [A, B, C3], AE + [visit("2018-05-02", 2, 5, id="B")] + CE)
 with_three("histories/events_do_not_come_back", "B is cancelled: of its events none is admitted; it is inserted again, and they don't come back",
   sub(1, "b_cancelled", taken([0], WITHOUT_B)), sub(2, "old_events_of_b", taken([24] * 6, WITHOUT_B)), sub(1, "case_b", taken([0], rows(10, [A, B, C3], AE + CE))),
   note("an old visit: varied and cancelled 15, inserted and then varied 0; an old Rivalutazione: varied and cancelled 15"),
   sub(2, "old_events_of_b", taken([15, 15, 0, 0, 15, 15], BACK)), note("that of the third quarter doesn't stand either, and goes in again"),
   sub(2, "visit_b_2018_07_05_cancelled", taken([15], BACK), quarter=3),
-  sub(2, "visit_b_2018_07_05", taken([0], rows(10, [A, B, C3], AE + [visit("2018-05-02", 5, id="B"), BE[2]] + CE)), quarter=3), ("sound", ans(0)))
+  sub(2, "visit_b_2018_07_05", taken([0], rows(10, [A, B, C3], AE + [visit("2018-05-02", 2, 5, id="B"), BE[2]] + CE)), quarter=3), ("sound", ans(0)))
 with_three("histories/a_discarded_cancellation_takes_nothing", "B's cancellation, declared for the third quarter, gives 10: every byte stays",
   sub(1, "b_cancelled", taken([10], ABC), quarter=3), note("with a birth year of 1879, with the state Italy, with prevalente 000; and of a case that doesn't stand"),
   sub(1, "b_cancelled_with_faults", taken([11, 12, 13, 15], ABC)), ("sound", ans(0)))
@@ -162,6 +168,70 @@ script("histories/a_case_with_300_events", note("Id_Recs that differ in the last
   note("once more, inserted again in the same file: it has no events"), ("load registers/a_case_with_300_events", []),
   sub(1, "after_a_cancelled_inserted", taken([0, 0], rows(343, [A, case(AFTER_A), case(BEHIND)], MANY_LEFT))), ("sound", ans(0)))
 
+# ---- two operators on one day (E2)
+BOTH = rows(4, [A], [V2, V7])
+with_case("histories/two_operators_in_one_record", note("a nurse (2) and a physiotherapist (7) visit on one day: the rows go by the operator, though the record has 7 first"),
+  sub(2, "visits_on_one_day", taken([0], BOTH)), ("sound", ans(0)), sub(2, "visits_on_one_day", taken([14], BOTH)))
+with_case("histories/two_operators_in_two_records", note("the same in two records of one file"),
+  sub(2, "visits_in_two_records", taken([0, 0], BOTH)), ("sound", ans(0)), sub(2, "visits_in_two_records", taken([14, 14], BOTH)))
+with_case("histories/two_operators_in_two_files", note("the same in two files"),
+  sub(2, "visit", taken([0], rows(4, [A], [V2]))), sub(2, "visit_by_7", taken([0], BOTH)), ("sound", ans(0)),
+  note("the other way round: the second one's row goes in front of the first one's"), ("rows 4", []), CASE,
+  sub(2, "visit_by_7", taken([0], rows(4, [A], [V7]))), sub(2, "visit", taken([0], BOTH)), ("sound", ans(0)),
+  note("the nurse's visit of the next day goes behind both: rows go by the date, then by the operator"),
+  sub(2, "visit_2018_05_03", taken([0], rows(4, [A], [V2, V7, visit("2018-05-03")]))), ("sound", ans(0)))
+with_case("histories/one_operator_twice", note("by the same operator twice in one record: 22, with a third visit between them too"),
+  sub(2, "visit_twice", taken([22], rows(4, [A]))), sub(2, "visit_twice_and_7", taken([22], rows(4, [A]))),
+  note("in two records: 14 for the second, and the other operator's goes in; once more in files of their own"),
+  sub(2, "visit_twice_in_two_records", taken([0, 14, 0], BOTH)), sub(2, "visit", taken([14], BOTH)), sub(2, "visit_by_7", taken([14], BOTH)), ("sound", ans(0)))
+with_case("histories/another_operator_is_another_key", note("a nurse came: a variation and a cancellation that name operator 5 give 15, alone or beside hers"),
+  sub(2, "visit", taken([0], rows(4, [A], [V2]))), sub(2, "visit_by_5_varied", taken([15], rows(4, [A], [V2]))), sub(2, "visit_by_5_cancelled", taken([15], rows(4, [A], [V2]))),
+  sub(2, "visits_by_2_and_5_varied", taken([15], rows(4, [A], [V2]))), note("an insertion of both gives 14, and of operator 5's nothing is stored; the nurse's own variation goes in"),
+  sub(2, "visits_by_2_and_5", taken([14], rows(4, [A], [V2]))), sub(2, "visit_varied", taken([0], rows(4, [A], [VV]))), ("sound", ans(0)))
+with_case("histories/each_of_two_visits_varied", note("each operator's variation changes that one's row alone"),
+  sub(2, "visits_on_one_day", taken([0], BOTH)), sub(2, "visit_varied", taken([0], rows(4, [A], [VV, V7]))),
+  sub(2, "visits_on_one_day_varied", taken([0, 0], rows(4, [A], [visit("2018-05-02", 2, 9), visit("2018-05-02", 7, 9)]))), ("sound", ans(0)))
+with_case("histories/one_of_two_visits_cancelled", note("the nurse's visit is cancelled: the physiotherapist's stays; cancelled once more 15"),
+  sub(2, "visits_on_one_day", taken([0], BOTH)), sub(2, "visit_cancelled", taken([0], rows(4, [A], [V7]))), ("sound", ans(0)), sub(2, "visit_cancelled", taken([15], rows(4, [A], [V7]))),
+  note("both at once: one doesn't stand, so nothing goes; the nurse's goes in again"),
+  sub(2, "visits_on_one_day_cancelled", taken([15], rows(4, [A], [V7]))), sub(2, "visit", taken([0], BOTH)),
+  note("then the physiotherapist's is cancelled, whatever its accesses, and inserted; then both"),
+  sub(2, "visit_by_7_cancelled", taken([0], rows(4, [A], [V2]))), sub(2, "visit_by_7", taken([0], BOTH)),
+  sub(2, "visits_on_one_day_cancelled", taken([0], rows(4, [A]))), ("sound", ans(0)))
+with_case("histories/two_visits_carried_away", note("the case is cancelled: both visits go with it"),
+  sub(2, "visits_on_one_day", taken([0], BOTH)), sub(1, "case_a_cancelled", taken([0], rows(4))), ("sound", ans(0)), sub(2, "visits_on_one_day", taken([24], rows(4))),
+  note("it is inserted again: neither visit stands, and both go in again"), CASE,
+  sub(2, "visits_on_one_day_varied", taken([15, 15], rows(4, [A]))), sub(2, "visits_in_two_records", taken([0, 0], BOTH)), ("sound", ans(0)))
+EVERY = [visit("2018-05-02", code) for code in OPERATORS]
+EVEN = [visit("2018-05-02", code) for code in OPERATORS if code % 2 == 0]
+script("histories/every_operator_on_one_day", note("operators 99, 13, 12 .. 1 in one record: the rows are 1 .. 13, 99, and no row is left"), ("rows 15", []),
+  sub(1, "case_a", taken([0], rows(15, [A]))), sub(2, "visits_by_all", taken([0], rows(15, [A], EVERY))), ("sound", ans(0)), sub(1, "case_b", taken([17], rows(15, [A], EVERY))),
+  note("every other one is cancelled; all of them once more give 14"),
+  sub(2, "visits_by_odd_cancelled", taken([0], rows(15, [A], EVEN))), ("sound", ans(0)), sub(2, "visits_by_all", taken([14], rows(15, [A], EVEN))))
+R1, R2 = reval("2018-05-10", 1), reval("2018-05-10", 2)
+with_case("histories/two_revaluations_on_one_day", note("the motivo is no part of the key: in one record 22; in two records 14 for the second"),
+  sub(2, "revaluations_on_one_day", taken([22], rows(4, [A]))), sub(2, "revaluations_in_two_records", taken([0, 14], rows(4, [A], [R1]))),
+  note("varied to motivo 2: one row, with the new one; a cancellation that names motivo 1 takes it out"),
+  sub(2, "revaluation_motivo_2_varied", taken([0], rows(4, [A], [R2]))), ("sound", ans(0)), sub(2, "revaluations_in_two_records", taken([14, 14], rows(4, [A], [R2]))),
+  sub(2, "revaluation_motivo_1_cancelled", taken([0], rows(4, [A]))), sub(2, "revaluation_motivo_2_varied", taken([15], rows(4, [A]))))
+S1, S9, C1, C12 = susp("2018-05-03", "2018-05-05"), susp("2018-05-03", "2018-05-05", 9), concl("2018-06-01"), concl("2018-06-01", 12)
+with_case("histories/another_motivazione", note("nor is a Motivazione part of it: from one day 22 in a record; varied to Motivazione 9 there is one row, with 9"),
+  sub(2, "suspensions_from_05_03", taken([22], rows(4, [A]))), sub(2, "suspension_for_1", taken([0], rows(4, [A], [S1]))), sub(2, "suspension_for_9", taken([14], rows(4, [A], [S1]))),
+  sub(2, "suspension_for_9_varied", taken([0], rows(4, [A], [S9]))), ("sound", ans(0)), note("a Conclusione so too"),
+  sub(2, "conclusion_2018_06_01", taken([0], rows(4, [A], [S9, C1]))), sub(2, "conclusion_for_12", taken([14], rows(4, [A], [S9, C1]))),
+  sub(2, "conclusion_for_12_varied", taken([0], rows(4, [A], [S9, C12]))), ("sound", ans(0)),
+  note("a cancellation takes the row, whatever Motivazione and end it names"),
+  sub(2, "suspension_for_2_cancelled", taken([0], rows(4, [A], [C12]))), sub(2, "conclusion_for_99_cancelled", taken([0], rows(4, [A]))))
+script("histories/two_operators_and_no_room", note("a case and a visit fill the register: another operator's visit 17, the same one's 14, twice in a record 22"), ("rows 2", []),
+  sub(1, "case_a", taken([0], rows(2, [A]))), sub(2, "visits_on_one_day", taken([17], rows(2, [A]))), sub(2, "visit", taken([0], rows(2, [A], [V2]))),
+  sub(2, "visit_by_7", taken([17], rows(2, [A], [V2]))), sub(2, "visits_on_one_day", taken([14], rows(2, [A], [V2]))), sub(2, "visit_twice", taken([22], rows(2, [A], [V2]))),
+  sub(2, "visit_by_5_varied", taken([15], rows(2, [A], [V2]))))
+def old_register(name, event):
+    return [("load registers/" + name, []), ("sound", ans(3)), sub(2, "visit_by_7", refused(3, REGS[name])), sub(1, "case_a", refused(3, REGS[name])), ("find 010 101 2018-05-01 A", at(3, 0)),
+      ("empty", ans(0) + standing(rows(2))), sub(1, "case_a", taken([0], rows(2, [A]))), sub(2, event[0], taken([0], rows(2, [A], [event[1]])))]
+script("histories/registers_of_the_old_layout", note("a register of the layout before E2, with a visit: every file gives 3, and no byte moves; it is emptied, and all sent again"),
+  *old_register("old_visit", ("visit", V2)), note("the same with a suspension that ends"), *old_register("old_suspension", ("suspension_for_9", S9)), ("sound", ans(0)))
+
 A1 = rows(1, [A])
 def pad(n, f, exp): return ("padded %d 2 2018 2 files/%s.xml" % (n, f), exp)
 script("histories/the_first_that_holds", note("files to which two answers would fit: the first in the order 1 to 8 is given"), ("bytes 3", []),
@@ -169,7 +239,7 @@ script("histories/the_first_that_holds", note("files to which two answers would 
   ("rows 1", []), ("list 0", []), pad(1048577, "not_closed", refused(4, rows(1))), sub(2, "not_closed", refused(5, rows(1))), sub(2, "no_record", refused(6, rows(1))),
   sub(2, "events_129", refused(7, rows(1), 1)), sub(2, "no_event", refused(8, rows(1))), ("list 1", []), sub(2, "no_event", taken([20], rows(1))),
   note("records of Track 2, while the case does not stand: 20, 10, 22, 23 before 24; 24 before 15 and 25"),
-  sub(2, "no_event", taken([20], rows(1)), quarter=3), sub(2, "suspension_backwards", taken([10], rows(1)), quarter=3), sub(2, "visits_on_one_day", taken([22], rows(1))),
+  sub(2, "no_event", taken([20], rows(1)), quarter=3), sub(2, "suspension_backwards", taken([10], rows(1)), quarter=3), sub(2, "visit_twice", taken([22], rows(1))),
   sub(2, "suspension_backwards", taken([23], rows(1))), sub(2, "visit_varied", taken([24], rows(1))), sub(2, "visit_2018_04_30", taken([24], rows(1))),
   note("Track 1, with the case standing and no room: 10 to 13 before 14, and 14 before 17"),
   sub(1, "case_a", taken([0], A1)), sub(1, "case_a", taken([10], A1), quarter=3), sub(1, "born_1879", taken([11], A1)), sub(1, "abroad_it", taken([12], A1)),
