@@ -1,5 +1,5 @@
 -- One event fewer, into the gap: the rows that stand without the gap are those of the state without it.
-use Prim.Native.Nat.{ℕ, suc, _+_, _-_, _*_, _/_, _^_, _≤_, _<_}
+use Prim.Native.Nat.{ℕ, suc, _+_, _-_, _*_, _^_, _≤_, _<_}
 use mathlib.Core.Path.{_≡_, sym, ap, ap₂, subst, _∙_}
 use mathlib.Core.Logic.{⊎-elim}
 use mathlib.Core.Bool.{true, false}
@@ -14,20 +14,22 @@ use Rattle.model.specs.Map.{Map, has, del, delAll, Asc, allIn, twice}
 use Rattle.model.specs.Flow.{State}
 use Rattle.model.proofs.MapLaws.{asc-delAll}
 use Rattle.model.proofs.MapSizes.{size-del}
-use Rattle.register.specs.Gap.{Gap, bytesAt, fieldIn}
+use Rattle.register.specs.Gap.{Gap, bytesAt}
 use Rattle.register.specs.Moves.{removed, withCount}
 use Rattle.register.specs.Search.{keyAt, Rises, Placed, Ranged}
 use Rattle.register.specs.Stored.{Stored, events, withRows}
 use Rattle.register.proofs.Found.{cases-rise}
-use Rattle.register.proofs.Gaps.{gap-row, key-same, field-same}
-use Rattle.register.proofs.GapRows.{took-before, took-behind, key-moved}
+use Rattle.register.proofs.Gaps.{gap-row, key-same}
+use Rattle.register.proofs.GapRows.{took-before, took-behind}
 use Rattle.register.proofs.GoneRow.{found-row, found-key, drop-found}
-use Rattle.register.proofs.Places.{keys-rise}
-use Rattle.home_care.specs.Row.{eventBits, siad, rowBytes, eventKeyBits, ownBits, keyBits, pastOwn}
+use Rattle.register.proofs.Places.{keys-climb}
+use Rattle.home_care.specs.Row.{eventBits, siad, rowBytes, eventRow, eventKeyOf, ownBits, keyBits}
+use Rattle.home_care.specs.EventRows.{OwnPlaced}
 use Rattle.home_care.proofs.Laid.{laid-siad}
 use Rattle.apply.specs.Events.{rowsFor, NextBelow}
-use Rattle.apply.proofs.Merge.{none-past}
-use Rattle.apply.proofs.OwnKey.{whole-placed, key-parts, from-or-before}
+use Rattle.apply.proofs.Merge.{fromKey, none-past}
+use Rattle.apply.proofs.OwnKey.{rowKey, Ascends, row-same, whole-placed, key-parts, from-or-before}
+use Rattle.apply.proofs.RowsPacked.{row-key}
 use Rattle.apply.proofs.Growing.{keepFrom}
 use Rattle.apply.proofs.Without.{all-shrunk, next-stands, next-shrunk}
 
@@ -40,9 +42,9 @@ pub record Shrank (k : ℕ) (evs : List ℕ) (s : State ℕ ℕ) (c lo i m bound
   pub stored : Stored siad a (stateLess k evs s bound)
   pub total : m ≡ length (s .cases) + length (stateLess k evs s bound .events)
   pub start : c ≡ length (s .cases)
-  pub early : (p : ℕ) → c ≤ p → p < lo → keyAt rowBytes eventKeyBits a p < k * 2 ^ ownBits
+  pub early : (p : ℕ) → c ≤ p → p < lo → rowKey a p < k * 2 ^ ownBits
   pub inside : (p : ℕ) → lo ≤ p → p < i → keyAt rowBytes keyBits a p ≡ k
-  pub late : (p : ℕ) → i ≤ p → p < m → k * 2 ^ ownBits + bound ≤ keyAt rowBytes eventKeyBits a p
+  pub late : (p : ℕ) → i ≤ p → p < m → k * 2 ^ ownBits + bound ≤ rowKey a p
 
 -- none is out yet: the bound is past every event's key
 pub shrank-start : (k : ℕ) (evs : List ℕ) (s : State ℕ ℕ) (c n lo hi : ℕ) (a : List ℕ) → all (λ e. ltb e (2 ^ eventBits)) evs ≡ true → Stored siad a s →
@@ -70,10 +72,13 @@ module _ (k : ℕ) (evs : List ℕ) (s : State ℕ ℕ) (once : twice (rowsFor k
       = all-shrunk k evs (s .events) once stand up (k * 2 ^ ownBits + bound) (omega (arith, g .total)) in
       subst (λ (x : Map ℕ). Stored siad a (withRows events x s)) e (g .stored)
 
-  module _ (b : List ℕ) (j : ℕ) (gap : Gap rowBytes i j m a b) (q : ℕ) (hq : q < length evs) (nb : NextBelow evs bound q) (r : ℕ)
-      (pl : Placed (fieldIn rowBytes keyBits ownBits b) (getD evs q 0 / 2 ^ pastOwn) lo i r) (lc : c ≤ lo) (im : i ≤ m) where
+  module _ (small : all (λ e. ltb e (2 ^ eventBits)) evs ≡ true) (b : List ℕ) (j : ℕ) (gap : Gap rowBytes i j m a b) (q : ℕ) (hq : q < length evs)
+      (nb : NextBelow evs bound q) (r : ℕ) (pl : OwnPlaced b (getD evs q 0) lo i r) (lc : c ≤ lo) (im : i ≤ m) where
+    abbrev e : ℕ
+    e = getD evs q 0
+
     abbrev own : ℕ
-    own = getD evs q 0 / 2 ^ pastOwn
+    own = eventKeyOf e
 
     abbrev key : ℕ
     key = k * 2 ^ ownBits + own
@@ -81,44 +86,46 @@ module _ (k : ℕ) (evs : List ℕ) (s : State ℕ ℕ) (once : twice (rowsFor k
     abbrev now : State ℕ ℕ
     now = stateLess k evs s bound
 
-    field-is : (p : ℕ) → p < i → fieldIn rowBytes keyBits ownBits b p ≡ fieldIn rowBytes keyBits ownBits a p
-    field-is p h = field-same rowBytes keyBits ownBits p b a (gap-row rowBytes i j m a b gap p h)
+    ascends : Ascends a c m
+    ascends = rw (g .start, g .total) (keys-climb siad laid-siad events a now (g .stored))
 
-    rise : Rises (keyAt rowBytes eventKeyBits a) c m
-    rise = rw (g .start, g .total) (keys-rise siad laid-siad events a now (g .stored))
-
-    placed : Placed (keyAt rowBytes eventKeyBits a) key c m r
+    placed : Placed (rowKey a) key c m r
     placed =
-        whole-placed k own a (fieldIn rowBytes keyBits ownBits b) c lo i m r rise lc im field-is (λ p x y. let w = g .early p x y in omega arith)
+        whole-placed k e a b c lo i m r ascends lc im (gap-row rowBytes i j m a b gap) (λ p x y. let w = g .early p x y in omega arith)
         (g .inside) (λ p x y. let w = g .late p x y in let d = nb .below hq in omega arith) pl
 
-    below-bound : key < k * 2 ^ ownBits + bound
-    below-bound = omega (arith, nb .below hq)
+    key-is : eventRow k e .key ≡ key
+    key-is = row-key evs small q hq k
+
+    below-bound : eventRow k e .key < k * 2 ^ ownBits + bound
+    below-bound = omega (arith, key-is, nb .below hq)
 
     -- the key stands
     there : has key (now .events) ≡ true
-    there = next-stands k evs (s .events) once stand up q hq (k * 2 ^ ownBits + bound) below-bound
+    there = ap (λ (x : ℕ). has x (now .events)) (sym key-is) ∙ next-stands k evs (s .events) once stand up q hq (k * 2 ^ ownBits + bound) below-bound
 
-    found : Placed (keyAt rowBytes eventKeyBits a) key (length (s .cases)) (length (s .cases) + length (now .events)) r
+    found : Placed (rowKey a) key (length (s .cases)) (length (s .cases) + length (now .events)) r
     found =
         let em : length (s .cases) + length (now .events) ≡ m = sym (g .total) in
         let ec : length (s .cases) ≡ c = sym (g .start) in
         rw (em, ec) placed
 
-    here : keyAt rowBytes eventKeyBits a r ≡ key
+    here : rowKey a r ≡ key
     here = found-key siad laid-siad events a now (g .stored) key r found there
 
     -- at the place found, which is one of the case's rows
     pub in-case : r < i
     in-case =
         let t = ltb-true r (length (s .cases) + length (now .events))
-        (and-left (ltb r (length (s .cases) + length (now .events))) (eqb (keyAt rowBytes eventKeyBits a r) key) (found-row siad laid-siad events a now (g .stored) key r found there)) in
-        ⊎-elim (λ w. let v = g .late r w (omega (arith, g .total)) in absurd (omega (arith, below-bound, here))) (λ w. w) (from-or-before i r)
+        (and-left (ltb r (length (s .cases) + length (now .events))) (eqb (rowKey a r) key) (found-row siad laid-siad events a now (g .stored) key r found there)) in
+        ⊎-elim (λ w. let v = g .late r w (omega (arith, g .total)) in absurd (omega (arith, nb .below hq, here))) (λ w. w) (from-or-before i r)
 
     next-is : del key (now .events) ≡ stateLess k evs s own .events
     next-is =
-        next-shrunk k evs (s .events) once stand up q hq (k * 2 ^ ownBits + bound) below-bound
-        (λ p w z. let d = nb .most p w (omega arith) in omega (arith, d .1))
+        ap (λ (x : ℕ). del x (now .events)) (sym key-is)
+        ∙ next-shrunk k evs (s .events) once stand up q hq (k * 2 ^ ownBits + bound) below-bound
+        (λ p w z. let x = row-key evs small p w k in let d = nb .most p w (omega arith) in omega (arith, d .1, key-is))
+        ∙ ap (λ (v : ℕ). delAll (fromKey v (rowsFor k evs)) (s .events)) key-is
 
     module _ (b' : List ℕ) (gap' : Gap rowBytes (r + 1) j m a b') (after : List ℕ) (len : length after ≡ length a)
         (is : after ≡ withCount 2 (m - c - 1) (removed rowBytes r m a)) where
@@ -153,10 +160,10 @@ module _ (k : ℕ) (evs : List ℕ) (s : State ℕ ℕ) (once : twice (rowsFor k
             stored = next-stored;
             total = omega (arith, g .total);
             start = g .start;
-            early = λ p x y. rw (key-same rowBytes eventKeyBits p after a (before p (omega (arith, pl .low)))) (g .early p x y);
+            early = λ p x y. rw (row-same p p after a (before p (omega (arith, pl .low)))) (g .early p x y);
             inside = λ p x y. key-same rowBytes keyBits p after a (before p y) ∙ g .inside p x (omega (arith, in-case));
             late = λ p x y.
-                let z : keyAt rowBytes eventKeyBits after p ≡ keyAt rowBytes eventKeyBits a (p + 1) = key-moved rowBytes eventKeyBits p (p + 1) after a (behind p x y) in
-                let u = rise r (p + 1) (omega (arith, pl .low)) (omega arith) (omega arith) in
+                let z = row-same p (p + 1) after a (behind p x y) in
+                let u = ascends r (p + 1) (omega (arith, pl .low)) (omega arith) (omega arith) in
                 omega (arith, here);
           }

@@ -1,5 +1,5 @@
 -- The events of a record over those with their keys, the last first.
-use Prim.Native.Nat.{ℕ, zero, suc, _+_, _-_, _*_, _/_, _^_, _≤_, _<_}
+use Prim.Native.Nat.{ℕ, zero, suc, _+_, _-_, _*_, _^_, _≤_, _<_}
 use mathlib.Core.Path.{_≡_, refl, sym, ap, subst, _∙_}
 use mathlib.Core.Bool.{Bool, true, false, _&&_, false≢true}
 use mathlib.Core.List.{List, [], _∷_}
@@ -15,20 +15,20 @@ use Rattle.model.specs.Flow.{State}
 use Rattle.model.proofs.MapLaws.{find-below, has-put, asc-putAll}
 use Rattle.model.proofs.MapSizes.{size-vary}
 use Rattle.register.specs.Layout.{casesHeld, eventsHeld}
-use Rattle.register.specs.Gap.{fieldIn}
 use Rattle.register.specs.Moves.{replaced}
-use Rattle.register.specs.Search.{keyAt, Rises, Placed, Ranged}
+use Rattle.register.specs.Search.{keyAt, Rises, Ranged}
 use Rattle.register.specs.Stored.{Stored, events, withRows}
 use Rattle.register.proofs.Found.{cases-rise}
 use Rattle.register.proofs.Places.{key-at}
 use Rattle.register.proofs.States.{stored-few, stored-end}
 use Rattle.register.proofs.Stores.{room-denied}
-use Rattle.home_care.specs.Row.{keyBits, eventBits, siad, eventRow, rowBytes, pastOwn, eventKeyBits, ownBits}
+use Rattle.home_care.specs.Row.{keyBits, eventBits, siad, eventRow, rowBytes}
+use Rattle.home_care.specs.EventRows.{OwnPlaced}
 use Rattle.home_care.proofs.Laid.{laid-siad}
 use Rattle.apply.specs.RowBytes.{eventBytes}
 use Rattle.apply.specs.Events.{rowsFor, AllOver}
 use Rattle.apply.proofs.Filling.{standing}
-use Rattle.apply.proofs.OwnKey.{key-parts}
+use Rattle.apply.proofs.OwnKey.{rowKey, key-parts}
 use Rattle.apply.proofs.Spot.{found, written-over}
 use Rattle.register.specs.RoomAndEmptying.{mostRows}
 
@@ -103,7 +103,7 @@ module _ (k : ℕ) (evs a : List ℕ) where
         absurd (room-denied rowBytes (c + v) (length a) t x f (omega (arith, w .1)) (omega (arith, w .1)))
 
     module _ (hk : k < 2 ^ keyBits) (lo hi : ℕ) (rg : Ranged (keyAt rowBytes keyBits a) k c (c + v) lo hi) (b : List ℕ) (i : ℕ) (z : 0 < i) (l : i ≤ length evs)
-        (he : getD evs (i - 1) 0 < 2 ^ eventBits) (f : OverFrom k evs i a b) (r : ℕ) (pl : Placed (fieldIn rowBytes keyBits ownBits b) (getD evs (i - 1) 0 / 2 ^ pastOwn) lo hi r) where
+        (he : getD evs (i - 1) 0 < 2 ^ eventBits) (f : OverFrom k evs i a b) (r : ℕ) (pl : OwnPlaced b (getD evs (i - 1) 0) lo hi r) where
       abbrev e : ℕ
       e = getD evs (i - 1) 0
 
@@ -141,8 +141,8 @@ module _ (k : ℕ) (evs a : List ℕ) where
             let q : length (s .cases) + (p - c) ≡ p = omega (arith, start) in
             let kb = key-at siad laid-siad events b t (f s st al) (p - c) d (omega (arith, total, start, same-size)) in
             let ka = key-at siad laid-siad events a s st (p - c) d (omega (arith, total, start)) in
-            let w : keyAt rowBytes eventKeyBits b p ≡ keyAt rowBytes eventKeyBits a p
-            = subst (λ (j : ℕ). keyAt rowBytes eventKeyBits b j ≡ keyAt rowBytes eventKeyBits a j) q (kb ∙ key-putAll rs (s .events) (p - c) d (both .1) (st .good .1) ∙ sym ka) in
+            let w : rowKey b p ≡ rowKey a p
+            = subst (λ (j : ℕ). rowKey b j ≡ rowKey a j) q (kb ∙ key-putAll rs (s .events) (p - c) d (both .1) (st .good .1) ∙ sym ka) in
             let pb = key-parts b p in
             let pa = key-parts a p in
             omega arith

@@ -13,10 +13,10 @@ ghost use Rattle.home_care.specs.Row.{rowBytes, keyBits, eventBits};
 ghost use Rattle.apply.specs.Events.{AllOut};
 ghost use Rattle.register.specs.View.{mostCounted};
 use crate::order::next_below;
+use home_care::event_bits::event_key_of;
+use home_care::event_rows::place_event;
 use home_care::layout::CASE_KEY;
-use home_care::layout::OWN_KEY;
 use home_care::layout::OWN_KEYS;
-use home_care::layout::PAST_OWN;
 use home_care::layout::ROW;
 use register::counts::count;
 use register::counts::set_count;
@@ -24,7 +24,6 @@ use register::moving::remove_rows;
 use register::moving::shift_right;
 use register::room::room_for;
 use register::search::case_range;
-use register::search::place_by;
 
 // A gap of j rows in front of row i takes row r in: the rows between go on through the gap.
 fn widen(reg: &mut [u8], r: usize, i: usize, j: usize)
@@ -61,8 +60,9 @@ pub fn cancel_events(reg: &mut [u8], probe: &[u8], evs: &[u64])
         if k <= p {
             return;
         }
-        bound = evs[p] >> PAST_OWN;
-        let r = place_by(reg, ROW, lo, i, CASE_KEY, OWN_KEY, bound);
+        let e = evs[p];
+        bound = event_key_of(e);
+        let r = place_event(reg, lo, i, e);
         if i <= r {
             return;
         }

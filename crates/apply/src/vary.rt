@@ -10,14 +10,12 @@ ghost use Rattle.home_care.specs.Row.{rowBytes, keyBits, eventBits};
 ghost use Rattle.apply.specs.Events.{AllOver};
 use crate::event_row::set_row;
 use crate::probe::key_in;
+use home_care::event_rows::place_event;
 use home_care::layout::CASE_KEY;
-use home_care::layout::OWN_KEY;
-use home_care::layout::PAST_OWN;
 use home_care::layout::ROW;
 use register::counts::count;
 use register::room::room_for;
 use register::search::case_range;
-use register::search::place_by;
 
 // The events of a record whose keys all stand (15): each is packed over the row with its key.
 pub fn vary_events(reg: &mut [u8], probe: &[u8], evs: &[u64])
@@ -39,7 +37,7 @@ pub fn vary_events(reg: &mut [u8], probe: &[u8], evs: &[u64])
     let mut i = evs.len();
     while 0 < i {
         i -= 1;
-        let r = place_by(reg, ROW, lo, hi, CASE_KEY, OWN_KEY, evs[i] >> PAST_OWN);
+        let r = place_event(reg, lo, hi, evs[i]);
         if r < hi {
             set_row(reg, r, probe, key, evs[i]);
         }

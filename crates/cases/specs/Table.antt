@@ -42,7 +42,7 @@ abbrev declared : ℕ → ℕ → Context
 declared year quarter = record { first = firstDay year quarter; last = lastDay year quarter; room = 2 }
 
 abbrev suspended : string.String → string.String → ℕ
-suspended a b = eventNumber (eventWith suspension (dayOf (bytes a)) (dayOf (bytes b)) 1 0 0)
+suspended a b = eventNumber (eventWith suspension (dayOf (bytes a)) 1 (dayOf (bytes b)) 0 0)
 
 abbrev shared : string.String → string.String → string.String → string.String → Bool
 shared a b c d = t26 (suspended a b ∷ suspended c d ∷ [])
@@ -70,7 +70,7 @@ admitted key prevalente =
 abbrev valuedAnew : Key → string.String → Record
 valuedAnew key prevalente =
     events (inserts key)
-    (record { event = eventNumber (eventWith revaluation (dayOf (bytes "2018-05-10")) never 1 0 2); valued = true; prevalente = bytes prevalente } ∷ [])
+    (record { event = eventNumber (eventWith revaluation (dayOf (bytes "2018-05-10")) 1 never 0 2); valued = true; prevalente = bytes prevalente } ∷ [])
 
 abbrev person : Key
 person = keyWritten "010" "101" "2018-05-01" letters

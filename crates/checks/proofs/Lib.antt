@@ -1,8 +1,10 @@
 pub mod RecordTypes
 pub mod Accepted
+pub mod Declared
 pub mod RowTests
 pub mod RowsAllowed
 pub mod Valid
 pub mod Kept
 pub mod WellReadable
 pub mod Worked
+pub mod Operators

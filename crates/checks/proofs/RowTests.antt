@@ -1,5 +1,5 @@
 -- Tests of every row and of every key of a map, as rows are put in and taken out.
-use Prim.Native.Nat.{ℕ, _^_, _<_}
+use Prim.Native.Nat.{ℕ, _^_}
 use mathlib.Core.Path.{_≡_, refl, ap, _∙_}
 use mathlib.Core.Bool.{Bool, true, false, cond, not, _&&_, _||_, false≢true}
 use mathlib.Core.List.{[], _∷_}
@@ -13,7 +13,7 @@ use Rattle.model.specs.Map.{Row, Map, isSome, find, has, put, keep, putAll, del
 use Rattle.model.proofs.MapLaws.{keep-same, keep-keep}
 use Rattle.model.specs.Transmission.{Kind, insert, vary, cancel}
 use Rattle.model.specs.Flow.{State, applied}
-use Rattle.register.specs.Stored.{Group, cases, events, keyBitsOf, restOf, Sized, Fits}
+use Rattle.register.specs.Stored.{Group, keyBitsOf, keyPart, pastKey, Sized, Fits}
 use Rattle.home_care.specs.Row.{siad}
 
 -- a test of every row
@@ -120,23 +120,24 @@ module _ {F : Type 0} (p : ℕ → Bool) where
       go true ih = ap (λ (c : Bool). q x && c) ih
       go false ih = ih
 
--- rows have their sizes, none of whose bits are spare: as a test of every row
-abbrev pub sized : Group → Row ℕ → Bool
-sized g r = ltb (r .key) (2 ^ keyBitsOf g siad) && ltb (r .val) (2 ^ restOf g siad)
+-- rows have their sizes: as a test of every row
+module _ (g : Group) (r : Row ℕ) where
+  abbrev keySized : Bool
+  keySized = ltb (r .key) (2 ^ keyBitsOf g siad)
 
-both-sizes : (g : Group) (r : Row ℕ) → sized g r ≡ true → (r .key < 2 ^ keyBitsOf g siad) × (r .val < 2 ^ restOf g siad)
-both-sizes g r e =
-    let k : Bool = ltb (r .key) (2 ^ keyBitsOf g siad) in
-    let v : Bool = ltb (r .val) (2 ^ restOf g siad) in
-    (ltb-true (r .key) (2 ^ keyBitsOf g siad) (and-left k v e), ltb-true (r .val) (2 ^ restOf g siad) (and-right k v e))
+  abbrev valSized : Bool
+  valSized = ltb (r .val) (2 ^ pastKey g siad (r .key))
 
-sized-row : (g : Group) (r : Row ℕ) → sized g r ≡ true → Sized g siad r
-sized-row cases r e = let b = both-sizes cases r e in (b .0, b .1, refl)
-sized-row events r e = let b = both-sizes events r e in (b .0, b .1, refl)
+  abbrev pub sized : Bool
+  sized = keySized && (valSized && eqb (keyPart g siad (r .key)) (r .key))
 
-row-sized : (g : Group) (r : Row ℕ) → Sized g siad r → sized g r ≡ true
-row-sized cases r f = and-tell _ _ (lt-ltb _ _ (f .0)) (lt-ltb _ _ (f .1))
-row-sized events r f = and-tell _ _ (lt-ltb _ _ (f .0)) (lt-ltb _ _ (f .1))
+  sized-row : sized ≡ true → Sized g siad r
+  sized-row e =
+      let v = and-right keySized _ e in
+      (ltb-true (r .key) _ (and-left keySized _ e), ltb-true (r .val) _ (and-left valSized _ v), eqb-true (keyPart g siad (r .key)) (r .key) (and-right valSized _ v))
+
+  pub row-sized : Sized g siad r → sized ≡ true
+  row-sized f = and-tell keySized _ (lt-ltb _ _ (f .0)) (and-tell valSized _ (lt-ltb _ _ (f .1)) (eq-eqb _ _ (f .2)))
 
 pub sized-fits : (g : Group) (m : Map ℕ) → all (sized g) m ≡ true → Fits g siad m
 unfolding all Fits

@@ -6,24 +6,24 @@ use mathlib.Core.List.{List, [], _∷_}
 use native.Mathlib.Omega.{arith}
 use lib.Dec.{eqb, ltb, leb}
 use lib.ListN.{getD}
-use borrow.Author.Tests.{eqb-true, ltb-true, ltb-false, lt-ltb, le-leb, eq-eqb}
+use borrow.Author.Tests.{eqb-true, ltb-true, ltb-false, le-leb, eq-eqb}
 use Rattle.laws.specs.Lists.{all}
 use Rattle.laws.proofs.Truth.{and-left, and-right, or-left, or-right}
 use Rattle.laws.proofs.Every.{and-tell, not-tell}
 use Rattle.days.specs.DayNumbers.{yearOf, yearsTo, firstOf}
 use Rattle.model.specs.Map.{Row, has}
-use Rattle.register.specs.Layout.{caseRest, eventRest, caseNamed}
+use Rattle.register.specs.Layout.{caseNamed}
 use Rattle.register.specs.Stored.{cases, events}
-use Rattle.home_care.specs.Row.{Key, Case, keyBits, eventKeyBits, eventBits, keyNumber, caseNumber, siad, casePad, eventNumberIn, eventPad, eventRow, eventIn}
+use Rattle.home_care.specs.Row.{Key, Case, keyBits, eventBits, caseNumber, siad, casePad, eventNumberIn, eventPad, eventRow, eventIn}
 use Rattle.home_care.specs.Fits.{CaseFits}
 use Rattle.home_care.proofs.Table.{key-lt, case-lt}
 use Rattle.home_care.specs.Allowed.{keyAllowed, prevalenteAllowed, caseAllowed, caseRowAllowed, eventAllowed, eventRowAllowed}
 use Rattle.home_care.specs.Record.{Said}
 use Rattle.home_care.specs.Anomalies.{t11, zeroKept, firstBirth}
-use Rattle.home_care.proofs.ReadBack.{key-read, case-read, case-pad, event-case, event-read, event-pad, event-key-lt, event-val-lt}
+use Rattle.home_care.proofs.ReadBack.{key-read, case-read, case-pad, event-case, event-read, event-pad, event-sized}
 use Rattle.checks.specs.Flow.{caseRow, eventRows}
 use Rattle.checks.specs.Readable.{KeyReadable, CaseReadable, eventReadable}
-use Rattle.checks.proofs.RowTests.{sized, all-key}
+use Rattle.checks.proofs.RowTests.{sized, row-sized, all-key}
 
 -- the year of a day is at most 2099
 years-le : (k n : ℕ) → yearsTo k n ≤ k
@@ -57,9 +57,7 @@ module _ (k : Key) (c : Case) (kr : KeyReadable k) (cr : CaseReadable c) (no11 :
 
   pub case-row-sized : sized cases (caseRow k c) ≡ true
   case-row-sized =
-      and-tell (ltb (keyNumber k) (2 ^ keyBits)) (ltb (caseRow k c .val) (2 ^ caseRest siad))
-      (lt-ltb (keyNumber k) (2 ^ keyBits) (key-lt k (kr .fits)))
-      (lt-ltb (caseRow k c .val) (2 ^ caseRest siad) (omega (arith, case-lt c case-fits)))
+      row-sized cases (caseRow k c) (key-lt k (kr .fits), omega (arith, case-lt c case-fits), refl)
 
   module _ (no13 : zeroKept (c .prevalente) ≡ false) where
     fields-allowed : caseAllowed k c ≡ true
@@ -99,9 +97,7 @@ module _ (c : ℕ) where
       (ap (λ (n : ℕ). eventAllowed (eventIn n)) (event-read c e l) ∙ a) (eq-eqb (eventPad (eventRow c e)) 0 (event-pad c e l))
 
   pub event-row-sized : c < 2 ^ keyBits → (e : ℕ) → e < 2 ^ eventBits → eventAllowed (eventIn e) ≡ true → sized events (eventRow c e) ≡ true
-  event-row-sized g e l a =
-      and-tell (ltb (eventRow c e .key) (2 ^ eventKeyBits)) (ltb (eventRow c e .val) (2 ^ eventRest siad))
-      (lt-ltb (eventRow c e .key) (2 ^ eventKeyBits) (event-key-lt c e l g)) (lt-ltb (eventRow c e .val) (2 ^ eventRest siad) (event-val-lt c e l))
+  event-row-sized g e l a = row-sized events (eventRow c e) (event-sized c e l g)
 
   -- a key of the rows is a key of the case c
   pub row-case : (es : List Said) → all eventReadable es ≡ true → (k : ℕ) → has k (eventRows c es) ≡ true → caseNamed siad k ≡ c

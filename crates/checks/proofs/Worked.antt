@@ -27,18 +27,18 @@ use Rattle.checks.specs.Flow.{flow, caseRow, eventRows}
 use Rattle.checks.specs.CheckOrder.{siadMachine}
 
 -- quarter 2 of 2018, and room for four rows
-abbrev context : Context
+abbrev pub context : Context
 context = record { first = firstDay 2018 2; last = lastDay 2018 2; room = 4 }
 
 -- region 010, ASL 101, taken in on 2018-05-01, 88 letters A
-abbrev key : Key
+abbrev pub key : Key
 key = record { region = 10; asl = bytes "101"; taken = dayNumber 2018 5 1; id = replicate 88 (code "A") }
 
-abbrev head : Char → Head
+abbrev pub head : Char → Head
 head t = record { tipo = code t; key = key }
 
 -- Track 1: born in 1940, with this prevalente
-abbrev caseSaid : string.String → Case
+abbrev pub caseSaid : string.String → Case
 caseSaid prevalente = record { birth = 1940; prevalente = padded (bytes prevalente); scales = 1 ∷ 2 ∷ 3 ∷ 1 ∷ 2 ∷ 0 ∷ [] }
 
 abbrev case : Char → string.String → Record
@@ -50,22 +50,22 @@ case t prevalente =
     })
 
 -- Track 2, by days counted from 1 May on
-abbrev day : ℕ → ℕ
+abbrev pub day : ℕ → ℕ
 day n = dayNumber 2018 5 n
 
 abbrev visit : ℕ → ℕ → Event
-visit d accesses = eventWith 1 (day d) never 3 accesses 0
+visit d accesses = eventWith 1 (day d) 3 never accesses 0
 
 abbrev suspension : ℕ → ℕ → Event
-suspension a b = eventWith 2 (day a) (day b) 1 0 0
+suspension a b = eventWith 2 (day a) 1 (day b) 0 0
 
 abbrev conclusion : ℕ → Event
-conclusion d = eventWith 3 (day d) never 1 0 0
+conclusion d = eventWith 3 (day d) 1 never 0 0
 
-abbrev said : Event → Said
+abbrev pub said : Event → Said
 said e = record { event = eventNumber e; valued = false; prevalente = [] }
 
-abbrev send : Char → List Event → Record
+abbrev pub send : Char → List Event → Record
 send t es = events (head t) (map said es)
 
 abbrev history : List Record

@@ -3,12 +3,13 @@ use Prim.Native.Nat.{ℕ, _≤_}
 use mathlib.Core.Path.{_≡_, refl, ap₂, sym, _∙_}
 use mathlib.Core.Bool.{Bool, true, false, _&&_, _||_, or-false, false≢true}
 use mathlib.Core.List.{List, [], _∷_, map}
+use mathlib.Core.Logic.{_⊎_, inl, inr}
 use native.Mathlib.Omega.{arith}
-use lib.Dec.{eqb, leb}
-use borrow.Author.Tests.{leb-true, le-leb, lt-leb}
+use lib.Dec.{eqb, ltb, leb}
+use borrow.Author.Tests.{leb-true, ltb-true, le-leb, lt-leb}
 use Rattle.laws.specs.Lists.{all, any}
 use Rattle.laws.proofs.Order.{Tri, below, equal, above, tri, eqb-sym}
-use Rattle.laws.proofs.Truth.{and-left, and-right, and-false}
+use Rattle.laws.proofs.Truth.{and-left, and-right, and-false, either}
 use Rattle.codes.specs.CodesAndCharacters.{Range, _to_, only, inRanges}
 
 -- from a number to itself
@@ -51,3 +52,15 @@ ranges-below (r ∷ rs) m n e h =
         let b = leb-true (r .to) m (and-left (leb (r .to) m) (all (λ r. leb (r .to) m) rs) e) in
         omega arith
     go false u i h = i h
+
+-- nor is one beside them among them
+pub ranges-beside : (rs : List Range) (lo hi n : ℕ) → all (λ r. ltb (r .to) lo || ltb hi (r .from)) rs ≡ true → lo ≤ n → n ≤ hi → inRanges rs n ≡ false
+unfolding all any
+ranges-beside [] lo hi n e l h = refl
+ranges-beside (r ∷ rs) lo hi n e l h =
+    ap₂ (λ (a b : Bool). a || b) (out (either (ltb (r .to) lo) (ltb hi (r .from)) (and-left _ (all (λ r. ltb (r .to) lo || ltb hi (r .from)) rs) e)))
+    (ranges-beside rs lo hi n (and-right (ltb (r .to) lo || ltb hi (r .from)) _ e) l h)
+  where
+    out : (ltb (r .to) lo ≡ true) ⊎ (ltb hi (r .from) ≡ true) → leb (r .from) n && leb n (r .to) ≡ false
+    out (inl t) = let k = ltb-true (r .to) lo t in rw (lt-leb n (r .to) (omega arith)) (and-false (leb (r .from) n))
+    out (inr t) = let k = ltb-true hi (r .from) t in rw (lt-leb (r .from) n (omega arith))

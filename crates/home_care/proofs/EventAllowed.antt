@@ -84,8 +84,8 @@ module _ (e : Event) (h : eventAllowed e ≡ true) where
       record {
         kind = let k = listed-kind (e .kind) (e .code) c in omega arith;
         date = let k = ltb-true (e .date) dayCount (and-left (ltb (e .date) dayCount) _ h) in omega arith;
-        end = end-small;
         code = let k = ranges-below (codesOf (e .kind)) 99 (e .code) (codes-small (e .kind)) c in omega arith;
+        end = end-small;
         accesses = let k = accesses-small in omega arith;
         conferma = let k = conferma-small in omega arith;
       }
@@ -95,13 +95,13 @@ module _ (e : Event) (h : eventAllowed e ≡ true) where
 pub event-back : (e : Event) → EventFits e → eventIn (eventNumber e) ≡ e
 unfolding packs
 event-back e f =
-    let kind : eventIn (eventNumber e) .kind ≡ e .kind = omega (arith, f .kind, f .date, f .end, f .code, f .accesses, f .conferma) in
-    let date : eventIn (eventNumber e) .date ≡ e .date = omega (arith, f .date, f .end, f .code, f .accesses, f .conferma) in
-    let end : eventIn (eventNumber e) .end ≡ e .end = omega (arith, f .end, f .code, f .accesses, f .conferma) in
-    let code : eventIn (eventNumber e) .code ≡ e .code = omega (arith, f .code, f .accesses, f .conferma) in
+    let kind : eventIn (eventNumber e) .kind ≡ e .kind = omega (arith, f .kind, f .date, f .code, f .end, f .accesses, f .conferma) in
+    let date : eventIn (eventNumber e) .date ≡ e .date = omega (arith, f .date, f .code, f .end, f .accesses, f .conferma) in
+    let code : eventIn (eventNumber e) .code ≡ e .code = omega (arith, f .code, f .end, f .accesses, f .conferma) in
+    let end : eventIn (eventNumber e) .end ≡ e .end = omega (arith, f .end, f .accesses, f .conferma) in
     let accesses : eventIn (eventNumber e) .accesses ≡ e .accesses = omega (arith, f .accesses, f .conferma) in
     let conferma : eventIn (eventNumber e) .conferma ≡ e .conferma = omega (arith, f .conferma) in
-    λ i. record { kind = kind i; date = date i; end = end i; code = code i; accesses = accesses i; conferma = conferma i }
+    λ i. record { kind = kind i; date = date i; code = code i; end = end i; accesses = accesses i; conferma = conferma i }
 
 -- so what is allowed of an event is allowed of its number
 pub number-allowed : (e : Event) → eventAllowed e ≡ true → eventAllowed (eventIn (eventNumber e)) ≡ true

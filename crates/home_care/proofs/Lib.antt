@@ -1,8 +1,12 @@
 pub mod EventTests
 pub mod Laid
+pub mod EventKeys
 pub mod Packed
 pub mod ReadBack
 pub mod RowFields
 pub mod Table
 pub mod TextTests
 pub mod EventAllowed
+pub mod KeyWords
+pub mod EventRows
+pub mod OldRows

@@ -1,17 +1,22 @@
 -- A record's key, case and events read back out of the rows that they make.
-use Prim.Native.Nat.{ℕ, _+_, _-_, _*_, _/_, _^_, _<_}
-use mathlib.Core.Path.{_≡_, refl, sym, ap, _∙_}
+use Prim.Native.Nat.{ℕ, _+_, _-_, _*_, _/_, _%_, _^_, _<_}
+use mathlib.Core.Path.{_≡_, refl, sym, ap, ap₂, _∙_}
 use mathlib.Core.List.{List, [], _∷_, _++_}
 use native.Mathlib.Omega.{arith}
 use lib.ListN.{length, take, drop, getD}
-use lib.Pow.{shl-shr}
+use lib.Pow.{shl-shr, shl-lt}
 use lib.Seq.{take-at, drop-at, take-all}
-use Rattle.rows.specs.Packing.{unpacks}
+use Rattle.rows.specs.Packing.{unpacks, fieldAt}
 use Rattle.rows.proofs.Packing.{unpacks-packs}
 use Rattle.register.proofs.RowBytes.{number-lt}
 use Rattle.register.specs.Layout.{caseRest, eventRest, caseNamed}
-use Rattle.home_care.specs.Row.{Key, Case, keyFields, caseFields, keyNumber, caseNumber, caseBits, eventBits, keyBits, eventKeyBits, siad, keyIn, caseOf, caseIn, casePad, takenIn, eventNumberIn, eventPad, eventRow, ownBits, pastOwn}
+use Rattle.register.specs.State.{unsplit}
+use Rattle.register.specs.Stored.{events, Sized}
+use Rattle.register.proofs.MixedKeys.{number-of, sizes-by}
+use Rattle.home_care.specs.Row.{Key, Case, keyFields, caseFields, keyNumber, caseNumber, caseBits, eventBits, eventZeros, keyBits, rowBytes, siad, keyIn, caseOf, caseIn, casePad, takenIn, eventNumberIn, eventPad, eventRow, eventKeyOf, ownBits}
 use Rattle.home_care.specs.Fits.{KeyFits, CaseFits}
+use Rattle.home_care.proofs.Laid.{row-width, laid-siad}
+use Rattle.home_care.proofs.EventKeys.{own-lt, key-cut}
 use Rattle.home_care.proofs.Table.{key-fit, case-fit, key-values, key-widths, case-values, case-widths}
 
 abbrev keyFrom : List ℕ → Key
@@ -56,17 +61,34 @@ case-pad n = omega arith
 
 -- an event's row: its case, its 52 bits, the zero bits behind them
 module _ (c e : ℕ) (h : e < 2 ^ eventBits) where
-  pub event-case : caseNamed siad (eventRow c e .key) ≡ c
-  event-case = omega arith
+  abbrev number : ℕ
+  number = (c * 2 ^ eventBits + e) * 2 ^ eventZeros
+
+  whole : unsplit (eventRest siad) (eventRow c e) ≡ number
+  whole = number-of events siad number
 
   pub event-read : eventNumberIn (eventRow c e) ≡ e
-  event-read = omega arith
+  event-read = ap (fieldAt eventZeros eventBits) whole ∙ back
+    where
+      back : fieldAt eventZeros eventBits number ≡ e
+      back = omega arith
 
   pub event-pad : eventPad (eventRow c e) ≡ 0
-  event-pad = omega arith
+  event-pad = ap (λ (n : ℕ). n % 2 ^ eventZeros) whole ∙ none
+    where
+      none : number % 2 ^ eventZeros ≡ 0
+      none = omega arith
 
-  pub event-key-lt : c < 2 ^ keyBits → eventRow c e .key < 2 ^ eventKeyBits
-  event-key-lt g = number-lt keyBits ownBits eventKeyBits (record { key = c; val = e / 2 ^ pastOwn }) refl g (omega arith)
+  pub event-key : eventRow c e .key ≡ c * 2 ^ ownBits + eventKeyOf e
+  event-key =
+      key-cut rowBytes row-width number
+      ∙ ap₂ (λ (a b : ℕ). a * 2 ^ ownBits + eventKeyOf b) in-front (ap (fieldAt eventZeros eventBits) (sym whole) ∙ event-read)
+    where
+      in-front : number / 2 ^ eventZeros / 2 ^ eventBits ≡ c
+      in-front = omega arith
 
-  pub event-val-lt : eventRow c e .val < 2 ^ eventRest siad
-  event-val-lt = omega arith
+  pub event-case : caseNamed siad (eventRow c e .key) ≡ c
+  event-case = let k = event-key in let l = own-lt e h in omega arith
+
+  pub event-sized : c < 2 ^ keyBits → Sized events siad (eventRow c e)
+  event-sized g = sizes-by events siad laid-siad number (shl-lt (keyBits + eventBits) eventZeros (number-lt keyBits eventBits (keyBits + eventBits) (record { key = c; val = e }) refl g h))

@@ -16,7 +16,11 @@ use Rattle.codes.specs.CodesAndCharacters.{inRanges, alnums, idChars, regions}
 use Rattle.days.specs.DayNumbers.{dayCount, yearOf}
 use Rattle.rows.specs.Packing.{fieldAt, unpacks, total, num, eachAt}
 use Rattle.rows.proofs.Fields.{field-up}
-use Rattle.home_care.specs.Row.{Key, charBits, dayBits, keyWidths, caseWidths, keyBits, caseBits, eventBits, ownBits, pastOwn, caseZerosWide, eventZerosWide, keyIn, caseOf, caseInWide, casePadWide, eventNumberInWide, eventIn, eventPadWide}
+use Rattle.register.specs.Layout.{eventRest}
+use Rattle.register.specs.State.{unsplit}
+use Rattle.register.specs.Stored.{events}
+use Rattle.register.proofs.MixedKeys.{number-of}
+use Rattle.home_care.specs.Row.{Key, charBits, dayBits, keyWidths, caseWidths, keyBits, caseBits, eventBits, homeCare, caseZerosWide, eventZerosWide, keyIn, caseOf, caseInWide, casePadWide, eventNumberInWide, eventIn, eventPadWide}
 use Rattle.home_care.specs.Fits.{RowWidth, asCase, asEvent}
 use Rattle.home_care.specs.Anomalies.{firstBirth}
 use Rattle.home_care.specs.Allowed.{keyAllowed, prevalenteAllowed, caseRestAllowed, caseRowAllowedWide, eventAllowed, eventRowAllowedWide}
@@ -48,18 +52,20 @@ field-down x y z w n e = ap (λ (k : ℕ). fieldAt k w n) e ∙ sym (field-up y 
 pub run-down : (x y z k w n : ℕ) → x ≡ z + y → eachAt x k w n ≡ eachAt y k w (n / 2 ^ z)
 run-down x y z k w n e = ap (unpacks (replicate k w)) (ap (λ (j : ℕ). n / 2 ^ j) e ∙ sym (shr-shr n z y))
 
--- a number cut above its last k + z bits, and its part below the cut, over the number without its last z
-pub cut-high : (x k z n : ℕ) → x ≡ z + k → n / 2 ^ x ≡ n / 2 ^ z / 2 ^ k
-cut-high x k z n e = ap (λ (j : ℕ). n / 2 ^ j) e ∙ sym (shr-shr n z k)
-
-pub cut-low : (x k z n : ℕ) → x ≡ k + z → n % 2 ^ x / 2 ^ z ≡ n / 2 ^ z % 2 ^ k
+-- a number's last k + z bits, over the number without its last z
+cut-low : (x k z n : ℕ) → x ≡ k + z → n % 2 ^ x / 2 ^ z ≡ n / 2 ^ z % 2 ^ k
 cut-low x k z n e = ap (λ (j : ℕ). n % 2 ^ j / 2 ^ z) e ∙ field n k z
 
 -- the last z bits, read as a field
-pub last-bits : (size at x k z n : ℕ) → z ≡ size - at → at ≤ size → x ≡ k + z → fieldAt (size - (at + z)) z n ≡ n % 2 ^ x % 2 ^ z
-last-bits size at x k z n d l e =
+end-bits : (size at z n : ℕ) → z ≡ size - at → at ≤ size → fieldAt (size - (at + z)) z n ≡ n % 2 ^ z
+end-bits size at z n d l =
     let f : size - (at + z) ≡ 0 = omega arith in
-    ap (λ (j : ℕ). fieldAt j z n) f ∙ ap (λ (j : ℕ). j % 2 ^ z) (div-one n) ∙ sym (ap (λ (j : ℕ). n % 2 ^ j % 2 ^ z) e ∙ mod-mod-pow n k z)
+    ap (λ (j : ℕ). fieldAt j z n) f ∙ ap (λ (j : ℕ). j % 2 ^ z) (div-one n)
+
+-- and of a number that begins below the first ones
+last-bits : (size at x k z n : ℕ) → z ≡ size - at → at ≤ size → x ≡ k + z → fieldAt (size - (at + z)) z n ≡ n % 2 ^ x % 2 ^ z
+last-bits size at x k z n d l e =
+    end-bits size at z n d l ∙ sym (ap (λ (j : ℕ). n % 2 ^ j % 2 ^ z) e ∙ mod-mod-pow n k z)
 
 -- ---- where the fields begin, and the first and the last bits of a case
 
@@ -96,10 +102,6 @@ prevalente-in n =
     ap (λ (l : List ℕ). take 5 l) (unpacks-append (replicate 5 charBits) (drop 6 caseWidths) n)
     ∙ take-at (unpacks (replicate 5 charBits) (n / 2 ^ scalesBits)) (unpacks (drop 6 caseWidths) n) 5 refl
 
--- an event's number in the first bits of its row, by its own key and what follows it
-own-first : (f : ℕ) → f % 2 ^ eventBits ≡ f / 2 ^ pastOwn % 2 ^ ownBits * 2 ^ pastOwn + f % 2 ^ pastOwn
-own-first f = omega arith
-
 birth-first : (f : ℕ) → fieldAt (caseBits - birthBits) birthBits f ≡ caseOf (f % 2 ^ caseBits) .birth
 birth-first f = omega arith
 
@@ -127,18 +129,18 @@ module _ (row : List ℕ) (h : RowWidth (length row)) where
   abbrev val : ℕ
   val = asCase row .val
 
+  -- an event's row is its key and the rest
+  whole-row : unsplit (eventRest (homeCare (length row))) (asEvent row) ≡ num row
+  whole-row = number-of events (homeCare (length row)) (num row)
+
   pub event-of : (r : ℕ) → r ≡ fieldAt (size - (keyBits + eventBits)) eventBits (num row) → r ≡ eventNumberInWide (length row) (asEvent row)
-  event-of r e =
-      let up : size - (keyBits + ownBits) ≡ ez + pastOwn = omega arith in
-      let down : size - (keyBits + ownBits) ≡ pastOwn + ez = omega arith in
-      e ∙ own-first (num row / 2 ^ ez)
-      ∙ ap₂ (λ (a b : ℕ). a % 2 ^ ownBits * 2 ^ pastOwn + b) (sym (cut-high _ pastOwn ez (num row) up)) (sym (cut-low _ pastOwn ez (num row) down))
+  event-of r e = e ∙ ap (fieldAt ez eventBits) (sym (whole-row))
 
   pub event-row : (pad e : ℕ) (good : Bool) → pad ≡ fieldAt (size - (keyBits + eventBits + (size - (keyBits + eventBits)))) (size - (keyBits + eventBits)) (num row) →
       e ≡ eventNumberInWide (length row) (asEvent row) → good ≡ eventAllowed (eventIn e) → good && eqb pad 0 ≡ eventRowAllowedWide (length row) (asEvent row)
   event-row pad e good p q g =
-      let down : size - (keyBits + ownBits) ≡ pastOwn + ez = omega arith in
-      let z : pad ≡ eventPadWide (length row) (asEvent row) = p ∙ last-bits size (keyBits + eventBits) _ pastOwn ez (num row) refl (omega arith) down in
+      let z : pad ≡ eventPadWide (length row) (asEvent row)
+      = p ∙ end-bits size (keyBits + eventBits) ez (num row) refl (omega arith) ∙ ap (λ (n : ℕ). n % 2 ^ ez) (sym whole-row) in
       ap₂ (λ (b : Bool) (k : ℕ). b && eqb k 0) (g ∙ ap (λ (n : ℕ). eventAllowed (eventIn n)) q) z
 
   pub taken-is : (r : ℕ) → r ≡ fieldAt (size - (takenAt + dayBits)) dayBits (num row) → r ≡ keyIn key .taken

@@ -14,8 +14,8 @@ use Rattle.home_care.specs.Fits.{KeyFits, CaseFits, EventFits}
 
 -- ---- widths and sizes
 
--- the sums that the table names are those of its widths; kind and date are an event's own part of its key
-pub widths-sum : (total keyWidths ≡ keyBits) × (total caseWidths ≡ caseBits) × (total eventWidths ≡ eventBits) × (total (take 2 eventWidths) ≡ ownBits)
+-- the sums that the table names are those of its widths; kind, date and code are an event's own part of its longest key
+pub widths-sum : (total keyWidths ≡ keyBits) × (total caseWidths ≡ caseBits) × (total eventWidths ≡ eventBits) × (total (take 3 eventWidths) ≡ ownBits)
 widths-sum = (refl, refl, refl, refl)
 
 pub key-width : (k : Key) → KeyFits k → width (keyFields k) ≡ keyBits
@@ -33,7 +33,7 @@ pub case-fit : (c : Case) → CaseFits c → Fit (caseFields c)
 case-fit c h = (h .birth, fit-append (each 7 (c .prevalente)) (each 2 (c .scales)) (h .prevalente) (h .scales))
 
 pub event-fit : (e : Event) → EventFits e → Fit (eventFields e)
-event-fit e h = (h .kind, (h .date, (h .end, (h .code, (h .accesses, (h .conferma, tt))))))
+event-fit e h = (h .kind, (h .date, (h .code, (h .end, (h .accesses, (h .conferma, tt))))))
 
 pub key-lt : (k : Key) → KeyFits k → keyNumber k < 2 ^ keyBits
 key-lt k h = subst (λ (z : ℕ). keyNumber k < 2 ^ z) (key-width k h) (packs-lt (keyFields k) (key-fit k h))
@@ -100,11 +100,11 @@ event-injective e f h g q =
     let same : values (eventFields e) ≡ values (eventFields f) = packs-injective (eventFields e) (eventFields f) refl (event-fit e h) (event-fit f g) q in
     let kind : e .kind ≡ f .kind = cc in
     let date : e .date ≡ f .date = cc in
-    let end : e .end ≡ f .end = cc in
     let code : e .code ≡ f .code = cc in
+    let end : e .end ≡ f .end = cc in
     let accesses : e .accesses ≡ f .accesses = cc in
     let conferma : e .conferma ≡ f .conferma = cc in
-    λ i. record { kind = kind i; date = date i; end = end i; code = code i; accesses = accesses i; conferma = conferma i }
+    λ i. record { kind = kind i; date = date i; code = code i; end = end i; accesses = accesses i; conferma = conferma i }
 
 -- ---- rows
 

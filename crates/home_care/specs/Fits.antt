@@ -7,7 +7,7 @@ use lib.ListN.{length}
 use Rattle.model.specs.Map.{Row}
 use Rattle.rows.specs.Packing.{each, num, Fit}
 use Rattle.register.specs.Layout.{caseRest, eventRest}
-use Rattle.register.specs.State.{split}
+use Rattle.register.specs.State.{split, splitBy}
 use Rattle.home_care.specs.Row.{Key, Case, Event, keyBits, caseBits, homeCare, eventZerosWide, dayBits, charBits, regionBits, birthBits, scaleBits, kindBits, codeBits, accessesBits, confermaBits}
 
 -- a key's values have their fields' sizes
@@ -31,8 +31,8 @@ pub record CaseFits (c : Case) : Type 0 where
 pub record EventFits (e : Event) : Type 0 where
   pub kind : e .kind < 2 ^ kindBits
   pub date : e .date < 2 ^ dayBits
-  pub end : e .end < 2 ^ dayBits
   pub code : e .code < 2 ^ codeBits
+  pub end : e .end < 2 ^ dayBits
   pub accesses : e .accesses < 2 ^ accessesBits
   pub conferma : e .conferma < 2 ^ confermaBits
 
@@ -46,8 +46,8 @@ caseWith birth prevalente scales = record { birth = birth; prevalente = prevalen
 
 -- an event of such values
 abbrev pub eventWith : ℕ → ℕ → ℕ → ℕ → ℕ → ℕ → Event
-eventWith kind date end code accesses conferma =
-    record { kind = kind; date = date; end = end; code = code; accesses = accesses; conferma = conferma }
+eventWith kind date code end accesses conferma =
+    record { kind = kind; date = date; code = code; end = end; accesses = accesses; conferma = conferma }
 
 -- the bits that are read at once (rows/src/reader.rt)
 abbrev pub readBits : ℕ
@@ -63,4 +63,4 @@ abbrev pub asCase : List ℕ → Row ℕ
 asCase row = split (caseRest (homeCare (length row))) (num row)
 
 abbrev pub asEvent : List ℕ → Row ℕ
-asEvent row = split (eventRest (homeCare (length row))) (num row)
+asEvent row = splitBy (homeCare (length row) .spare) (eventRest (homeCare (length row))) (num row)

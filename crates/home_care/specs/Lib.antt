@@ -2,4 +2,6 @@ pub mod Allowed
 pub mod Anomalies
 pub mod Record
 pub mod Row
+pub mod Keys
+pub mod EventRows
 pub mod Fits

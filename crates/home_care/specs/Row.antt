@@ -1,11 +1,15 @@
 -- The rows of the register (RULES.md, 4 The register, R6 to R29): their fields with the widths from the front of the row, packed, and read back by the
 -- same widths.
 use Prim.Native.Nat.{ℕ, suc, _+_, _-_, _*_, _/_, _%_, _^_}
+use mathlib.Core.Bool.{cond}
 use mathlib.Core.List.{List, [], _∷_, _++_}
+use lib.Dec.{eqb}
 use lib.ListN.{take, drop, getD, replicate}
+use Rattle.codes.specs.CodesAndCharacters.{service}
 use Rattle.model.specs.Map.{Row}
 use Rattle.rows.specs.Packing.{Field, bits, each, fields, packs, total, fieldAt, unpacks}
-use Rattle.register.specs.Layout.{Layout}
+use Rattle.register.specs.Layout.{Layout, eventRest}
+use Rattle.register.specs.State.{unsplit, keyBy, splitBy}
 
 -- ---- what the rows say
 
@@ -22,12 +26,12 @@ pub record Case : Type 0 where
   pub prevalente : List ℕ
   pub scales : List ℕ
 
--- R23 to R28: kind ("0 Rivalutazione, 1 Erogazione, 2 Sospensione, 3 Conclusione"), date, end date, code, accesses, conferma
+-- R23 to R28: kind ("0 Rivalutazione, 1 Erogazione, 2 Sospensione, 3 Conclusione"), date, code, end date, accesses, conferma
 pub record Event : Type 0 where
   pub kind : ℕ
   pub date : ℕ
-  pub end : ℕ
   pub code : ℕ
+  pub end : ℕ
   pub accesses : ℕ
   pub conferma : ℕ
 
@@ -74,9 +78,9 @@ keyWidths = regionBits ∷ (replicate 3 charBits ++ (dayBits ∷ replicate 88 ch
 abbrev pub caseWidths : List ℕ
 caseWidths = birthBits ∷ (replicate 5 charBits ++ replicate 6 scaleBits)
 
--- R23 to R28, in bits: kind 2, date 17, end date 17, code 7, accesses 7, conferma 2
+-- R23 to R28, in bits: kind 2, date 17, code 7, end date 17, accesses 7, conferma 2
 abbrev pub eventWidths : List ℕ
-eventWidths = kindBits ∷ dayBits ∷ dayBits ∷ codeBits ∷ accessesBits ∷ confermaBits ∷ []
+eventWidths = kindBits ∷ dayBits ∷ codeBits ∷ dayBits ∷ accessesBits ∷ confermaBits ∷ []
 
 -- the sums of these widths (`widths-sum`). R8: "A case's key is its row's first 662 bits"; a case and an event after the case's key
 abbrev pub keyBits : ℕ
@@ -88,9 +92,10 @@ caseBits = 59
 abbrev pub eventBits : ℕ
 eventBits = 52
 
--- R9: "An event's key is its case's key, its kind and its date": what it has after the case's, and what the event has after that
+-- R9: "An event's key is its case's key, its kind and its date, 681 bits, and of an Erogazione its code, the operator, too: its row's first 688 bits":
+-- what the longest key has after the case's, and what the event has after that
 abbrev pub ownBits : ℕ
-ownBits = 19
+ownBits = 26
 
 abbrev pub pastOwn : ℕ
 pastOwn = eventBits - ownBits
@@ -98,9 +103,17 @@ pastOwn = eventBits - ownBits
 abbrev pub eventKeyBits : ℕ
 eventKeyBits = keyBits + ownBits
 
+-- of these bits, how many at their end are no part of the key of an event of that kind: the code's, but of an Erogazione none
+abbrev pub spareBits : ℕ → ℕ
+spareBits kind = cond (eqb kind service) 0 codeBits
+
+-- the kind among the first 688 bits of an event's row, or among its own 26 of them: date and code follow it
+abbrev pub kindIn : ℕ → ℕ
+kindIn q = fieldAt (dayBits + codeBits) kindBits q
+
 -- the rows of home care in w bytes, and in the register's own; so with every name in Wide: it is of rows of w bytes, and without the Wide of `rowBytes`
 abbrev pub homeCare : ℕ → Layout
-homeCare w = record { bytes = w; caseKey = keyBits; eventKey = eventKeyBits; spare = λ _. 0 }
+homeCare w = record { bytes = w; caseKey = keyBits; eventKey = eventKeyBits; spare = λ q. spareBits (kindIn q) }
 
 abbrev pub siad : Layout
 siad = homeCare rowBytes
@@ -115,7 +128,7 @@ eventZerosWide w = 8 * w - (keyBits + eventBits)
 abbrev pub eventZeros : ℕ
 eventZeros = eventZerosWide rowBytes
 
--- R25, of the end date: "all ones for none and in other kinds"
+-- R26, of the end date: "all ones for none and in other kinds"
 abbrev pub never : ℕ
 never = 2 ^ dayBits - 1
 
@@ -128,7 +141,7 @@ abbrev pub caseFields : Case → List Field
 caseFields c = bits birthBits (c .birth) ∷ (each charBits (c .prevalente) ++ each scaleBits (c .scales))
 
 abbrev pub eventFields : Event → List Field
-eventFields e = fields eventWidths (e .kind ∷ e .date ∷ e .end ∷ e .code ∷ e .accesses ∷ e .conferma ∷ [])
+eventFields e = fields eventWidths (e .kind ∷ e .date ∷ e .code ∷ e .end ∷ e .accesses ∷ e .conferma ∷ [])
 
 -- a key as a number
 abbrev pub keyNumber : Key → ℕ
@@ -142,9 +155,10 @@ caseNumber c = packs (caseFields c) 0
 abbrev pub eventNumber : Event → ℕ
 eventNumber e = packs (eventFields e) 0
 
--- the row of the event of that number, of the case c
+-- the row of the event of that number, of the case c: the case's key, the event and the zero bits, cut behind the event's key
 abbrev pub eventRowWide : ℕ → ℕ → ℕ → Row ℕ
-eventRowWide w c e = record { key = c * 2 ^ ownBits + e / 2 ^ pastOwn; val = e % 2 ^ pastOwn * 2 ^ eventZerosWide w }
+eventRowWide w c e =
+    splitBy (homeCare w .spare) (eventRest (homeCare w)) ((c * 2 ^ eventBits + e) * 2 ^ eventZerosWide w)
 
 abbrev pub eventRow : ℕ → ℕ → Row ℕ
 eventRow c e = eventRowWide rowBytes c e
@@ -182,10 +196,10 @@ casePad v = casePadWide rowBytes v
 
 -- the event's number in its row, and the zero bits behind it
 abbrev pub eventNumberInWide : ℕ → Row ℕ → ℕ
-eventNumberInWide w r = r .key % 2 ^ ownBits * 2 ^ pastOwn + r .val / 2 ^ eventZerosWide w
+eventNumberInWide w r = fieldAt (eventZerosWide w) eventBits (unsplit (eventRest (homeCare w)) r)
 
 abbrev pub eventPadWide : ℕ → Row ℕ → ℕ
-eventPadWide w r = r .val % 2 ^ eventZerosWide w
+eventPadWide w r = unsplit (eventRest (homeCare w)) r % 2 ^ eventZerosWide w
 
 abbrev pub eventNumberIn : Row ℕ → ℕ
 eventNumberIn r = eventNumberInWide rowBytes r
@@ -203,11 +217,11 @@ eventField i e = fieldAt (total (drop (suc i) eventWidths)) (getD eventWidths i 
 abbrev pub dateOf : ℕ → ℕ
 dateOf e = eventField 1 e
 
-abbrev pub endOf : ℕ → ℕ
-endOf e = eventField 2 e
-
 abbrev pub codeOf : ℕ → ℕ
-codeOf e = eventField 3 e
+codeOf e = eventField 2 e
+
+abbrev pub endOf : ℕ → ℕ
+endOf e = eventField 3 e
 
 abbrev pub accessesOf : ℕ → ℕ
 accessesOf e = eventField 4 e
@@ -217,8 +231,8 @@ confermaOf e = eventField 5 e
 
 abbrev pub eventIn : ℕ → Event
 eventIn e =
-    record { kind = kindOf e; date = dateOf e; end = endOf e; code = codeOf e; accesses = accessesOf e; conferma = confermaOf e }
+    record { kind = kindOf e; date = dateOf e; code = codeOf e; end = endOf e; accesses = accessesOf e; conferma = confermaOf e }
 
--- the part of an event's key after its case's
+-- the part of an event's key after its case's: kind, date and code, the code's bits zero where it is no part of the key
 abbrev pub eventKeyOf : ℕ → ℕ
-eventKeyOf e = e / 2 ^ pastOwn
+eventKeyOf e = keyBy (spareBits (kindIn (e / 2 ^ pastOwn))) (e / 2 ^ pastOwn)

@@ -1,9 +1,11 @@
 // The fields of an event's 52 bits, an event in its row, and two events that share a day.
 ghost use mathlib.Core.Path.{_≡_};
 ghost use Prim.Native.Nat.{_+_, _≤_, _-_, _<_, _^_};
+ghost use lib.Dec.{eqb};
 ghost use lib.ListN.{length};
 ghost use Rattle.rows.specs.Packing.{fieldAt};
-ghost use Rattle.home_care.specs.Row.{dayBits, keyBits, eventBits, pastOwn, kindOf, dateOf, endOf, codeOf, accessesOf, confermaOf, eventKeyOf, eventNumberInWide};
+ghost use Rattle.home_care.specs.Row.{dayBits, keyBits, eventBits, ownBits, pastOwn, kindOf, dateOf, codeOf, endOf, accessesOf, confermaOf, eventKeyOf, eventNumberInWide};
+ghost use Rattle.home_care.specs.EventRows.{ownBitsOf};
 ghost use Rattle.home_care.specs.Fits.{RowWidth, asEvent};
 ghost use Rattle.home_care.specs.Anomalies.{shareDay};
 use crate::layout::ACCESSES;
@@ -15,10 +17,15 @@ use crate::layout::CODE_BITS;
 use crate::layout::CONFERMA;
 use crate::layout::CONFERMA_BITS;
 use crate::layout::DATE;
+use crate::layout::DATED;
 use crate::layout::DAY_BITS;
 use crate::layout::END;
 use crate::layout::EVENT_BITS;
+use crate::layout::KIND;
+use crate::layout::KIND_BITS;
+use crate::layout::OWN_KEY;
 use crate::layout::PAST_OWN;
+use codes::code_lists::SERVICE;
 use codes::code_lists::SUSPENSION;
 
 // A field of an event: the w bits that stand at a place of its row.
@@ -41,16 +48,16 @@ pub fn date_of(e: u64) -> u64
     field(e, DATE, DAY_BITS)
 }
 
-pub fn end_of(e: u64) -> u64
-    ensures { λ r. ⌜ (r ≡ endOf e) × (r < 2 ^ dayBits) ⌝ }
-{
-    field(e, END, DAY_BITS)
-}
-
 pub fn code_of(e: u64) -> u64
     ensures { λ r. ⌜ r ≡ codeOf e ⌝ }
 {
     field(e, CODE, CODE_BITS)
+}
+
+pub fn end_of(e: u64) -> u64
+    ensures { λ r. ⌜ (r ≡ endOf e) × (r < 2 ^ dayBits) ⌝ }
+{
+    field(e, END, DAY_BITS)
 }
 
 pub fn accesses_of(e: u64) -> u64
@@ -65,11 +72,30 @@ pub fn conferma_of(e: u64) -> u64
     field(e, CONFERMA, CONFERMA_BITS)
 }
 
-// Its kind and date, the part of its key past its case's.
+// The bits of its own key, the part past its case's: kind and date, and of an Erogazione the code.
+pub fn own_bits(e: u64) -> usize
+    ensures { λ r. ⌜ (r ≡ ownBitsOf e) × (0 < r) × (r ≤ ownBits) ⌝ }
+{
+    if field(e, KIND, KIND_BITS) == SERVICE {
+        return OWN_KEY;
+    }
+    DATED
+}
+
+// That part as a number, with zeros for a code that is no part of it.
 pub fn event_key_of(e: u64) -> u64
     ensures { λ r. ⌜ (r ≡ eventKeyOf e) × (r < 2 ^ (64 - pastOwn)) ⌝ }
 {
-    e >> PAST_OWN
+    let spare = OWN_KEY - own_bits(e);
+    ((e >> PAST_OWN) >> spare) << spare
+}
+
+// Whether two events have one own key: by as many bits as the first one's has.
+pub fn same_key(a: u64, b: u64) -> bool
+    ensures { λ r. ⌜ r ≡ eqb (eventKeyOf a) (eventKeyOf b) ⌝ }
+{
+    let past = EVENT_BITS - own_bits(a);
+    (a >> past) == (b >> past)
 }
 
 // The 52 bits of an event.

@@ -42,15 +42,17 @@ pub const KIND: usize = 662;
 
 pub const DATE: usize = 664;
 
-pub const END: usize = 681;
+pub const CODE: usize = 681;
 
-pub const CODE: usize = 698;
+pub const END: usize = 688;
 
 pub const ACCESSES: usize = 705;
 
 pub const CONFERMA: usize = 712;
 
 pub const AFTER_EVENT: usize = 714;
+
+pub const KIND_BITS: usize = 2;
 
 pub const CODE_BITS: usize = 7;
 
@@ -60,15 +62,16 @@ pub const CONFERMA_BITS: usize = 2;
 
 pub const EVENT_BITS: usize = 52;
 
-// An event's own key, what its key has after its case's: kind and date; the event's bits after that; no own key is so large.
-pub const OWN_KEY: usize = 19;
+// An event's own key, what its key has after its case's: kind and date, and of an Erogazione the code; the bits of the longest, the event's bits after
+// that, and no own key is so large.
+pub const OWN_KEY: usize = 26;
 
-pub const PAST_OWN: usize = 33;
+pub const PAST_OWN: usize = 26;
 
-pub const OWN_KEYS: u64 = 524288;
+pub const OWN_KEYS: u64 = 67108864;
 
-// The own keys of one kind: as many as there are dates.
-pub const DATES: u64 = 131072;
+// The bits of kind and date.
+pub const DATED: usize = 19;
 
 // ---- values
 

@@ -71,13 +71,13 @@ pub fn set_case(out: &mut [u8], s: Bits, birth: u64, prevalente: &[u8], scales: 
 }
 
 // The number of an event's fields.
-pub fn event_number(kind: u64, date: u64, end: u64, code: u64, accesses: u64, conferma: u64) -> u64
-    requires { ⌜ EventFits (eventWith kind date end code accesses conferma) ⌝ }
-    ensures { λ r. ⌜ (r ≡ eventNumber (eventWith kind date end code accesses conferma)) × (r < 2 ^ eventBits) ⌝ }
+pub fn event_number(kind: u64, date: u64, code: u64, end: u64, accesses: u64, conferma: u64) -> u64
+    requires { ⌜ EventFits (eventWith kind date code end accesses conferma) ⌝ }
+    ensures { λ r. ⌜ (r ≡ eventNumber (eventWith kind date code end accesses conferma)) × (r < 2 ^ eventBits) ⌝ }
 {
-    let dates = ((kind << DAY_BITS) + date) << DAY_BITS;
-    let codes = ((dates + end) << CODE_BITS) + code;
-    (((codes << ACCESSES_BITS) + accesses) << CONFERMA_BITS) + conferma
+    let key = (((kind << DAY_BITS) + date) << CODE_BITS) + code;
+    let ended = (key << DAY_BITS) + end;
+    (((ended << ACCESSES_BITS) + accesses) << CONFERMA_BITS) + conferma
 }
 
 // An event's row behind a key that a writer has written: the event's number, then zero bits. What was written stays, so that the key serves the next event too.

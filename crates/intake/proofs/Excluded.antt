@@ -24,7 +24,7 @@ use Rattle.intake.proofs.Samples.{admissions, begun, held, holding, fir
 
 fit : Fit (each 8 begun)
 unfolding emptied calls
-fit = fit-zeros 368
+fit = fit-zeros 459
 
 -- the first row's fields
 abbrev fieldsIn : Map ℕ → ℕ

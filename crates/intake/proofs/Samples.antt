@@ -23,7 +23,7 @@ use Rattle.schema.specs.Texts.{fitsText}
 use Rattle.nodes.specs.Lookup.{firstNamed, valueIn}
 use Rattle.schemas.specs.Track1.{track1}
 use Rattle.schemas.specs.Track2.{track2}
-use Rattle.model.specs.Map.{find, put, keep, putAll, delAll, anyIn, allIn, twice}
+use Rattle.model.specs.Map.{Row, find, put, keep, putAll, delAll, anyIn, allIn, twice}
 use Rattle.model.specs.Checks.{first}
 use Rattle.model.specs.Machine.{zeros, others, run, answers}
 use Rattle.model.specs.Log.{calls}
@@ -87,14 +87,15 @@ admitted id tipo prevalente =
 
 -- Track 2: a record of that type, with those events
 abbrev happened : Char → List string.String → List ℕ
-happened tipo these =
+happened tipo es =
     opening tipo ++
-    (sender ++ (bytes "<Eventi><PresaInCarico data=\"2018-05-01\">" ++ (idRec "A" ++ parts ("</PresaInCarico>" ∷ these) ++ bytes "</Eventi></Assistenza>")))
+    (sender ++ (bytes "<Eventi><PresaInCarico data=\"2018-05-01\">" ++ (idRec "A" ++ parts ("</PresaInCarico>" ∷ es) ++ bytes "</Eventi></Assistenza>")))
 
--- a visit and a suspension
-abbrev two : List string.String
-two =
+-- the visits of two operators on one day, and a suspension
+abbrev these : List string.String
+these =
     "<Erogazione data=\"2018-05-05\" numAccessi=\"2\"><TipoOperatore>3</TipoOperatore></Erogazione>" ∷
+    "<Erogazione data=\"2018-05-05\"><TipoOperatore>7</TipoOperatore></Erogazione>" ∷
     "<Sospensione dataInizio=\"2018-05-10\" dataFine=\"2018-05-12\"><Motivazione>1</Motivazione></Sospensione>" ∷
     []
 
@@ -102,12 +103,12 @@ two =
 abbrev cases : List ℕ
 cases = bytes "<FlsAssDom_1>" ++ (admitted "A" "I" "0101" ++ (admitted "A" "I" "0101" ++ (admitted "A" "V" "0202" ++ bytes "</FlsAssDom_1>")))
 
--- the two are inserted; then a record without events; and the two are cancelled
+-- the three are inserted; then a record without events; and the three are cancelled
 abbrev inserted : List ℕ
-inserted = bytes "<FlsAssDom_2>" ++ (happened "I" two ++ (happened "I" [] ++ bytes "</FlsAssDom_2>"))
+inserted = bytes "<FlsAssDom_2>" ++ (happened "I" these ++ (happened "I" [] ++ bytes "</FlsAssDom_2>"))
 
 abbrev cancelled : List ℕ
-cancelled = bytes "<FlsAssDom_2>" ++ (happened "C" two ++ bytes "</FlsAssDom_2>")
+cancelled = bytes "<FlsAssDom_2>" ++ (happened "C" these ++ bytes "</FlsAssDom_2>")
 
 -- the case is cancelled, inserted again, and cancelled again
 abbrev withdrawn : List ℕ
@@ -133,9 +134,9 @@ withdrawal = callOf withdrawn 1 2018 2 (replicate 4 9)
 abbrev pub mistake : Call
 mistake = callOf mistaken 1 2018 2 (replicate 4 9)
 
--- a register with room for four rows, whatever it held
+-- a register with room for five rows, whatever it held
 abbrev pub register : List ℕ
-register = replicate 368 7
+register = replicate 459 7
 
 abbrev pub keyOf : Char → Key
 keyOf id = record { region = 10; asl = bytes "101"; taken = dayNumber 2018 5 1; id = replicate 88 (code id) }
@@ -152,10 +153,13 @@ abbrev said : Event → Said
 said e = record { event = eventNumber e; valued = false; prevalente = [] }
 
 abbrev pub visit : Event
-visit = eventWith 1 (dayNumber 2018 5 5) never 3 2 0
+visit = eventWith 1 (dayNumber 2018 5 5) 3 never 2 0
+
+abbrev pub another : Event
+another = eventWith 1 (dayNumber 2018 5 5) 7 never 0 0
 
 abbrev pub suspension : Event
-suspension = eventWith 2 (dayNumber 2018 5 10) (dayNumber 2018 5 12) 1 0 0
+suspension = eventWith 2 (dayNumber 2018 5 10) 1 (dayNumber 2018 5 12) 0 0
 
 abbrev pub admit : Char → Char → string.String → Record
 admit id tipo prevalente =
@@ -163,17 +167,20 @@ admit id tipo prevalente =
     (record { case = caseSaid prevalente; residence = record { region = bytes "999"; asl = bytes "999"; comune = bytes "999999"; stato = bytes "fr" } })
 
 abbrev pub send : Char → Record
-send tipo = events (record { tipo = code tipo; key = key }) (said visit ∷ said suspension ∷ [])
+send tipo = events (record { tipo = code tipo; key = key }) (said visit ∷ said another ∷ said suspension ∷ [])
 
 -- what stands with the case alone, and with its events
 abbrev pub held : string.String → State ℕ ℕ
 held prevalente = record { cases = caseRow key (caseSaid prevalente) ∷ []; events = [] }
 
+abbrev row : Event → Row ℕ
+row e = eventRow (keyNumber key) (eventNumber e)
+
 abbrev pub standing : State ℕ ℕ
 standing =
     record {
       cases = caseRow key (caseSaid "0202") ∷ [];
-      events = eventRow (keyNumber key) (eventNumber visit) ∷ eventRow (keyNumber key) (eventNumber suspension) ∷ [];
+      events = row visit ∷ row another ∷ row suspension ∷ [];
     }
 
 -- that register emptied, and the bytes of a state in it
@@ -181,7 +188,7 @@ abbrev pub begun : List ℕ
 begun = regAfter register []
 
 abbrev pub holding : State ℕ ℕ → List ℕ
-holding s = encode siad 368 s
+holding s = encode siad 459 s
 
 -- what the five calls give
 pub record Given : Type 0 where

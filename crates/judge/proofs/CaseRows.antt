@@ -1,5 +1,5 @@
 -- A record's case in a sound register: whether it stands, and its events' rows.
-use Prim.Native.Nat.{ℕ, _+_, _-_, _/_, _^_, _≤_, _<_}
+use Prim.Native.Nat.{ℕ, _+_, _-_, _≤_, _<_}
 use mathlib.Core.Path.{_≡_, sym, ap, _∙_}
 use mathlib.Core.Bool.{Bool, true, _&&_}
 use mathlib.Core.List.{List, map}
@@ -7,25 +7,27 @@ use native.Mathlib.Omega.{arith}
 use lib.Dec.{eqb, ltb}
 use lib.ListN.{length}
 use borrow.Author.Tests.{ltb-false}
-use Rattle.model.specs.Map.{Row, Map, has}
+use Rattle.model.specs.Map.{Map, has}
 use Rattle.rows.specs.Packing.{each, Fit}
-use Rattle.register.specs.Layout.{caseRest, eventRest, caseNamed, rowAt, rowIn, casesHeld, eventsHeld}
+use Rattle.register.specs.Layout.{caseRest, rowAt, rowIn, casesHeld, eventsHeld}
 use Rattle.register.specs.State.{split, eventsFrom, stateOf}
 use Rattle.register.specs.Search.{keyAt, probeKey, Placed, Ranged}
 use Rattle.register.specs.Sound.{eventsOf}
 use Rattle.register.specs.Stored.{Stored, cases}
-use Rattle.register.proofs.Found.{stands-has, case-at, cases-rise, range-events}
+use Rattle.register.proofs.Found.{stands-has, cases-rise, range-events}
 use Rattle.register.proofs.From.{from-length}
 use Rattle.register.proofs.Halving.{at-key}
-use Rattle.home_care.specs.Row.{siad, takenIn, eventNumberIn, eventKeyOf, dateOf, endOf, rowBytes, keyBits}
+use Rattle.home_care.specs.Row.{siad, takenIn, eventNumberIn, dateOf, endOf, rowBytes, keyBits}
+use Rattle.home_care.specs.EventRows.{eventAt, Climbs}
 use Rattle.home_care.specs.Anomalies.{isSuspension, shareDay}
 use Rattle.home_care.proofs.Laid.{laid-siad}
+use Rattle.home_care.proofs.EventRows.{key-at-row}
 use Rattle.soundness.specs.Sound.{eventsFree, isSound}
 use Rattle.soundness.proofs.SoundLaws.{sound-is-stored}
 use Rattle.soundness.proofs.FindPlace.{keys-rise}
 use Rattle.checks.proofs.Valid.{sound-state, parts-of, free-any}
-use Rattle.judge.specs.CaseRows.{eventAt, standingIn, Climbs, Settled, OfCase}
-use Rattle.judge.proofs.Rows.{any-not, pair-not}
+use Rattle.judge.specs.CaseRows.{standingIn, Settled, OfCase}
+use Rattle.judge.proofs.Rows.{row, any-not, pair-not}
 use Rattle.judge.proofs.Afterwards.{Clear, clear-of}
 
 -- ---- the rows that a register claims
@@ -34,7 +36,7 @@ pub cases-count : (reg : List ℕ) → length (stateOf siad reg .cases) ≡ case
 cases-count reg = from-length (λ j. split (caseRest siad) (rowIn siad reg j)) 0 (casesHeld reg)
 
 pub events-count : (reg : List ℕ) → length (stateOf siad reg .events) ≡ eventsHeld reg
-events-count reg = from-length (λ j. split (eventRest siad) (rowIn siad reg j)) (casesHeld reg) (eventsHeld reg)
+events-count reg = from-length (row reg) (casesHeld reg) (eventsHeld reg)
 
 module _ (reg : List ℕ) (f : Fit (each 8 reg)) (h : isSound reg ≡ true) where
   stored : Stored siad reg (stateOf siad reg)
@@ -52,29 +54,24 @@ module _ (reg : List ℕ) (f : Fit (each 8 reg)) (h : isSound reg ≡ true) wher
   -- ---- its events
 
   module _ (v lo hi : ℕ) (r : Ranged (keyAt rowBytes keyBits reg) v (casesHeld reg) (casesHeld reg + eventsHeld reg) lo hi) where
-    abbrev row : ℕ → Row ℕ
-    row j = split (eventRest siad) (rowIn siad reg j)
-
     ranged : Ranged (keyAt rowBytes keyBits reg) v (length (stateOf siad reg .cases)) (length (stateOf siad reg .cases) + length (stateOf siad reg .events)) lo hi
     ranged = rw (cases-count reg, events-count reg) r
 
     pub events-are : eventsOf siad v (stateOf siad reg .events) ≡ eventsFrom siad reg lo (hi - lo)
     events-are = range-events siad laid-siad reg (stateOf siad reg) stored v lo hi ranged
 
-    of-case : (j : ℕ) → lo ≤ j → j < hi → caseNamed siad (row j .key) ≡ v
-    of-case j a b =
-        sym (case-at siad laid-siad reg (stateOf siad reg) stored j)
-        ∙ ranged .inside (cases-rise siad laid-siad reg (stateOf siad reg) stored) j a b
+    of-case : (j : ℕ) → lo ≤ j → j < hi → keyAt rowBytes keyBits reg j ≡ v
+    of-case j a b = ranged .inside (cases-rise siad laid-siad reg (stateOf siad reg) stored) j a b
 
     -- in one case's rows the events' own part of the key decides
-    own-part : (m n : ℕ) → caseNamed siad (m / 2 ^ eventRest siad) ≡ v → caseNamed siad (n / 2 ^ eventRest siad) ≡ v → m / 2 ^ eventRest siad < n / 2 ^ eventRest siad →
-        eventKeyOf (eventNumberIn (split (eventRest siad) m)) < eventKeyOf (eventNumberIn (split (eventRest siad) n))
-    own-part m n a b h = omega arith
-
     events-climb : Climbs reg lo hi
     events-climb p q a b c =
-        own-part (rowIn siad reg p) (rowIn siad reg q) (of-case p a (omega arith)) (of-case q (omega arith) c)
-        (keys-rise row 0 (casesHeld reg) (eventsHeld reg) (stored .good .1) p q (omega (arith, r .low)) b (omega (arith, r .high)))
+        let x = key-at-row reg p in
+        let y = key-at-row reg q in
+        let d = of-case p a (omega arith) in
+        let e = of-case q (omega arith) c in
+        let up : row reg p .key < row reg q .key = keys-rise (row reg) 0 (casesHeld reg) (eventsHeld reg) (stored .good .1) p q (omega (arith, r .low)) b (omega (arith, r .high)) in
+        omega arith
 
     -- free of 23 and 26, also where the case does not stand: then it has no events
     clear : Clear (takenIn v) (standingIn reg lo hi)

@@ -1,5 +1,5 @@
 -- 22, 14 and 15: the keys of a record's events, against each other and against those that stand, as tests on the events' 52 bits.
-use Prim.Native.Nat.{ℕ, _^_, _<_}
+use Prim.Native.Nat.{ℕ, _+_, _*_, _^_, _<_}
 use mathlib.Core.Path.{_≡_, refl, sym, ap, ap₂, _∙_}
 use mathlib.Core.Bool.{Bool, true, false, cond, not, _||_}
 use mathlib.Core.List.{List, [], _∷_, map}
@@ -15,22 +15,24 @@ use Rattle.model.specs.Map.{Row, Map, isSome, find, has, keep, anyIn, allIn, tw
 use Rattle.model.specs.Anomalies.{t22}
 use Rattle.model.proofs.Lists.{any-same, not-all}
 use Rattle.model.proofs.MapLaws.{find-keep}
-use Rattle.register.specs.Layout.{caseNamed, eventRest}
+use Rattle.register.specs.Layout.{caseNamed}
 use Rattle.register.specs.Sound.{eventsOf}
-use Rattle.register.specs.Stored.{Fits, events as eventGroup}
-use Rattle.home_care.specs.Row.{eventBits, keyNumber, siad, eventNumberIn, eventKeyOf, eventIn}
+use Rattle.register.specs.Stored.{Sized, Fits, events as eventGroup}
+use Rattle.home_care.specs.Row.{rowBytes, ownBits, eventBits, keyNumber, siad, eventNumberIn, eventKeyOf, eventIn, eventRow}
 use Rattle.home_care.specs.Allowed.{eventAllowed}
 use Rattle.home_care.specs.Record.{Head, Said, events, eventNumbers}
-use Rattle.home_care.proofs.ReadBack.{event-case, event-read, event-val-lt}
+use Rattle.home_care.proofs.Laid.{row-width}
+use Rattle.home_care.proofs.EventKeys.{row-parts}
+use Rattle.home_care.proofs.ReadBack.{event-case, event-read, event-key}
 use Rattle.checks.specs.Flow.{flow, eventRows}
 use Rattle.checks.specs.Readable.{eventReadable}
 use Rattle.judge.specs.ByNumber.{clash, keyAmong}
 use Rattle.judge.proofs.Pairs.{any-agree, any-map}
 
--- a row of the case c, with no bits beyond its own
+-- a row of the case c: its key is the case's, and behind it the own one of its event
 pub record Own (c : ℕ) (r : Row ℕ) : Type 0 where
   pub of : caseNamed siad (r .key) ≡ c
-  pub small : r .val < 2 ^ eventRest siad
+  pub parts : r .key ≡ c * 2 ^ ownBits + eventKeyOf (eventNumberIn r)
 
 has-any : (k : ℕ) (m : Map ℕ) → has k m ≡ any (λ r. eqb k (r .key)) m
 unfolding find any
@@ -43,13 +45,22 @@ has-any k (x ∷ m) = go (eqb k (x .key)) (has-any k m)
 
 -- ---- a case's standing rows, and a record's rows
 
+-- a row of the case that has its sizes, and the row that an event makes
+sized-own : (c : ℕ) (r : Row ℕ) → Sized eventGroup siad r → caseNamed siad (r .key) ≡ c → Own c r
+sized-own c r s e =
+    record { of = e; parts = row-parts rowBytes row-width r s ∙ ap (λ (d : ℕ). d * 2 ^ ownBits + eventKeyOf (eventNumberIn r)) e }
+
+row-own : (c e : ℕ) → e < 2 ^ eventBits → Own c (eventRow c e)
+row-own c e h =
+    record { of = event-case c e h; parts = event-key c e h ∙ ap (λ (d : ℕ). c * 2 ^ ownBits + eventKeyOf d) (sym (event-read c e h)) }
+
 pub own-standing : (c : ℕ) (m : Map ℕ) → Fits eventGroup siad m → Every (Own c) (eventsOf siad c m)
 unfolding Fits keep
 own-standing c [] f = tt
 own-standing c (r ∷ m) f = go (eqb (caseNamed siad (r .key)) c) refl (own-standing c m (f .1))
   where
     go : (b : Bool) → eqb (caseNamed siad (r .key)) c ≡ b → Every (Own c) (eventsOf siad c m) → Every (Own c) (cond b (r ∷ eventsOf siad c m) (eventsOf siad c m))
-    go true e ih = (record { of = eqb-true (caseNamed siad (r .key)) c e; small = f .0 .1 }, ih)
+    go true e ih = (sized-own c r (f .0) (eqb-true (caseNamed siad (r .key)) c e), ih)
     go false e ih = ih
 
 -- of 52 bits each
@@ -64,7 +75,7 @@ module _ (c : ℕ) where
   own-of : (es : List Said) → Narrow es → Every (Own c) (eventRows c es)
   unfolding eventRows
   own-of [] w = tt
-  own-of (e ∷ es) w = (record { of = event-case c (e .event) (w .0); small = event-val-lt c (e .event) (w .0) }, own-of es (w .1))
+  own-of (e ∷ es) w = (row-own c (e .event) (w .0), own-of es (w .1))
 
   back : (es : List Said) → Narrow es → map eventNumberIn (eventRows c es) ≡ eventNumbers es
   unfolding eventRows eventNumbers
@@ -79,15 +90,15 @@ module _ (c : ℕ) where
 
   -- ---- keys of rows, and of their 52 bits
 
+  -- behind one case's key the own keys decide
+  own-decides : (x y k l : ℕ) → x ≡ c * 2 ^ ownBits + k → y ≡ c * 2 ^ ownBits + l → eqb x y ≡ eqb l k
+  own-decides x y k l a b =
+      same-truth (eqb x y) (eqb l k)
+      (λ h. let e : x ≡ y = eqb-true x y h in eq-eqb l k (omega arith))
+      (λ h. let e : l ≡ k = eqb-true l k h in eq-eqb x y (omega arith))
+
   key-own : (x y : Row ℕ) → Own c x → Own c y → eqb (x .key) (y .key) ≡ eqb (eventKeyOf (eventNumberIn y)) (eventKeyOf (eventNumberIn x))
-  key-own x y a b =
-      let o = a .of in
-      let s = a .small in
-      let p = b .of in
-      let t = b .small in
-      same-truth (eqb (x .key) (y .key)) (eqb (eventKeyOf (eventNumberIn y)) (eventKeyOf (eventNumberIn x)))
-      (λ h. let e : x .key ≡ y .key = eqb-true (x .key) (y .key) h in eq-eqb (eventKeyOf (eventNumberIn y)) (eventKeyOf (eventNumberIn x)) (omega arith))
-      (λ h. let e : eventKeyOf (eventNumberIn y) ≡ eventKeyOf (eventNumberIn x) = eqb-true (eventKeyOf (eventNumberIn y)) (eventKeyOf (eventNumberIn x)) h in eq-eqb (x .key) (y .key) (omega arith))
+  key-own x y a b = own-decides (x .key) (y .key) (eventKeyOf (eventNumberIn x)) (eventKeyOf (eventNumberIn y)) (a .parts) (b .parts)
 
   -- a key stands in the case's rows just where its 52 bits' key is among theirs
   pub has-own : (x : Row ℕ) (m : Map ℕ) → Own c x → Every (Own c) m → has (x .key) m ≡ keyAmong (map eventNumberIn m) (eventNumberIn x)

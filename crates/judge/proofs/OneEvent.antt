@@ -37,8 +37,8 @@ pub after-is : (c e last end kind date : ℕ) → last ≡ dateOf c → end ≡ 
 after-is c e last end kind date l n k d = rw (l, n, k, d)
 
 module _ (number a b : ℕ) where
-  pub clash-22 : (k j : ℕ) → number ≡ 22 → k ≡ eventKeyOf a → j ≡ eventKeyOf b → eqb k j ≡ clash number a b
-  clash-22 k j h p q = rw (h, p, q)
+  pub clash-22 : (r : Bool) → number ≡ 22 → r ≡ eqb (eventKeyOf a) (eventKeyOf b) → r ≡ clash number a b
+  clash-22 r h e = e ∙ rw h
 
   module _ (not22 : number ≡ 22 → ⊥) where
     pub clash-26 : (r : Bool) → number ≡ 26 → r ≡ shareDay a b → r ≡ clash number a b

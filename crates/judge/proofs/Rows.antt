@@ -1,5 +1,5 @@
--- A case's rows, which ascend: what is looked for in a part of them, and an event found by its key.
-use Prim.Native.Nat.{ℕ, zero, suc, _+_, _-_, _*_, _≤_, _<_, _^_}
+-- A case's rows, which ascend: what is looked for in a part of them, an event found by its key, and the rows of a kind by their first bits.
+use Prim.Native.Nat.{ℕ, zero, suc, _+_, _-_, _≤_, _<_}
 use mathlib.Core.Path.{_≡_, refl, sym, ap, ap₂, _∙_}
 use mathlib.Core.Bool.{Bool, true, false, _||_, or-false, or-true, true≢false}
 use mathlib.Core.List.{List, [], _∷_, map}
@@ -13,13 +13,16 @@ use Rattle.laws.proofs.Lists.{any-append}
 use Rattle.laws.proofs.Every.{any-tell}
 use Rattle.model.specs.Map.{Row}
 use Rattle.register.specs.Layout.{eventRest, rowIn}
-use Rattle.register.specs.State.{from, split}
+use Rattle.register.specs.State.{from, splitBy}
+use Rattle.register.specs.Gap.{fieldIn}
 use Rattle.register.specs.Search.{Rises, Placed}
 use Rattle.register.proofs.From.{from-cut}
 use Rattle.register.proofs.Walks.{from-next, from-none, from-every}
-use Rattle.home_care.specs.Row.{siad, kindOf, eventNumberIn, eventKeyOf, dayBits}
+use Rattle.home_care.specs.Row.{rowBytes, keyBits, kindBits, eventBits, siad, kindOf, eventNumberIn, eventKeyOf}
+use Rattle.home_care.specs.EventRows.{eventAt, eventKeyAt, Climbs, OwnPlaced}
+use Rattle.home_care.proofs.EventRows.{first-bits, bits-rise}
 use Rattle.judge.specs.ByNumber.{keyAmong}
-use Rattle.judge.specs.CaseRows.{eventAt, eventKeyAt, standingIn, Climbs, Settled, Outside}
+use Rattle.judge.specs.CaseRows.{standingIn, Settled, Outside}
 
 -- ---- the events in some rows
 
@@ -29,14 +32,18 @@ map-from f i zero = refl
 map-from f i (suc k) = ap (λ (l : List ℕ). eventNumberIn (f i) ∷ l) (map-from f (suc i) k)
 
 module _ (reg : List ℕ) where
+  -- row j, cut behind its event's key
+  abbrev pub row : ℕ → Row ℕ
+  row j = splitBy (siad .spare) (eventRest siad) (rowIn siad reg j)
+
   rows : (i k : ℕ) → standingIn reg i k ≡ from (eventAt reg) i (k - i)
-  rows i k = map-from (λ j. split (eventRest siad) (rowIn siad reg j)) i (k - i)
+  rows i k = map-from row i (k - i)
 
   pub next-row : (i hi : ℕ) → i < hi → standingIn reg i hi ≡ eventAt reg i ∷ standingIn reg (i + 1) hi
-  next-row i hi h = ap (map eventNumberIn) (from-next (λ j. split (eventRest siad) (rowIn siad reg j)) i hi h)
+  next-row i hi h = ap (map eventNumberIn) (from-next row i hi h)
 
   pub no-row : (i hi : ℕ) → hi ≤ i → standingIn reg i hi ≡ []
-  no-row i hi h = ap (map eventNumberIn) (from-none (λ j. split (eventRest siad) (rowIn siad reg j)) i hi h)
+  no-row i hi h = ap (map eventNumberIn) (from-none row i hi h)
 
   module _ (q : ℕ → Bool) where
     any-cut : (lo i hi : ℕ) → lo ≤ i → i ≤ hi → any q (standingIn reg lo hi) ≡ (any q (standingIn reg lo i) || any q (standingIn reg i hi))
@@ -81,35 +88,40 @@ part-enough q p reg lo hi a e f o settled =
     ∙ ap (λ (s : Bool). any p (standingIn reg a e) || s) (any-none reg p e hi (o .high) (λ k h g. f (eventAt reg k) (o .after settled k h g)))
     ∙ or-false (any p (standingIn reg a e))
 
--- ---- an event by its key
+-- ---- found by the first bits behind the case's key, and by the key
 
 module _ (reg : List ℕ) (lo hi : ℕ) (up : Climbs reg lo hi) where
-  pub climb-rises : (a : ℕ) → lo ≤ a → Rises (eventKeyAt reg) a hi
-  climb-rises a h p q x y z = omega (arith, up p q (omega arith) y z)
+  -- from any row on, they do not fall
+  pub part-rises : (k a : ℕ) → k ≤ eventBits → lo ≤ a → Rises (fieldIn rowBytes keyBits k reg) a hi
+  part-rises k a few h = bits-rise reg a hi (λ p q x y z. up p q (omega arith) y z) k few
 
-  module _ (e key i : ℕ) (k : key ≡ eventKeyOf e) (pl : Placed (eventKeyAt reg) key lo hi i) where
-    smaller : (j : ℕ) → lo ≤ j → j < i → eqb (eventKeyAt reg j) (eventKeyOf e) ≡ false
-    smaller j h g = ne-eqb (eventKeyAt reg j) (eventKeyOf e) (λ x. omega (arith, pl .under (climb-rises lo (omega arith)) j h g))
+  -- an event's key stands at its place, or nowhere
+  module _ (e i : ℕ) (pl : OwnPlaced reg e lo hi i) where
+    abbrev same : ℕ → Bool
+    same a = eqb (eventKeyOf a) (eventKeyOf e)
+
+    smaller : (j : ℕ) → lo ≤ j → j < i → same (eventAt reg j) ≡ false
+    smaller j h g = ne-eqb (eventKeyAt reg j) (eventKeyOf e) (λ x. omega (arith, pl .under up j h g))
 
     pub has-none : hi ≤ i → false ≡ keyAmong (standingIn reg lo hi) e
     has-none h =
-        sym (any-none reg (λ a. eqb (eventKeyOf a) (eventKeyOf e)) lo hi (omega (arith, pl .low, pl .high)) (λ j x y. smaller j x (omega arith)))
+        sym (any-none reg same lo hi (omega (arith, pl .low, pl .high)) (λ j x y. smaller j x (omega arith)))
 
-    pub has-here : (here : ℕ) → i < hi → here ≡ eventKeyAt reg i → eqb here key ≡ keyAmong (standingIn reg lo hi) e
-    has-here here h z = go (tri here key)
+    pub has-here : (here key : ℕ) → i < hi → here ≡ eventKeyAt reg i → key ≡ eventKeyOf e → eqb here key ≡ keyAmong (standingIn reg lo hi) e
+    has-here here key h z k = go (tri here key)
       where
         go : Tri here key → eqb here key ≡ keyAmong (standingIn reg lo hi) e
-        go (below l _ t) = absurd (omega (arith, pl .over (climb-rises lo (omega arith)) i (omega arith) h))
-        go (equal l _ t) = t ∙ sym (any-one reg (λ a. eqb (eventKeyOf a) (eventKeyOf e)) lo i hi (pl .low) h (eq-eqb (eventKeyAt reg i) (eventKeyOf e) (sym z ∙ l ∙ k)))
-        go (above l _ t) = t ∙ sym (any-none reg (λ a. eqb (eventKeyOf a) (eventKeyOf e)) lo hi (omega (arith, pl .low)) (λ j x y. near j x y (tri j i)))
+        go (below l _ t) = absurd (omega (arith, pl .over up i (omega arith) h))
+        go (equal l _ t) = t ∙ sym (any-one reg same lo i hi (pl .low) h (eq-eqb (eventKeyAt reg i) (eventKeyOf e) (sym z ∙ l ∙ k)))
+        go (above l _ t) = t ∙ sym (any-none reg same lo hi (omega (arith, pl .low)) (λ j x y. near j x y (tri j i)))
           where
-            near : (j : ℕ) → lo ≤ j → j < hi → Tri j i → eqb (eventKeyAt reg j) (eventKeyOf e) ≡ false
+            near : (j : ℕ) → lo ≤ j → j < hi → Tri j i → same (eventAt reg j) ≡ false
             near j x y (below m _ _) = smaller j x m
             near j x y (equal m _ _) = ne-eqb (eventKeyAt reg j) (eventKeyOf e) (λ w. let v : eventKeyAt reg j ≡ eventKeyAt reg i = ap (eventKeyAt reg) m in omega arith)
             near j x y (above m _ _) = ne-eqb (eventKeyAt reg j) (eventKeyOf e) (λ w. omega (arith, up i j (pl .low) m y))
 
--- the rows of a kind: from its first possible key up to the next kind's
-pub kind-rows : (reg : List ℕ) (lo hi kind a e : ℕ) → Placed (eventKeyAt reg) (kind * 2 ^ dayBits) lo hi a → Placed (eventKeyAt reg) ((kind + 1) * 2 ^ dayBits) a hi e →
+-- the rows of a kind: from the first that is not below it up to the first of a later kind
+pub kind-rows : (reg : List ℕ) (lo hi kind a e : ℕ) → Placed (fieldIn rowBytes keyBits kindBits reg) kind lo hi a → Placed (fieldIn rowBytes keyBits kindBits reg) (kind + 1) a hi e →
     Outside (λ b. eqb (kindOf b) kind) reg lo hi a e
 kind-rows reg lo hi kind a e p q =
     record {
@@ -117,7 +129,10 @@ kind-rows reg lo hi kind a e p q =
       mid = q .low;
       high = q .high;
       before = λ settled k h g.
-          ne-eqb (kindOf (eventAt reg k)) kind (λ w. omega (arith, p .under (climb-rises reg lo hi (settled .climbs) lo (omega arith)) k h g));
+          ne-eqb (kindOf (eventAt reg k)) kind (λ w. omega (arith, at k, p .under (part-rises reg lo hi (settled .climbs) kindBits lo (omega arith) (omega arith)) k h g));
       after = λ settled k h g.
-          ne-eqb (kindOf (eventAt reg k)) kind (λ w. omega (arith, q .over (climb-rises reg lo hi (settled .climbs) a (p .low)) k h g));
+          ne-eqb (kindOf (eventAt reg k)) kind (λ w. omega (arith, at k, q .over (part-rises reg lo hi (settled .climbs) kindBits a (omega arith) (p .low)) k h g));
     }
+  where
+    at : (k : ℕ) → fieldIn rowBytes keyBits kindBits reg k ≡ kindOf (eventAt reg k)
+    at k = first-bits reg kindBits k (omega arith)

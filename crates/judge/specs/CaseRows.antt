@@ -4,29 +4,19 @@ use mathlib.Core.Path.{_≡_}
 use mathlib.Core.Bool.{Bool, true, false}
 use mathlib.Core.List.{List, map}
 use lib.ListN.{length}
-use Rattle.register.specs.Layout.{eventRest, rowAt, rowIn}
-use Rattle.register.specs.State.{split, eventsFrom, stateOf}
+use Rattle.register.specs.Layout.{rowAt}
+use Rattle.register.specs.State.{eventsFrom, stateOf}
 use Rattle.register.specs.Sound.{eventsOf}
-use Rattle.home_care.specs.Row.{siad, eventNumberIn, eventKeyOf, dateOf, endOf}
+use Rattle.home_care.specs.Row.{siad, eventNumberIn, dateOf, endOf}
+use Rattle.home_care.specs.EventRows.{eventAt, Climbs}
 use Rattle.home_care.specs.Anomalies.{isSuspension, shareDay}
 use Rattle.soundness.specs.Sound.{isSound}
-
--- the 52 bits of the event in row i, and its part of the key
-abbrev pub eventAt : List ℕ → ℕ → ℕ
-eventAt reg i = eventNumberIn (split (eventRest siad) (rowIn siad reg i))
-
-abbrev pub eventKeyAt : List ℕ → ℕ → ℕ
-eventKeyAt reg i = eventKeyOf (eventAt reg i)
 
 -- the events in the rows from lo up to hi
 abbrev pub standingIn : List ℕ → ℕ → ℕ → List ℕ
 standingIn reg lo hi = map eventNumberIn (eventsFrom siad reg lo (hi - lo))
 
--- their keys ascend, as those of one case's events do
-abbrev pub Climbs : List ℕ → ℕ → ℕ → Type 0
-Climbs reg lo hi = (p q : ℕ) → lo ≤ p → p < q → q < hi → eventKeyAt reg p < eventKeyAt reg q
-
--- they are as a case's events stand in a sound register
+-- these rows are as a case's events stand in a sound register
 pub record Settled (reg : List ℕ) (lo hi : ℕ) : Type 0 where
   -- in the order of their keys
   pub climbs : Climbs reg lo hi

@@ -15,6 +15,7 @@ use home_care::event_bits::date_of;
 use home_care::event_bits::end_of;
 use home_care::event_bits::event_key_of;
 use home_care::event_bits::kind_of;
+use home_care::event_bits::same_key;
 use home_care::event_bits::share_day;
 use home_care::layout::NEVER;
 
@@ -32,7 +33,7 @@ pub fn clash(number: u64, a: u64, b: u64) -> bool
     ensures { λ r. ⌜ r ≡ clash number a b ⌝ }
 {
     if number == 22 {
-        return event_key_of(a) == event_key_of(b);
+        return same_key(a, b);
     }
     if number == 26 {
         return share_day(a, b);

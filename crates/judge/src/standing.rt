@@ -1,4 +1,4 @@
-// The rows of one case, found by the event's part of the key.
+// The rows of one case, found by the first bits behind the case's key.
 ghost use mathlib.Core.Path.{_≡_};
 ghost use mathlib.Core.Bool.{cond, not};
 ghost use Prim.Native.Nat.{_+_, _≤_, _<_, _^_};
@@ -6,11 +6,11 @@ ghost use lib.Dec.{eqb};
 ghost use lib.ListN.{length};
 ghost use Rattle.laws.specs.Lists.{any};
 ghost use Rattle.register.specs.Layout.{rowAt};
-ghost use Rattle.register.specs.Search.{Placed};
 ghost use Rattle.home_care.specs.Anomalies.{shareDay};
+ghost use Rattle.home_care.specs.EventRows.{eventAt, Climbs};
 ghost use Rattle.home_care.specs.Row.{eventBits, kindOf, siad};
 ghost use Rattle.judge.specs.ByNumber.{clash, keyAmong};
-ghost use Rattle.judge.specs.CaseRows.{eventAt, eventKeyAt, standingIn, Climbs, Outside};
+ghost use Rattle.judge.specs.CaseRows.{standingIn, Outside};
 use codes::code_lists::CONCLUSION;
 use codes::code_lists::SUSPENSION;
 use home_care::event_bits::date_of;
@@ -18,10 +18,15 @@ use home_care::event_bits::end_of;
 use home_care::event_bits::event_key_of;
 use home_care::event_bits::event_of;
 use home_care::event_bits::kind_of;
-use home_care::layout::DATES;
+use home_care::event_rows::place_event;
+use home_care::layout::CASE_KEY;
+use home_care::layout::DATED;
+use home_care::layout::DAY_BITS;
+use home_care::layout::KIND_BITS;
 use home_care::layout::ROW;
 use register::row::row_at;
 use register::search::Span;
+use register::search::place_by;
 
 // The event in row i.
 pub fn event_at(reg: &[u8], i: usize) -> u64
@@ -31,35 +36,16 @@ pub fn event_at(reg: &[u8], i: usize) -> u64
     event_of(row_at(reg, ROW, i))
 }
 
-// The first row from lo up to hi whose event's key is not below the key, or hi.
-fn event_place(reg: &[u8], lo: usize, hi: usize, key: u64) -> usize
-    requires { ⌜ (lo ≤ hi) × (rowAt siad hi ≤ length (now reg)) ⌝ }
-    ensures { λ r. ⌜ Placed (eventKeyAt (now (reg .entry))) key lo hi r ⌝ }
-{
-    let mut a = lo;
-    let mut e = hi;
-    while a < e {
-        let mid = a + (e - a) / 2;
-        if event_key_of(event_at(reg, mid)) < key {
-            a = mid + 1;
-        } else {
-            e = mid;
-        }
-    }
-    a
-}
-
 // Whether an event with the key of e stands in the rows from lo up to hi.
 fn has_event(reg: &[u8], lo: usize, hi: usize, e: u64) -> bool
     requires { ⌜ (lo ≤ hi) × (rowAt siad hi ≤ length (now reg)) ⌝ }
     ensures { λ r. ⌜ (Climbs (now (reg .entry)) lo hi → r ≡ keyAmong (standingIn (now (reg .entry)) lo hi) e) ⌝ }
 {
-    let key = event_key_of(e);
-    let i = event_place(reg, lo, hi, key);
+    let i = place_event(reg, lo, hi, e);
     if hi <= i {
         return false;
     }
-    event_key_of(event_at(reg, i)) == key
+    event_key_of(event_at(reg, i)) == event_key_of(e)
 }
 
 // Whether one of the record's events stands there, or, with `standing` false, does not.
@@ -83,8 +69,8 @@ fn of_kind(reg: &[u8], lo: usize, hi: usize, kind: u64) -> Span
     requires { ⌜ (lo ≤ hi) × (rowAt siad hi ≤ length (now reg)) × (kind < 4) ⌝ }
     ensures { λ r. ⌜ Outside (λ b. eqb (kindOf b) kind) (now (reg .entry)) lo hi (r .lo) (r .hi) ⌝ }
 {
-    let a = event_place(reg, lo, hi, kind * DATES);
-    let e = event_place(reg, a, hi, (kind + 1) * DATES);
+    let a = place_by(reg, ROW, lo, hi, CASE_KEY, KIND_BITS, kind);
+    let e = place_by(reg, ROW, a, hi, CASE_KEY, KIND_BITS, kind + 1);
     Span { lo: a, hi: e }
 }
 
@@ -94,8 +80,9 @@ fn sharing(reg: &[u8], lo: usize, hi: usize, a: u64) -> Span
     requires { ⌜ (lo ≤ hi) × (rowAt siad hi ≤ length (now reg)) ⌝ }
     ensures { λ r. ⌜ Outside (shareDay a) (now (reg .entry)) lo hi (r .lo) (r .hi) ⌝ }
 {
-    let from = event_place(reg, lo, hi, SUSPENSION * DATES + date_of(a));
-    let to = event_place(reg, from, hi, SUSPENSION * DATES + end_of(a) + 1);
+    let first = SUSPENSION << DAY_BITS;
+    let from = place_by(reg, ROW, lo, hi, CASE_KEY, DATED, first + date_of(a));
+    let to = place_by(reg, ROW, from, hi, CASE_KEY, DATED, first + end_of(a) + 1);
     if lo < from {
         return Span {
             lo: from - 1,

@@ -12,14 +12,14 @@ use Rattle.model.specs.Map.{Row, Map, isSome, find, has, keep}
 use Rattle.model.specs.Flow.{State}
 use Rattle.model.proofs.MapPlace.{AllBelow, find-in, find-out}
 use Rattle.register.specs.Layout.{Layout, caseRest, eventRest, caseNamed, rowIn}
-use Rattle.register.specs.State.{from, keyBy, splitBy, eventsFrom}
-use Rattle.register.specs.Stored.{Laid, Stored, Group, cases, events, rowsOf, keyBitsOf, spareOf}
+use Rattle.register.specs.State.{from, splitBy, eventsFrom}
+use Rattle.register.specs.Stored.{Laid, Stored, Group, cases, events, rowsOf, keyPart}
 use Rattle.register.specs.Search.{keyAt, Rises, Placed, Ranged}
 use Rattle.register.proofs.From.{from-cut}
 use Rattle.register.proofs.MixedKeys.{by-front}
 use Rattle.register.proofs.States.{events-back}
 use Rattle.register.proofs.Changes.{startOf}
-use Rattle.register.proofs.Places.{keys, keys-rise, key-is, first-is, bits-placed, bits-same, Apart, Within, apart, within}
+use Rattle.register.proofs.Places.{keys, keys-rise, key-is, first-is, Apart, Within, apart, within}
 
 -- ---- a key's place
 
@@ -40,18 +40,6 @@ module _ (l : Layout) (lay : Laid l) (g : Group) (reg : List ℕ) (s : State ℕ
       go false e =
           let p : Apart (rowsOf g s) v (i - startOf g s) = apart l lay g reg s h v hi i eh pl e in
           e ∙ sym (ap isSome (ap (find v) (p .whole) ∙ find-out v (p .us) (p .vs) (p .below) (p .above)))
-
--- the test over as many bits as a probe's key has says whether its key stands
-module _ (l : Layout) (lay : Laid l) (g : Group) (reg : List ℕ) (s : State ℕ ℕ) (h : Stored l reg s) (p hi i : ℕ)
-    (eh : hi ≡ startOf g s + length (rowsOf g s)) where
-  abbrev bits : ℕ
-  bits = keyBitsOf g l - spareOf g l p
-
-  pub bits-has : Placed (keyAt (l .bytes) bits reg) (p / 2 ^ spareOf g l p) (startOf g s) hi i →
-      ltb i hi && eqb (keyAt (l .bytes) bits reg i) (p / 2 ^ spareOf g l p) ≡ has (keyBy (spareOf g l p) p) (rowsOf g s)
-  bits-has pl =
-      ap (λ (b : Bool). ltb i hi && b) (bits-same l lay g reg s h p i)
-      ∙ stands-has l lay g reg s h (keyBy (spareOf g l p) p) hi i eh (bits-placed l lay g reg s h p hi i eh pl)
 
 -- ---- the events of a case
 
@@ -95,7 +83,7 @@ module _ (l : Layout) (lay : Laid l) (reg : List ℕ) (s : State ℕ ℕ) (h : S
   -- the cases of the events do not fall
   pub cases-rise : Rises (keyAt (l .bytes) (l .caseKey) reg) lo hi
   cases-rise p q a b c =
-      let own : (j : ℕ) → keys l lay events reg s h j ≡ row j .key = λ j. ap (λ (n : ℕ). keyBy (l .spare n) n) (first-is events l reg j) in
+      let own : (j : ℕ) → keys l lay events reg s h j ≡ row j .key = λ j. ap (keyPart events l) (first-is events l reg j) in
       let k : row p .key ≤ row q .key = let z = keys-rise l lay events reg s h p q a b c in let x = own p in let y = own q in omega arith in
       rw (case-at p, case-at q) (shr-mono (l .eventKey - l .caseKey) k)
 

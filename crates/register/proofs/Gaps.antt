@@ -288,7 +288,7 @@ module _ (w i j n at v : ℕ) (a b row : List ℕ) (h : at ≤ 2) (er : length r
       ap (λ (l : List ℕ). bytesAt w l i) (counted ∙ ap (λ (l : List ℕ). x ++ l) (append-assoc row (g .rows) z))
       ∙ mid-seam x row (g .rows ++ z) (4 + w * i) w lx er
 
--- ---- keys and fields of equal rows
+-- ---- keys of equal rows, and a field
 
 pub key-same : (w k p : ℕ) (a b : List ℕ) → bytesAt w a p ≡ bytesAt w b p → keyAt w k a p ≡ keyAt w k b p
 unfolding keyAt
@@ -297,10 +297,6 @@ key-same w k p a b e = rw e
 pub key-here : (w k p : ℕ) (a row : List ℕ) → bytesAt w a p ≡ row → keyAt w k a p ≡ probeKey w k row
 unfolding keyAt probeKey
 key-here w k p a row e = rw e
-
-pub field-same : (w at k p : ℕ) (a b : List ℕ) → bytesAt w a p ≡ bytesAt w b p → fieldIn w at k a p ≡ fieldIn w at k b p
-unfolding fieldIn
-field-same w at k p a b e = rw e
 
 -- the field that was read from the row as the code cuts it out
 pub field-got : (w i at k r : ℕ) (reg : List ℕ) → 4 + w * (i + 1) ≤ length reg →

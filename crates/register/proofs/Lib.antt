@@ -1,6 +1,5 @@
 pub mod From
 pub mod MixedKeys
-pub mod MixedLayout
 pub mod RowBytes
 pub mod States
 pub mod Seams

@@ -16,11 +16,10 @@ use Rattle.model.specs.Map.{Row, Map, Asc, del}
 use Rattle.model.specs.Flow.{State}
 use Rattle.model.proofs.MapPlace.{AllBelow, all-below, cut-asc, del-out}
 use Rattle.register.specs.Layout.{Layout, rowIn}
-use Rattle.register.specs.State.{keyBy}
-use Rattle.register.specs.Stored.{Laid, Fits, Stored, Group, cases, events, rowsOf, keyBitsOf, restOf, spareOf, splitOf}
+use Rattle.register.specs.Stored.{Laid, Fits, Stored, Group, cases, events, rowsOf, keyBitsOf, restOf, keyPart, splitOf}
 use Rattle.register.specs.Search.{keyAt, Rises, Placed}
 use Rattle.register.proofs.From.{from-at}
-use Rattle.register.proofs.MixedKeys.{group-bits, few, key-below, key-same, firsts-rise}
+use Rattle.register.proofs.MixedKeys.{spareOf, group-bits, few, key-below, key-same, firsts-rise}
 use Rattle.register.proofs.States.{cases-back, events-back}
 use Rattle.register.proofs.Changes.{startOf}
 
@@ -51,7 +50,7 @@ module _ (l : Layout) (lay : Laid l) (g : Group) (reg : List ℕ) (s : State ℕ
   firsts = keyAt (l .bytes) (keyBitsOf g l) reg
 
   abbrev pub keys : ℕ → ℕ
-  keys i = keyBy (spareOf g l (firsts i)) (firsts i)
+  keys i = keyPart g l (firsts i)
 
   pub row-at : (p : ℕ) (d : Row ℕ) → p < length (rowsOf g s) → splitOf g l (rowIn l reg (startOf g s + p)) ≡ getD (rowsOf g s) p d
   row-at = go g
@@ -66,7 +65,7 @@ module _ (l : Layout) (lay : Laid l) (g : Group) (reg : List ℕ) (s : State ℕ
 
   pub key-at : (p : ℕ) (d : Row ℕ) → p < length (rowsOf g s) → keys (startOf g s + p) ≡ getD (rowsOf g s) p d .key
   key-at p d i =
-      ap (λ (q : ℕ). keyBy (spareOf g l q) q) (first-is g l reg (startOf g s + p)) ∙ ap (λ (r : Row ℕ). r .key) (row-at p d i)
+      ap (keyPart g l) (first-is g l reg (startOf g s + p)) ∙ ap (λ (r : Row ℕ). r .key) (row-at p d i)
 
   pub good-rows : Asc 0 (rowsOf g s)
   good-rows = go g
@@ -83,7 +82,7 @@ module _ (l : Layout) (lay : Laid l) (g : Group) (reg : List ℕ) (s : State ℕ
       go events = h .events-fit
 
   -- the keys rise, as the search supposes
-  keys-climb : (p q : ℕ) → startOf g s ≤ p → p < q → q < startOf g s + length (rowsOf g s) → keys p < keys q
+  pub keys-climb : (p q : ℕ) → startOf g s ≤ p → p < q → q < startOf g s + length (rowsOf g s) → keys p < keys q
   keys-climb p q a b c =
       let d : Row ℕ = record { key = 0; val = 0 } in
       let u : ℕ = p - startOf g s in
@@ -111,7 +110,7 @@ module _ (l : Layout) (lay : Laid l) (g : Group) (reg : List ℕ) (s : State ℕ
 
     -- a place found by these bits is the place of the key
     pub bits-placed : (hi i : ℕ) → hi ≡ startOf g s + length (rowsOf g s) →
-        Placed (keyAt (l .bytes) (keyBitsOf g l - spared) reg) (p / 2 ^ spared) (startOf g s) hi i → Placed keys (keyBy spared p) (startOf g s) hi i
+        Placed (keyAt (l .bytes) (keyBitsOf g l - spared) reg) (p / 2 ^ spared) (startOf g s) hi i → Placed keys (keyPart g l p) (startOf g s) hi i
     bits-placed hi i eh pl =
         record {
           low = pl .low;
@@ -120,10 +119,10 @@ module _ (l : Layout) (lay : Laid l) (g : Group) (reg : List ℕ) (s : State ℕ
           over = λ r k a b. let u : p / 2 ^ spared ≤ firsts k / 2 ^ spared = rw (bits-at k) at (pl .over rise k a b) in not-below k u;
         }
       where
-        not-below : (k : ℕ) → p / 2 ^ spared ≤ firsts k / 2 ^ spared → keyBy spared p ≤ keys k
-        not-below k u = go (tri (keys k) (keyBy spared p))
+        not-below : (k : ℕ) → p / 2 ^ spared ≤ firsts k / 2 ^ spared → keyPart g l p ≤ keys k
+        not-below k u = go (tri (keys k) (keyPart g l p))
           where
-            go : Tri (keys k) (keyBy spared p) → keyBy spared p ≤ keys k
+            go : Tri (keys k) (keyPart g l p) → keyPart g l p ≤ keys k
             go (below x _ _) = let v = key-below g l lay p (firsts k) .0 x in absurd (omega arith)
             go (equal x _ _) = omega arith
             go (above x _ _) = omega arith
@@ -133,10 +132,10 @@ module _ (l : Layout) (lay : Laid l) (g : Group) (reg : List ℕ) (s : State ℕ
             rw (bits-at a, bits-at b) (firsts-rise g l lay (firsts a) (firsts b) (keys-climb a b x y (rw eh at z)) spared)
 
     -- and the row there has them exactly where it has the key
-    pub bits-same : (i : ℕ) → eqb (keyAt (l .bytes) (keyBitsOf g l - spared) reg i) (p / 2 ^ spared) ≡ eqb (keys i) (keyBy spared p)
-    bits-same i = ap (λ (k : ℕ). eqb k (p / 2 ^ spared)) (bits-at i) ∙ go (tri (keys i) (keyBy spared p))
+    pub bits-same : (i : ℕ) → eqb (keyAt (l .bytes) (keyBitsOf g l - spared) reg i) (p / 2 ^ spared) ≡ eqb (keys i) (keyPart g l p)
+    bits-same i = ap (λ (k : ℕ). eqb k (p / 2 ^ spared)) (bits-at i) ∙ go (tri (keys i) (keyPart g l p))
       where
-        go : Tri (keys i) (keyBy spared p) → eqb (firsts i / 2 ^ spared) (p / 2 ^ spared) ≡ eqb (keys i) (keyBy spared p)
+        go : Tri (keys i) (keyPart g l p) → eqb (firsts i / 2 ^ spared) (p / 2 ^ spared) ≡ eqb (keys i) (keyPart g l p)
         go (below x _ f) = ne-eqb _ _ (λ e. let v = key-same g l lay p (firsts i) .1 e in omega arith) ∙ sym f
         go (equal x _ f) = eq-eqb _ _ (key-same g l lay p (firsts i) .0 x) ∙ sym f
         go (above x _ f) = ne-eqb _ _ (λ e. let v = key-same g l lay p (firsts i) .1 e in omega arith) ∙ sym f

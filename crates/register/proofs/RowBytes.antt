@@ -13,8 +13,8 @@ use Rattle.rows.specs.Packing.{num, digits, each, Fit}
 use Rattle.rows.proofs.Bytes.{digits-length, num-digits, digits-num, fit-take, fit-drop, num-lt}
 use Rattle.register.specs.Layout.{Layout, rowAt, rowIn}
 use Rattle.register.specs.State.{from, unsplit, rowsBytes}
-use Rattle.register.specs.Stored.{Laid, Group, restOf, spareOf, splitOf, Fits}
-use Rattle.register.proofs.MixedKeys.{number-by, split-by, row-lt, sizes-by}
+use Rattle.register.specs.Stored.{Laid, Group, restOf, splitOf, Fits}
+use Rattle.register.proofs.MixedKeys.{number-of, split-by, row-lt, sizes-by}
 
 -- ---- a row as a number
 
@@ -101,7 +101,7 @@ module _ (l : Layout) where
         let e : rowAt l (suc i) ≡ rowAt l i + l .bytes = omega arith in
         let s : l .bytes + l .bytes * k ≡ l .bytes * suc k = omega arith in
         ap₂ (λ (x y : List ℕ). x ++ y)
-        (ap (digits (l .bytes)) (number-by (spareOf g l) w (num t)) ∙ ap (λ (n : ℕ). digits n (num t)) (sym lt) ∙ digits-num t (fit-take 8 (l .bytes) (drop (rowAt l i) reg) (fit-drop 8 (rowAt l i) reg f)))
+        (ap (digits (l .bytes)) (number-of g l (num t)) ∙ ap (λ (n : ℕ). digits n (num t)) (sym lt) ∙ digits-num t (fit-take 8 (l .bytes) (drop (rowAt l i) reg) (fit-drop 8 (rowAt l i) reg f)))
         (ih ∙ ap (λ (n : ℕ). take (l .bytes * k) (drop n reg)) e ∙ ap (take (l .bytes * k)) (sym (drop-drop (l .bytes) (rowAt l i) reg)))
         ∙ sym (take-add (l .bytes) (l .bytes * k) (drop (rowAt l i) reg))
         ∙ ap (λ (n : ℕ). take n (drop (rowAt l i) reg)) s

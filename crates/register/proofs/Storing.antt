@@ -17,11 +17,11 @@ use Rattle.rows.proofs.Bytes.{digits-num, num-lt}
 use Rattle.register.specs.Layout.{Layout, rowAt}
 use Rattle.register.specs.RoomAndEmptying.{room, mostRows}
 use Rattle.register.specs.State.{unsplit, encode}
-use Rattle.register.specs.Stored.{Laid, Sized, Fits, Stored, Group, cases, events, rowsOf, keyBitsOf, restOf, spareOf, splitOf, withRows}
+use Rattle.register.specs.Stored.{Laid, Sized, Fits, Stored, Group, cases, events, rowsOf, keyBitsOf, restOf, splitOf, withRows}
 use Rattle.register.specs.Search.{keyAt, probeKey, Placed}
 use Rattle.register.specs.Moves.{inserted, replaced, removed, withCount}
 use Rattle.register.specs.TakenOutBytes.{standsAt, PlacedAt}
-use Rattle.register.proofs.MixedKeys.{group-bits, few, number-by, sizes-by}
+use Rattle.register.proofs.MixedKeys.{spareOf, group-bits, few, number-of, sizes-by}
 use Rattle.register.proofs.RowBytes.{fits-append, fits-left, fits-right, fits-out}
 use Rattle.register.proofs.States.{room-holds, stored-few, stored-end}
 use Rattle.register.proofs.Changes.{countAt, startOf, afterOf, insert-encode, remove-encode, replace-encode}
@@ -66,7 +66,7 @@ module _ (l : Layout) (g : Group) (row : List ℕ) (e : length row ≡ l .bytes)
   -- a row's bytes, from its key and the rest
   row-bytes : digits (l .bytes) (unsplit (restOf g l) (splitOf g l (num row))) ≡ row
   row-bytes =
-      ap (digits (l .bytes)) (number-by (spareOf g l) (restOf g l) (num row)) ∙ ap (λ (k : ℕ). digits k (num row)) (sym e) ∙ digits-num row f
+      ap (digits (l .bytes)) (number-of g l (num row)) ∙ ap (λ (k : ℕ). digits k (num row)) (sym e) ∙ digits-num row f
 
   row-fits : Laid l → Sized g l (splitOf g l (num row))
   row-fits lay = sizes-by g l lay (num row) (rw (ap (λ (k : ℕ). 8 * k) e) at (num-lt row f))
@@ -157,7 +157,7 @@ module _ (l : Layout) (lay : Laid l) (g : Group) (a : List ℕ) (s : State ℕ �
     abbrev bits : ℕ
     bits = keyBitsOf g l - spareOf g l p
 
-    put-new : (b : List ℕ) (i : ℕ) → startOf g s ≤ i → Apart m v (i - startOf g s) → rowAt l (n + 1) ≤ length a → n < room l (length a) →
+    pub put-new : (b : List ℕ) (i : ℕ) → startOf g s ≤ i → Apart m v (i - startOf g s) → rowAt l (n + 1) ≤ length a → n < room l (length a) →
         length b ≡ length a → b ≡ withCount (countAt g) (end - startOf g s + 1) (inserted (l .bytes) i n row a) → Stored l b (withRows g (put r m) s)
     put-new b i low p fits few len e =
         let us : Map ℕ = p .us in
@@ -179,7 +179,7 @@ module _ (l : Layout) (lay : Laid l) (g : Group) (a : List ℕ) (s : State ℕ �
         ∙ insert-encode l g (length a) s us vs r i n (omega arith) (omega arith) fits
         ∙ ap (λ (x : Map ℕ). encode l (length a) (withRows g x s)) (sym pe))
 
-    put-old : (b : List ℕ) (i : ℕ) → startOf g s ≤ i → Within m v (i - startOf g s) → length b ≡ length a → b ≡ replaced (l .bytes) i row a →
+    pub put-old : (b : List ℕ) (i : ℕ) → startOf g s ≤ i → Within m v (i - startOf g s) → length b ≡ length a → b ≡ replaced (l .bytes) i row a →
         Stored l b (withRows g (put r m) s)
     put-old b i low p len e =
         let us : Map ℕ = p .us in

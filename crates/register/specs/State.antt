@@ -21,17 +21,13 @@ split w n = record { key = n / 2 ^ w; val = n % 2 ^ w }
 
 -- the key among the first bits q, where s at their end don't belong to it: they are zeros in the key
 abbrev pub keyBy : ℕ → ℕ → ℕ
-keyBy zero q = q
-keyBy (suc s) q = q / 2 ^ suc s * 2 ^ suc s
+keyBy s q = q / 2 ^ s * 2 ^ s
 
--- and go with the rest: its bits, where w follow the first ones
-abbrev pub restBy : ℕ → ℕ → ℕ
-restBy zero w = w
-restBy (suc s) w = suc s + w
-
--- a row cut so: its first bits tell how many of them are spare
+-- a row cut so: its first bits, before the last w, tell how many of them are spare, and these go with the rest
 abbrev pub splitBy : (ℕ → ℕ) → ℕ → ℕ → Row ℕ
-splitBy spare w n = record { key = keyBy (spare (n / 2 ^ w)) (n / 2 ^ w); val = n % 2 ^ restBy (spare (n / 2 ^ w)) w }
+splitBy spare w n =
+    let s = spare (n / 2 ^ w) in
+    record { key = keyBy s (n / 2 ^ w); val = n % 2 ^ (s + w) }
 
 module _ (l : Layout) where
   -- R2: "all cases and then all events": what stands

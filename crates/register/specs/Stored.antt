@@ -1,5 +1,5 @@
 -- A register's bytes hold a state (RULES.md, 4 The register), over any layout.
-use Prim.Native.Nat.{ℕ, _+_, _-_, _*_, _/_, _^_, _≤_, _<_}
+use Prim.Native.Nat.{ℕ, _+_, _-_, _*_, _/_, _%_, _^_, _≤_, _<_}
 use mathlib.Core.Path.{_≡_}
 use mathlib.Core.List.{List, [], _∷_}
 use lib.ListN.{length}
@@ -7,7 +7,7 @@ use Rattle.model.specs.Map.{Row, Map}
 use Rattle.model.specs.Flow.{State, Good}
 use Rattle.register.specs.Layout.{Layout, caseRest, eventRest}
 use Rattle.register.specs.RoomAndEmptying.{room}
-use Rattle.register.specs.State.{keyBy, restBy, splitBy, encode}
+use Rattle.register.specs.State.{keyBy, encode}
 
 -- a row has bytes, and both keys lie in it, the case's at the front of the event's
 pub record Laid (l : Layout) : Type 0 where
@@ -38,19 +38,22 @@ abbrev pub restOf : Group → Layout → ℕ
 restOf cases l = caseRest l
 restOf events l = eventRest l
 
--- of these first bits, how many at their end don't belong to the key: none of a case's
-abbrev pub spareOf : Group → Layout → ℕ → ℕ
-spareOf cases l = λ _. 0
-spareOf events l = l .spare
+-- the key among a group's first bits q, and how many bits are not in it
+abbrev pub keyPart : Group → Layout → ℕ → ℕ
+keyPart cases l q = q
+keyPart events l q = keyBy (l .spare q) q
+
+abbrev pub pastKey : Group → Layout → ℕ → ℕ
+pastKey cases l q = caseRest l
+pastKey events l q = l .spare q + eventRest l
 
 -- a group's row from its number
 abbrev pub splitOf : Group → Layout → ℕ → Row ℕ
-splitOf g l n = splitBy (spareOf g l) (restOf g l) n
+splitOf g l n = record { key = keyPart g l (n / 2 ^ restOf g l); val = n % 2 ^ pastKey g l (n / 2 ^ restOf g l) }
 
 -- a group's rows have their sizes: a key with zeros for its spare bits, and the rest with those bits
 abbrev pub Sized : Group → Layout → Row ℕ → Type 0
-Sized g l r =
-    (r .key < 2 ^ keyBitsOf g l) × (r .val < 2 ^ restBy (spareOf g l (r .key)) (restOf g l)) × (keyBy (spareOf g l (r .key)) (r .key) ≡ r .key)
+Sized g l r = (r .key < 2 ^ keyBitsOf g l) × (r .val < 2 ^ pastKey g l (r .key)) × (keyPart g l (r .key) ≡ r .key)
 
 unfoldable pub Fits : Group → Layout → Map ℕ → Type 0
 Fits g l [] = Unit {0}

@@ -1,5 +1,5 @@
 -- A case's events one after the other: each allowed, above the one before it and fitting it, which decides whether they are good together.
-use Prim.Native.Nat.{ℕ, suc, _+_, _*_, _/_, _%_, _^_, _<_, max}
+use Prim.Native.Nat.{ℕ, suc, _+_, _*_, _^_, max}
 use mathlib.Core.Path.{_≡_, refl, sym, _∙_, subst}
 use mathlib.Core.Bool.{Bool, true, false, not, _&&_, _||_, false≢true}
 use mathlib.Core.List.{[], _∷_, map}
@@ -13,9 +13,10 @@ use Rattle.days.specs.DayNumbers.{dayCount}
 use Rattle.model.specs.Map.{Row, Map, Asc}
 use Rattle.register.specs.Sound.{ascending}
 use Rattle.register.proofs.Ascending.{asc-told, asc-tell}
-use Rattle.home_care.specs.Row.{never, kindOf, dateOf, endOf, eventKeyOf, eventNumberInWide, eventZerosWide, eventIn, ownBits, pastOwn}
+use Rattle.home_care.specs.Row.{never, kindOf, dateOf, endOf, eventKeyOf, eventNumberInWide, eventIn, ownBits}
 use Rattle.home_care.specs.Anomalies.{shareDay}
 use Rattle.home_care.specs.Allowed.{eventAllowed, endAllowed, eventRowAllowedWide}
+use Rattle.home_care.proofs.EventKeys.{narrow}
 use Rattle.soundness.specs.Sound.{eventsFree}
 use Rattle.soundness.proofs.EventFacts.{fits, late, passes, Rising, Sane}
 use Rattle.soundness.proofs.Neighbours.{neighbours}
@@ -82,40 +83,35 @@ module _ (w : ℕ) where
       (and-tell (eventRowAllowedWide w x) _ (h .rows .0) (and-tell (leb b (eventKeyOf e)) _ (le-leb b (eventKeyOf e) (h .up .0)) (and-left (fits t p m e) _ f)))
       (follow-tell t (suc (eventKeyOf e)) e (max m (late e)) us (record { rows = h .rows .1; up = h .up .1; fit = and-right (fits t p m e) _ f }))
 
-  -- of an event's row: its case, and no bits beyond its own
-  pub record Mine (c : ℕ) (r : Row ℕ) : Type 0 where
-    pub own : r .key / 2 ^ ownBits ≡ c
-    pub small : r .val / 2 ^ eventZerosWide w < 2 ^ pastOwn
+  -- of an event's row: its key is that of the case c and the event's own
+  abbrev pub Mine : ℕ → Row ℕ → Type 0
+  Mine c r = r .key ≡ c * 2 ^ ownBits + eventKeyOf (eventNumberInWide w r)
 
   rising : (c d : ℕ) (m : Map ℕ) → Asc (c * 2 ^ ownBits + d) m → Every (Mine c) m → Rising d (map (eventNumberInWide w) m)
   unfolding Asc Rising
   rising c d [] h g = tt
   rising c d (r ∷ m) h g =
-      let o = g .0 .own in
-      let s = g .0 .small in
-      let k : eventKeyOf (eventNumberInWide w r) ≡ r .key % 2 ^ ownBits = omega arith in
+      let o = g .0 in
       let e : suc (r .key) ≡ c * 2 ^ ownBits + suc (eventKeyOf (eventNumberInWide w r)) = omega arith in
       (omega arith, rising c (suc (eventKeyOf (eventNumberInWide w r))) m (subst (λ (z : ℕ). Asc z m) e (h .1)) (g .1))
 
   begins : (c : ℕ) (m : Map ℕ) → Asc 0 m → Every (Mine c) m → Asc (c * 2 ^ ownBits + 0) m
   unfolding Asc
   begins c [] h g = tt
-  begins c (r ∷ m) h g = let o = g .0 .own in (omega arith, h .1)
+  begins c (r ∷ m) h g = let o = g .0 in (omega arith, h .1)
 
-  sane : (c : ℕ) (m : Map ℕ) → Every (Mine c) m → Every (λ r. eventRowAllowedWide w r ≡ true) m → Every Sane (map (eventNumberInWide w) m)
-  sane c [] g a = tt
-  sane c (r ∷ m) g a =
-      let s = g .0 .small in
-      (record { kind = omega arith; end = ended (eventNumberInWide w r) (and-left (eventAllowed (eventIn (eventNumberInWide w r))) _ (a .0)) }, sane c m (g .1) (a .1))
+  sane : (m : Map ℕ) → Every (λ r. eventRowAllowedWide w r ≡ true) m → Every Sane (map (eventNumberInWide w) m)
+  sane [] a = tt
+  sane (r ∷ m) a =
+      let s = narrow w r in
+      (record { kind = omega arith; end = ended (eventNumberInWide w r) (and-left (eventAllowed (eventIn (eventNumberInWide w r))) _ (a .0)) }, sane m (a .1))
 
   -- and back
   climbing : (c d : ℕ) (m : Map ℕ) → Rising d (map (eventNumberInWide w) m) → Every (Mine c) m → Asc (c * 2 ^ ownBits + d) m
   unfolding Asc Rising
   climbing c d [] h g = tt
   climbing c d (r ∷ m) h g =
-      let o = g .0 .own in
-      let s = g .0 .small in
-      let k : eventKeyOf (eventNumberInWide w r) ≡ r .key % 2 ^ ownBits = omega arith in
+      let o = g .0 in
       let e : c * 2 ^ ownBits + suc (eventKeyOf (eventNumberInWide w r)) ≡ suc (r .key) = omega arith in
       let l = h .0 in
       (omega arith, subst (λ (z : ℕ). Asc z m) e (climbing c (suc (eventKeyOf (eventNumberInWide w r))) m (h .1) (g .1)))
@@ -127,9 +123,9 @@ module _ (w : ℕ) where
       (λ h.
       let f = follow-told t 0 0 0 us h in
       and-tell (all (eventRowAllowedWide w) us) _ (all-tell (eventRowAllowedWide w) us (f .rows))
-      (and-tell (ascending us) _ (asc-tell (c * 2 ^ ownBits + 0) us (climbing c 0 us (f .up) g)) (neighbours t (map (eventNumberInWide w) us) (f .up) (sane c us g (f .rows)) ∙ f .fit)))
+      (and-tell (ascending us) _ (asc-tell (c * 2 ^ ownBits + 0) us (climbing c 0 us (f .up) g)) (neighbours t (map (eventNumberInWide w) us) (f .up) (sane us (f .rows)) ∙ f .fit)))
       (λ h.
       let a = all-told (eventRowAllowedWide w) us (and-left (all (eventRowAllowedWide w) us) _ h) in
       let v = and-right (all (eventRowAllowedWide w) us) (ascending us && eventsFree t (map (eventNumberInWide w) us)) h in
       let r = rising c 0 us (begins c us (asc-told us (and-left (ascending us) _ v)) g) g in
-      follow-tell t 0 0 0 us (record { rows = a; up = r; fit = sym (neighbours t (map (eventNumberInWide w) us) r (sane c us g a)) ∙ and-right (ascending us) _ v }))
+      follow-tell t 0 0 0 us (record { rows = a; up = r; fit = sym (neighbours t (map (eventNumberInWide w) us) r (sane us a)) ∙ and-right (ascending us) _ v }))

@@ -1,14 +1,13 @@
 -- The walk over a case's events, at places of a register.
-use Prim.Native.Nat.{ℕ, suc, _+_, _-_, _*_, _/_, _%_, _^_, _<_, max}
+use Prim.Native.Nat.{ℕ, suc, _+_, _-_, _*_, _/_, _^_, _<_, max}
 use mathlib.Core.Path.{_≡_, sym, ap, ap₂, _∙_, subst}
 use mathlib.Core.Bool.{Bool, true, false, cond, _&&_}
 use mathlib.Core.List.{List, [], _∷_}
-use native.Mathlib.Nat.{mod-lt}
 use native.Mathlib.Numerals.{add-one}
 use native.Mathlib.Omega.{arith}
 use lib.Dec.{eqb, ltb, leb}
 use lib.ListN.{length, take, drop}
-use lib.Pow.{pow-pos, shr-shr}
+use lib.Pow.{shr-shr}
 use borrow.Author.Tests.{ltb-true}
 use Rattle.laws.proofs.Order.{Tri, below, equal, above, tri}
 use Rattle.laws.proofs.Truth.{and-left, and-right}
@@ -16,13 +15,17 @@ use Rattle.laws.proofs.Every.{Every, every-both}
 use Rattle.model.specs.Map.{Row, Map}
 use Rattle.rows.specs.Packing.{num, fieldAt}
 use Rattle.register.specs.Layout.{caseNamed, caseRest, eventRest, rowIn}
-use Rattle.register.specs.State.{split, eventsFrom}
+use Rattle.register.specs.State.{eventsFrom}
 use Rattle.register.specs.Search.{keyAt, probeKey}
+use Rattle.register.specs.Stored.{events, splitOf}
+use Rattle.register.proofs.MixedKeys.{by-front}
 use Rattle.register.proofs.Walks.{from-next, from-none, from-every}
-use Rattle.home_care.specs.Row.{homeCare, takenIn, eventNumberInWide, eventZerosWide, eventKeyOf, keyBits, dayBits, ownBits, pastOwn}
+use Rattle.home_care.specs.Row.{homeCare, takenIn, eventNumberInWide, eventKeyOf, keyBits, dayBits, ownBits}
 use Rattle.home_care.specs.Fits.{RowWidth, asEvent}
 use Rattle.home_care.specs.Allowed.{eventRowAllowedWide}
-use Rattle.home_care.proofs.RowFields.{takenAt, taken-is, cut-low}
+use Rattle.home_care.proofs.Laid.{laid-wide}
+use Rattle.home_care.proofs.EventKeys.{cut-parts}
+use Rattle.home_care.proofs.RowFields.{takenAt, taken-is}
 use Rattle.soundness.specs.Walk.{runOf, caseAt, ran}
 use Rattle.soundness.specs.declared.one_case.Run.{Run}
 use Rattle.soundness.specs.declared.one_case.Run.the-variants.{End, Bad}
@@ -42,15 +45,9 @@ module _ (w : ℕ) where
   taken-at wide reg row i r e l h =
       taken-is row (subst RowWidth (sym l) wide) r h ∙ ap₂ (λ (k n : ℕ). takenIn (n / 2 ^ caseRest (homeCare k))) l e
 
-  -- the bits of a row past an event's own key are its other fields and the zero bits
-  rest-small : RowWidth w → (n : ℕ) → n % 2 ^ eventRest (homeCare w) / 2 ^ eventZerosWide w < 2 ^ pastOwn
-  rest-small wide n =
-      let e : eventRest (homeCare w) ≡ pastOwn + eventZerosWide w = omega arith in
-      subst (λ (z : ℕ). z < 2 ^ pastOwn) (sym (cut-low _ pastOwn (eventZerosWide w) n e)) (mod-lt (n / 2 ^ eventZerosWide w) (pow-pos pastOwn))
-
   module _ (reg : List ℕ) (i j rows : ℕ) where
     abbrev eventRow : ℕ → Row ℕ
-    eventRow k = split (eventRest (homeCare w)) (rowIn (homeCare w) reg k)
+    eventRow k = splitOf events (homeCare w) (rowIn (homeCare w) reg k)
 
     -- the rows of the case at the front of those from k on
     abbrev run : ℕ → Map ℕ
@@ -63,13 +60,17 @@ module _ (w : ℕ) where
     abbrev pub Onward : ℕ → ℕ → ℕ → ℕ → ℕ → Type 0
     Onward t b p m k = answer ≡ cond (follow w t b p m (run k)) (End (k + length (run k))) Bad
 
+    -- its key is that of the case that it names and the event's own
+    abbrev Keyed : Row ℕ → Type 0
+    Keyed r = Mine w (caseNamed (homeCare w) (r .key)) r
+
     pub walk-start : RowWidth w → (t : ℕ) → t ≡ takenIn (caseAt w reg i) → Onward t 0 0 0 j
     walk-start wide t e =
         let c = caseAt w reg i in
         let m = eventsFrom (homeCare w) reg j (rows - j) in
         let g : Every (Mine w c) (run j) =
-        every-both (run j) (λ r o s. record { own = o; small = s }) (run-own (caseNamed (homeCare w)) c m)
-        (run-part (caseNamed (homeCare w)) (λ r. r .val / 2 ^ eventZerosWide w < 2 ^ pastOwn) c m (from-every eventRow (λ r. r .val / 2 ^ eventZerosWide w < 2 ^ pastOwn) j (rows - j) (λ k x y. rest-small wide (rowIn (homeCare w) reg k)))) in
+        every-both (run j) (λ r o s. s ∙ ap (λ (k : ℕ). k * 2 ^ ownBits + eventKeyOf (eventNumberInWide w r)) o) (run-own (caseNamed (homeCare w)) c m)
+        (run-part (caseNamed (homeCare w)) Keyed c m (from-every eventRow Keyed j (rows - j) (λ k x y. cut-parts w wide (rowIn (homeCare w) reg k)))) in
         ap (λ (z : Bool). cond z (End (j + length (run j))) Bad) (sym (ap (λ (d : ℕ). follow w d 0 0 0 (run j)) e ∙ follow-is w c (takenIn c) (run j) g))
 
     module _ (wide : RowWidth w) (case : List ℕ) (k : ℕ) (stand : Bool) (own : num case ≡ rowIn (homeCare w) reg i) (told : stand ≡ ltb k rows && eqb (keyAt w keyBits reg k) (probeKey w keyBits case)) where
@@ -77,7 +78,9 @@ module _ (w : ℕ) where
       unfolding keyAt rowIn
       case-key =
           let e : 8 * w - keyBits ≡ eventRest (homeCare w) + ownBits = omega arith in
+          let q = rowIn (homeCare w) reg k / 2 ^ eventRest (homeCare w) in
           ap (λ (z : ℕ). rowIn (homeCare w) reg k / 2 ^ z) e ∙ sym (shr-shr (rowIn (homeCare w) reg k) (eventRest (homeCare w)) ownBits)
+          ∙ sym (by-front (homeCare w .spare q) ownBits q (laid-wide w wide .spare-few q))
 
       probe : probeKey w keyBits case ≡ caseAt w reg i
       unfolding probeKey
@@ -116,8 +119,8 @@ module _ (w : ℕ) where
           step : answer ≡ cond ((row-good && fit) && follow w t (suc (eventKeyOf e)) e (max m (late e)) (run (k + 1))) (End (k + 1 + length (run (k + 1)))) Bad
           unfolding follow
           step =
-              let q : e ≡ eventNumberInWide w (eventRow k) = read ∙ ap₂ (λ (v n : ℕ). eventNumberInWide v (split (eventRest (homeCare v)) n)) long here in
-              let a : row-good ≡ eventRowAllowedWide w (eventRow k) = allowed ∙ ap₂ (λ (v n : ℕ). eventRowAllowedWide v (split (eventRest (homeCare v)) n)) long here in
+              let q : e ≡ eventNumberInWide w (eventRow k) = read ∙ ap₂ (λ (v n : ℕ). eventNumberInWide v (splitOf events (homeCare v) n)) long here in
+              let a : row-good ≡ eventRowAllowedWide w (eventRow k) = allowed ∙ ap₂ (λ (v n : ℕ). eventRowAllowedWide v (splitOf events (homeCare v) n)) long here in
               let z : k + suc (length (run (k + 1))) ≡ k + 1 + length (run (k + 1)) = omega arith in
               inv ∙ rw (run-more s, ← a, ← q, ← f, z)
 

@@ -11,9 +11,10 @@ use borrow.Author.Tests.{leb-true, le-leb, lt-leb}
 use Rattle.laws.specs.Lists.{all}
 use Rattle.laws.proofs.Truth.{and-left, and-right}
 use Rattle.model.specs.Map.{has}
-use Rattle.register.specs.Layout.{caseNamed, caseRest, eventRest, casesHeld, eventsHeld, rowAt, rowIn}
+use Rattle.register.specs.Layout.{caseNamed, caseRest, casesHeld, eventsHeld, rowAt, rowIn}
 use Rattle.register.specs.RoomAndEmptying.{room}
 use Rattle.register.specs.State.{split, casesFrom, eventsFrom, stateOf, used}
+use Rattle.register.specs.Stored.{events as eventGroup, splitOf}
 use Rattle.register.specs.Sound.{ascending, eventsOf, valid}
 use Rattle.register.proofs.From.{from-length}
 use Rattle.register.proofs.States.{room-holds}
@@ -39,13 +40,13 @@ module _ (w : ℕ) where
     whole : isSoundWide w reg ≡ good && tail
     whole =
         let e : casesHeld reg + eventsHeld reg - casesHeld reg ≡ eventsHeld reg = omega arith in
-        rw (le-leb 4 (length reg) long, ec, ee, e, from-length (λ j. split (caseRest (homeCare w)) (rowIn (homeCare w) reg j)) 0 (casesHeld reg), from-length (λ j. split (eventRest (homeCare w)) (rowIn (homeCare w) reg j)) (casesHeld reg) (eventsHeld reg))
+        rw (le-leb 4 (length reg) long, ec, ee, e, from-length (λ j. split (caseRest (homeCare w)) (rowIn (homeCare w) reg j)) 0 (casesHeld reg), from-length (λ j. splitOf eventGroup (homeCare w) (rowIn (homeCare w) reg j)) (casesHeld reg) (eventsHeld reg))
 
     pub no-room : room (homeCare w) (length reg) < rows → false ≡ isSoundWide w reg
     no-room h =
         let e : rows ≡ cases + (rows - cases) = omega arith in
         let n : leb (length (casesFrom (homeCare w) reg 0 cases) + length (eventsFrom (homeCare w) reg cases (rows - cases))) (room (homeCare w) (length reg)) ≡ false =
-        rw (from-length (λ j. split (caseRest (homeCare w)) (rowIn (homeCare w) reg j)) 0 cases, from-length (λ j. split (eventRest (homeCare w)) (rowIn (homeCare w) reg j)) cases (rows - cases), ← e) (lt-leb rows (room (homeCare w) (length reg)) h) in
+        rw (from-length (λ j. split (caseRest (homeCare w)) (rowIn (homeCare w) reg j)) 0 cases, from-length (λ j. splitOf eventGroup (homeCare w) (rowIn (homeCare w) reg j)) cases (rows - cases), ← e) (lt-leb rows (room (homeCare w) (length reg)) h) in
         sym (whole ∙ rw n)
 
     pub not-valid : (v : Bool) → v ≡ good → v ≡ false → false ≡ isSoundWide w reg
@@ -83,7 +84,7 @@ module _ (w : ℕ) where
       let l = leb-true (length (s .cases) + length (s .events)) (room (homeCare w) n) (and-left (leb (length (s .cases) + length (s .events)) (room (homeCare w) n)) _ q) in
       record {
         long = leb-true 4 n (and-left (leb 4 n) _ h);
-        few = rw (from-length (λ j. split (caseRest (homeCare w)) (rowIn (homeCare w) reg j)) 0 (casesHeld reg), from-length (λ j. split (eventRest (homeCare w)) (rowIn (homeCare w) reg j)) (casesHeld reg) (eventsHeld reg)) at l;
+        few = rw (from-length (λ j. split (caseRest (homeCare w)) (rowIn (homeCare w) reg j)) 0 (casesHeld reg), from-length (λ j. splitOf eventGroup (homeCare w) (rowIn (homeCare w) reg j)) (casesHeld reg) (eventsHeld reg)) at l;
         case-rows = and-left (all (caseRowAllowedWide w) (s .cases)) _ rows;
         event-rows = and-right (all (caseRowAllowedWide w) (s .cases)) _ rows;
         cases-up = and-left (ascending (s .cases)) _ up;

@@ -1,5 +1,5 @@
 -- What the tests 23 and 25 to 28 say of an event, of two events one before the other, and of one step of a walk.
-use Prim.Native.Nat.{ℕ, suc, _≤_, _<_, max}
+use Prim.Native.Nat.{ℕ, suc, _+_, _-_, _≤_, _<_, max}
 use mathlib.Core.Path.{_≡_, refl, sym, ap}
 use mathlib.Core.Bool.{Bool, true, false, cond, not, _&&_, _||_, false≢true}
 use mathlib.Core.List.{List, [], _∷_}
@@ -8,8 +8,9 @@ use lib.Dec.{eqb, ltb, leb}
 use borrow.Author.Tests.{ltb-true, ltb-false, leb-true, leb-false, eqb-true, eqb-false, lt-ltb, le-ltb, le-leb, lt-leb, eq-eqb, ne-eqb, not-true}
 use Rattle.laws.proofs.Truth.{and-left, and-right}
 use Rattle.laws.proofs.Every.{Every, same-truth, and-tell, not-tell, nand-told, both-false}
-use Rattle.home_care.specs.Row.{never, kindOf, dateOf, endOf, eventKeyOf}
+use Rattle.home_care.specs.Row.{never, dayBits, kindBits, eventBits, kindOf, dateOf, endOf, eventKeyOf}
 use Rattle.home_care.specs.Anomalies.{isSuspension, isConclusion, shareDay, afterConclusion}
+use Rattle.home_care.proofs.EventKeys.{dated, own-rise}
 
 -- the last day that an event names
 abbrev pub late : ℕ → ℕ
@@ -82,9 +83,14 @@ pub record Next (p m e : ℕ) : Type 0 where
 
 -- ---- tests and facts
 
+-- kinds, and days within a kind, do not fall as keys rise
+pub dates-rise : (a b : ℕ) → eventKeyOf a < eventKeyOf b → dated a ≤ dated b
+dates-rise a b h = let k = own-rise a b (eventBits - (kindBits + dayBits)) h in omega arith
+
 pub share-told : (a b : ℕ) → eventKeyOf a < eventKeyOf b → (kindOf b ≡ 2 → dateOf b ≤ endOf b) → shareDay a b ≡ false → kindOf a ≡ 2 → kindOf b ≡ 2 → endOf a < dateOf b
 share-told a b o h s p q =
     let g = h q in
+    let d = dates-rise a b o in
     let f : leb (dateOf b) (endOf a) ≡ false =
     nand-told (leb (dateOf a) (endOf b)) (leb (dateOf b) (endOf a)) (not-tell _ (rw (eq-eqb (kindOf a) 2 p, eq-eqb (kindOf b) 2 q) at s)) (le-leb (dateOf a) (endOf b) (omega arith)) in
     leb-false (dateOf b) (endOf a) f
@@ -144,11 +150,13 @@ fits-tell t p m e a n =
 -- the second after the first, where one stands between them
 pub across : (t p m e f : ℕ) → eventKeyOf p < eventKeyOf e → Sane e → Alone t e → Next p m e → eventKeyOf e < eventKeyOf f → Next e (max m (late e)) f → Next p m f
 across t p m e f o s a n q g =
+    let d = dates-rise p e o in
+    let i = dates-rise e f q in
     record {
       days = λ x y.
           let k : kindOf e ≡ 2 = omega arith in
-          let i : endOf p < dateOf e = n .days x k in
-          let j : endOf e < dateOf f = g .days k y in
+          let u : endOf p < dateOf e = n .days x k in
+          let v : endOf e < dateOf f = g .days k y in
           let z : dateOf e ≤ endOf e = a .ends k in
           omega arith;
       single = λ x y.

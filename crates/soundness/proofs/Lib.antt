@@ -11,3 +11,4 @@ pub mod FindPlace
 pub mod ProbeTexts
 pub mod FindAnswers
 pub mod SoundLaws
+pub mod OldRegister

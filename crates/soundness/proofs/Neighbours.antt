@@ -13,7 +13,7 @@ use Rattle.laws.proofs.Every.{Every, every-map, every-both, any-told, any-tell,
 use Rattle.home_care.specs.Row.{never, kindOf, dateOf, endOf, eventKeyOf}
 use Rattle.home_care.specs.Anomalies.{isSuspension, isConclusion, t23, t25, shareDay, t26, t27, afterConclusion, t28}
 use Rattle.soundness.specs.Sound.{eventsFree}
-use Rattle.soundness.proofs.EventFacts.{late, after-late, fits, passes, Rising, Sane, Alone, Apart, Free, Next, share-told, share-tell, ends-told, ends-tell, single-told, single-tell, last-told, last-tell, fits-alone, fits-next, fits-tell, across}
+use Rattle.soundness.proofs.EventFacts.{late, after-late, fits, passes, Rising, Sane, Alone, Apart, Free, Next, share-told, share-tell, ends-told, ends-tell, single-told, single-tell, last-told, last-tell, fits-alone, fits-next, fits-tell, across, dates-rise}
 
 -- ---- along the list
 
@@ -132,7 +132,7 @@ module _ (t e : ℕ) (es : List ℕ) where
       own k = rw (eq-eqb (endOf e) never k) (omega arith)
 
       later : {f : ℕ} → kindOf e ≡ 3 → eventKeyOf e < eventKeyOf f → Sane f → kindOf f ≡ 3
-      later x q g = let u = g .kind in omega arith
+      later {f} x q g = let u = g .kind in let d = dates-rise e f q in omega arith
 
 -- ---- both ways
 

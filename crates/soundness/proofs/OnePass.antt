@@ -15,9 +15,10 @@ use Rattle.laws.proofs.Truth.{and-left, and-right, and-false}
 use Rattle.model.specs.Map.{Row, Map}
 use Rattle.model.specs.Flow.{State}
 use Rattle.rows.specs.Packing.{num}
-use Rattle.register.specs.Layout.{caseNamed, caseRest, eventRest, rowIn}
+use Rattle.register.specs.Layout.{caseNamed, caseRest, rowIn}
 use Rattle.register.specs.RoomAndEmptying.{room}
 use Rattle.register.specs.State.{from, split, casesFrom, eventsFrom}
+use Rattle.register.specs.Stored.{events, splitOf}
 use Rattle.register.specs.Search.{keyAt, probeKey}
 use Rattle.register.specs.Sound.{ascending, valid}
 use Rattle.register.proofs.From.{from-length, from-cut}
@@ -79,7 +80,7 @@ module _ (w : ℕ) where
     caseRow k = split (caseRest (homeCare w)) (rowIn (homeCare w) reg k)
 
     abbrev eventRow : ℕ → Row ℕ
-    eventRow k = split (eventRest (homeCare w)) (rowIn (homeCare w) reg k)
+    eventRow k = splitOf events (homeCare w) (rowIn (homeCare w) reg k)
 
     abbrev cs : Map ℕ
     cs = casesFrom (homeCare w) reg 0 cases

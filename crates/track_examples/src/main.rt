@@ -1,5 +1,11 @@
 // The XML examples of SIAD 6.4 (4.5.1 and 4.6.1), one after the other on the input, with the line breaks that the page put into long values removed and
 // `PresaInCarico` for `PresainCarico`: prints the fields that a person reads there. Each is held against its schema first, as a file that is taken is.
+use home_care::event_bits::accesses_of;
+use home_care::event_bits::code_of;
+use home_care::event_bits::conferma_of;
+use home_care::event_bits::date_of;
+use home_care::event_bits::end_of;
+use home_care::event_bits::kind_of;
 use markup::Cursor;
 use markup::Move;
 use markup::bytes::part;
@@ -105,12 +111,12 @@ fn show_admission(s: &[u8], a: AdmissionRead) {
 }
 
 fn show_event(w: u64) {
-    show_part(w / 1125899906842624, false);
-    show_part(w / 8589934592 % 131072, false);
-    show_part(w / 65536 % 131072, false);
-    show_part(w / 512 % 128, false);
-    show_part(w / 4 % 128, false);
-    show_part(w % 4, true);
+    show_part(kind_of(w), false);
+    show_part(date_of(w), false);
+    show_part(code_of(w), false);
+    show_part(end_of(w), false);
+    show_part(accesses_of(w), false);
+    show_part(conferma_of(w), true);
 }
 
 fn show_events(e: EventsRead, out: [u64; 128]) {

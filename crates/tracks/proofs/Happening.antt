@@ -19,8 +19,8 @@ use Rattle.tracks.specs.declared.events.Happened.the-variants as happene
 pub event-read : (w : Wording) (t : Tree) {date end code accesses conferma : ℕ} → date ≡ dayOf (attrOf (w .date) t)
     → end ≡ cond (standsAt (w .end) t) (dayOf (valueAt (w .end) t)) never → code ≡ decimal (textAt (w .child) (w .code) t)
     → accesses ≡ decimal (valueAt (w .accesses) t) → conferma ≡ decimal (valueAt (w .conferma) t)
-    → eventBy w t ≡ eventWith (w .kind) date end code accesses conferma
-event-read w t d e c a f = λ i. record { kind = w .kind; date = sym d i; end = sym e i; code = sym c i; accesses = sym a i; conferma = sym f i }
+    → eventBy w t ≡ eventWith (w .kind) date code end accesses conferma
+event-read w t d e c a f = λ i. record { kind = w .kind; date = sym d i; code = sym c i; end = sym e i; accesses = sym a i; conferma = sym f i }
 
 -- by some of the wordings
 abbrev pub happenedBy : List Wording → Tree → Happened

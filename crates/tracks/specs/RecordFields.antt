@@ -63,8 +63,8 @@ eventBy w t =
     record {
       kind = w .kind;
       date = dayOf (attrOf (w .date) t);
-      end = cond (standsAt (w .end) t) (dayOf (valueAt (w .end) t)) never;
       code = decimal (textAt (w .child) (w .code) t);
+      end = cond (standsAt (w .end) t) (dayOf (valueAt (w .end) t)) never;
       accesses = decimal (valueAt (w .accesses) t);
       conferma = decimal (valueAt (w .conferma) t);
     }

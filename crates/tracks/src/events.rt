@@ -96,7 +96,7 @@ fn event(
     let what = text_number_at(s, n, in_child, code);
     let times = attr_number(s, n, accesses);
     let confirmed = attr_number(s, n, conferma);
-    said(s, n, event_number(kind, day, last, what, times, confirmed))
+    said(s, n, event_number(kind, day, what, last, times, confirmed))
 }
 
 // The event that a child of Eventi is.

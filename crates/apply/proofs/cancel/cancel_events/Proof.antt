@@ -53,34 +53,34 @@ same-length-2 : tie.Need-same-length-2 Inv-loop μ-loop
 same-length-2 c = search needs
 
 returns-3 : tie.Need-returns-3 Inv-loop μ-loop
-returns-3 c = none-left (c .before .before .before .before .before .before .before .before .before .before .before .before .before .before .before .before .before .args .reg .now) (probeKey rowBytes keyBits (c .before .before .before .before .before .before .before .before .before .before .before .before .before .before .before .before .before .args .probe .now)) (c .before .before .before .before .before .before .before .before .before .before .before .before .before .before .before .before .before .args .evs .now) (c .before .before .before .before .before .before .before .before .before .before .before .count .result) (c .before .before .before .before .before .before .before .before .before .before .before .count .result + c .before .before .before .before .before .before .before .before .before .count2 .result) (c .before .before .before .before .case-range .result .lo) (c .before .before .before .loop .reg) (c .before .before .before .loop .i) (c .before .before .before .loop .j) (c .before .before .before .loop .bound) (c .before .before .before .loop .inv) (λ s st. standing (probeKey rowBytes keyBits (c .before .before .before .before .before .before .before .before .before .before .before .before .before .before .before .before .before .args .probe .now)) (c .before .before .before .before .before .before .before .before .before .before .before .before .before .before .before .before .before .args .evs .now) (c .before .before .before .before .before .before .before .before .before .before .before .before .before .before .before .before .before .args .reg .now) (c .before .before .before .before .before .before .before .before .before .before .before .count .result) (c .before .before .before .before .before .before .before .before .before .count2 .result) (c .before .before .before .before .before .before .before .before .before .before .before .count .ensures .0) (c .before .before .before .before .before .before .before .before .before .count2 .ensures .0) s st .1) (omega arith) (c .before .next-below .result) (c .before .next-below .ensures) (c .if3 .taken)
+returns-3 c = none-left (c .before .before .before .before .before .before .before .before .before .before .before .before .before .before .before .before .before .args .reg .now) (probeKey rowBytes keyBits (c .before .before .before .before .before .before .before .before .before .before .before .before .before .before .before .before .before .args .probe .now)) (c .before .before .before .before .before .before .before .before .before .before .before .before .before .before .before .before .before .args .evs .now) (c .before .before .before .before .before .before .before .before .before .before .before .count .result) (c .before .before .before .before .before .before .before .before .before .before .before .count .result + c .before .before .before .before .before .before .before .before .before .count2 .result) (c .before .before .before .before .case-range .result .lo) (c .before .before .before .loop .reg) (c .before .before .before .loop .i) (c .before .before .before .loop .j) (c .before .before .before .loop .bound) (c .before .before .before .loop .inv) (λ s st. standing (probeKey rowBytes keyBits (c .before .before .before .before .before .before .before .before .before .before .before .before .before .before .before .before .before .args .probe .now)) (c .before .before .before .before .before .before .before .before .before .before .before .before .before .before .before .before .before .args .evs .now) (c .before .before .before .before .before .before .before .before .before .before .before .before .before .before .before .before .before .args .reg .now) (c .before .before .before .before .before .before .before .before .before .before .before .count .result) (c .before .before .before .before .before .before .before .before .before .count2 .result) (c .before .before .before .before .before .before .before .before .before .before .before .count .ensures .0) (c .before .before .before .before .before .before .before .before .before .count2 .ensures .0) s st .1) (c .before .before .before .before .before .before .before .before .before .before .before .before .before .before .before .before .before .pre .1) (omega arith) (c .before .next-below .result) (c .before .next-below .ensures) (c .if3 .taken)
 
-mul-bound : tie.Need-mul-bound Inv-loop μ-loop
-mul-bound c = search needs
+mul-e : tie.Need-mul-e Inv-loop μ-loop
+mul-e c = search needs
 
-shared-slice-read-bound : tie.Need-shared-slice-read-bound Inv-loop μ-loop
-shared-slice-read-bound c = search needs
+shared-slice-read-e : tie.Need-shared-slice-read-e Inv-loop μ-loop
+shared-slice-read-e c = search needs
 
-shr-bound : tie.Need-shr-bound Inv-loop μ-loop
-shr-bound c = search needs
+event-key-of-requires : tie.Need-event-key-of-requires Inv-loop μ-loop
+event-key-of-requires c κs = search needs
 
-place-by-requires : tie.Need-place-by-requires Inv-loop μ-loop
-place-by-requires c κs =
-    let v = c .before .before .before .before .before .loop .inv in
-    let e : 4 + rowBytes * (c .before .before .before .before .before .before .before .before .before .before .before .before .before .count .result + c .before .before .before .before .before .before .before .before .before .before .before .count2 .result) ≤ length (c .before .before .before .before .before .before .before .before .before .before .before .before .before .before .before .before .before .before .before .args .reg .now) = room-end rowBytes (c .before .before .before .before .before .before .before .before .before .before .before .before .before .count .result + c .before .before .before .before .before .before .before .before .before .before .before .count2 .result) (length (c .before .before .before .before .before .before .before .before .before .before .before .before .before .before .before .before .before .before .before .args .reg .now)) (c .before .before .before .before .before .before .before .before .before .room-for .result) (c .before .before .before .before .before .before .before .before .before .room-for .ensures) (not-false _ (c .before .before .before .before .before .before .before .before .if2 .left)) (c .before .before .before .before .before .before .before .before .before .before .before .before .before .count .result + c .before .before .before .before .before .before .before .before .before .before .before .count2 .result) (omega arith) in
-    (v .low, omega (arith, v .high, v .len), search needs, search needs)
+place-event-requires : tie.Need-place-event-requires Inv-loop μ-loop
+place-event-requires c κs =
+    let v = c .before .before .before .before .before .before .loop .inv in
+    let e : 4 + rowBytes * (c .before .before .before .before .before .before .before .before .before .before .before .before .before .before .count .result + c .before .before .before .before .before .before .before .before .before .before .before .before .count2 .result) ≤ length (c .before .before .before .before .before .before .before .before .before .before .before .before .before .before .before .before .before .before .before .before .args .reg .now) = room-end rowBytes (c .before .before .before .before .before .before .before .before .before .before .before .before .before .before .count .result + c .before .before .before .before .before .before .before .before .before .before .before .before .count2 .result) (length (c .before .before .before .before .before .before .before .before .before .before .before .before .before .before .before .before .before .before .before .before .args .reg .now)) (c .before .before .before .before .before .before .before .before .before .before .room-for .result) (c .before .before .before .before .before .before .before .before .before .before .room-for .ensures) (not-false _ (c .before .before .before .before .before .before .before .before .before .if2 .left)) (c .before .before .before .before .before .before .before .before .before .before .before .before .before .before .count .result + c .before .before .before .before .before .before .before .before .before .before .before .before .count2 .result) (omega arith) in
+    (v .low, omega (arith, v .high, v .len))
 
 same-length-3 : tie.Need-same-length-3 Inv-loop μ-loop
 same-length-3 c = search needs
 
 returns-4 : tie.Need-returns-4 Inv-loop μ-loop
-returns-4 c = not-there (c .before .before .before .before .before .before .before .before .before .before .before .before .before .before .before .before .before .before .before .before .before .args .reg .now) (probeKey rowBytes keyBits (c .before .before .before .before .before .before .before .before .before .before .before .before .before .before .before .before .before .before .before .before .before .args .probe .now)) (c .before .before .before .before .before .before .before .before .before .before .before .before .before .before .before .before .before .before .before .before .before .args .evs .now) (c .before .before .before .before .before .before .before .before .before .before .before .before .before .before .before .count .result) (c .before .before .before .before .before .before .before .before .before .before .before .before .before .before .before .count .result + c .before .before .before .before .before .before .before .before .before .before .before .before .before .count2 .result) (c .before .before .before .before .before .before .before .before .case-range .result .lo) (c .before .before .before .before .before .before .before .loop .reg) (c .before .before .before .before .before .before .before .loop .i) (c .before .before .before .before .before .before .before .loop .j) (c .before .before .before .before .before .before .before .loop .bound) (c .before .before .before .before .before .before .before .loop .inv) (λ s st. standing (probeKey rowBytes keyBits (c .before .before .before .before .before .before .before .before .before .before .before .before .before .before .before .before .before .before .before .before .before .args .probe .now)) (c .before .before .before .before .before .before .before .before .before .before .before .before .before .before .before .before .before .before .before .before .before .args .evs .now) (c .before .before .before .before .before .before .before .before .before .before .before .before .before .before .before .before .before .before .before .before .before .args .reg .now) (c .before .before .before .before .before .before .before .before .before .before .before .before .before .before .before .count .result) (c .before .before .before .before .before .before .before .before .before .before .before .before .before .count2 .result) (c .before .before .before .before .before .before .before .before .before .before .before .before .before .before .before .count .ensures .0) (c .before .before .before .before .before .before .before .before .before .before .before .before .before .count2 .ensures .0) s st .1) (c .before .before .before .before .before .before .before .before .case-range .ensures .low) (c .before .before .before .before .before .next-below .result) (c .before .before .before .before .before .next-below .ensures) (c .before .before .before .before .if3 .left) (c .before .place-by .result) (c .before .place-by .ensures) (c .if4 .taken)
+returns-4 c = not-there (c .before .before .before .before .before .before .before .before .before .before .before .before .before .before .before .before .before .before .before .before .before .before .args .reg .now) (probeKey rowBytes keyBits (c .before .before .before .before .before .before .before .before .before .before .before .before .before .before .before .before .before .before .before .before .before .before .args .probe .now)) (c .before .before .before .before .before .before .before .before .before .before .before .before .before .before .before .before .before .before .before .before .before .before .args .evs .now) (c .before .before .before .before .before .before .before .before .before .before .before .before .before .before .before .before .count .result) (c .before .before .before .before .before .before .before .before .before .before .before .before .before .before .before .before .count .result + c .before .before .before .before .before .before .before .before .before .before .before .before .before .before .count2 .result) (c .before .before .before .before .before .before .before .before .before .case-range .result .lo) (c .before .before .before .before .before .before .before .before .loop .reg) (c .before .before .before .before .before .before .before .before .loop .i) (c .before .before .before .before .before .before .before .before .loop .j) (c .before .before .before .before .before .before .before .before .loop .bound) (c .before .before .before .before .before .before .before .before .loop .inv) (λ s st. standing (probeKey rowBytes keyBits (c .before .before .before .before .before .before .before .before .before .before .before .before .before .before .before .before .before .before .before .before .before .before .args .probe .now)) (c .before .before .before .before .before .before .before .before .before .before .before .before .before .before .before .before .before .before .before .before .before .before .args .evs .now) (c .before .before .before .before .before .before .before .before .before .before .before .before .before .before .before .before .before .before .before .before .before .before .args .reg .now) (c .before .before .before .before .before .before .before .before .before .before .before .before .before .before .before .before .count .result) (c .before .before .before .before .before .before .before .before .before .before .before .before .before .before .count2 .result) (c .before .before .before .before .before .before .before .before .before .before .before .before .before .before .before .before .count .ensures .0) (c .before .before .before .before .before .before .before .before .before .before .before .before .before .before .count2 .ensures .0) s st .1) (c .before .before .before .before .before .before .before .before .before .before .before .before .before .before .before .before .before .before .before .before .before .before .pre .1) (c .before .before .before .before .before .before .before .before .before .case-range .ensures .low) (c .before .before .before .before .before .before .next-below .result) (c .before .before .before .before .before .before .next-below .ensures) (c .before .before .before .before .before .if3 .left) (c .before .place-event .result) (c .before .place-event .ensures) (c .if4 .taken)
 
 widen-requires : tie.Need-widen-requires Inv-loop μ-loop
 widen-requires c κs =
-    let v = c .before .before .before .before .before .before .before .before .loop .inv in
-    let f : c .before .before .before .before .before .before .before .before .before .before .before .before .before .before .before .before .count .result + c .before .before .before .before .before .before .before .before .before .before .before .before .before .before .count2 .result ≤ mostRows = room-few rowBytes (c .before .before .before .before .before .before .before .before .before .before .before .before .before .before .before .before .count .result + c .before .before .before .before .before .before .before .before .before .before .before .before .before .before .count2 .result) (length (c .before .before .before .before .before .before .before .before .before .before .before .before .before .before .before .before .before .before .before .before .before .before .args .reg .now)) (c .before .before .before .before .before .before .before .before .before .before .before .before .room-for .result) (c .before .before .before .before .before .before .before .before .before .before .before .before .room-for .ensures) (not-false _ (c .before .before .before .before .before .before .before .before .before .before .before .if2 .left)) in
-    let e : 4 + rowBytes * (c .before .before .before .before .before .before .before .before .before .before .before .before .before .before .before .before .count .result + c .before .before .before .before .before .before .before .before .before .before .before .before .before .before .count2 .result) ≤ length (c .before .before .before .before .before .before .before .before .before .before .before .before .before .before .before .before .before .before .before .before .before .before .args .reg .now) = room-end rowBytes (c .before .before .before .before .before .before .before .before .before .before .before .before .before .before .before .before .count .result + c .before .before .before .before .before .before .before .before .before .before .before .before .before .before .count2 .result) (length (c .before .before .before .before .before .before .before .before .before .before .before .before .before .before .before .before .before .before .before .before .before .before .args .reg .now)) (c .before .before .before .before .before .before .before .before .before .before .before .before .room-for .result) (c .before .before .before .before .before .before .before .before .before .before .before .before .room-for .ensures) (not-false _ (c .before .before .before .before .before .before .before .before .before .before .before .if2 .left)) (c .before .before .before .before .before .before .before .before .before .before .before .before .before .before .before .before .count .result + c .before .before .before .before .before .before .before .before .before .before .before .before .before .before .count2 .result) (omega arith) in
+    let v = c .before .before .before .before .before .before .before .before .before .loop .inv in
+    let f : c .before .before .before .before .before .before .before .before .before .before .before .before .before .before .before .before .before .count .result + c .before .before .before .before .before .before .before .before .before .before .before .before .before .before .before .count2 .result ≤ mostRows = room-few rowBytes (c .before .before .before .before .before .before .before .before .before .before .before .before .before .before .before .before .before .count .result + c .before .before .before .before .before .before .before .before .before .before .before .before .before .before .before .count2 .result) (length (c .before .before .before .before .before .before .before .before .before .before .before .before .before .before .before .before .before .before .before .before .before .before .before .args .reg .now)) (c .before .before .before .before .before .before .before .before .before .before .before .before .before .room-for .result) (c .before .before .before .before .before .before .before .before .before .before .before .before .before .room-for .ensures) (not-false _ (c .before .before .before .before .before .before .before .before .before .before .before .before .if2 .left)) in
+    let e : 4 + rowBytes * (c .before .before .before .before .before .before .before .before .before .before .before .before .before .before .before .before .before .count .result + c .before .before .before .before .before .before .before .before .before .before .before .before .before .before .before .count2 .result) ≤ length (c .before .before .before .before .before .before .before .before .before .before .before .before .before .before .before .before .before .before .before .before .before .before .before .args .reg .now) = room-end rowBytes (c .before .before .before .before .before .before .before .before .before .before .before .before .before .before .before .before .before .count .result + c .before .before .before .before .before .before .before .before .before .before .before .before .before .before .before .count2 .result) (length (c .before .before .before .before .before .before .before .before .before .before .before .before .before .before .before .before .before .before .before .before .before .before .before .args .reg .now)) (c .before .before .before .before .before .before .before .before .before .before .before .before .before .room-for .result) (c .before .before .before .before .before .before .before .before .before .before .before .before .before .room-for .ensures) (not-false _ (c .before .before .before .before .before .before .before .before .before .before .before .before .if2 .left)) (c .before .before .before .before .before .before .before .before .before .before .before .before .before .before .before .before .before .count .result + c .before .before .before .before .before .before .before .before .before .before .before .before .before .before .before .count2 .result) (omega arith) in
     (c .before .if4 .left, omega (arith, v .high), omega (arith, v .high, v .len))
 
 add-j : tie.Need-add-j Inv-loop μ-loop
@@ -99,7 +99,7 @@ loop-less : tie.Need-loop-less Inv-loop μ-loop
 loop-less c = search needs
 
 loop-again : tie.Need-loop-again Inv-loop μ-loop
-loop-again c = one-fewer (c .before .before .before .before .before .before .before .before .before .before .before .before .before .before .before .before .before .before .before .before .before .before .before .before .before .before .before .before .before .args .reg .now) (probeKey rowBytes keyBits (c .before .before .before .before .before .before .before .before .before .before .before .before .before .before .before .before .before .before .before .before .before .before .before .before .before .before .before .before .before .args .probe .now)) (c .before .before .before .before .before .before .before .before .before .before .before .before .before .before .before .before .before .before .before .before .before .before .before .before .before .before .before .before .before .args .evs .now) (c .before .before .before .before .before .before .before .before .before .before .before .before .before .before .before .before .before .before .before .before .before .before .before .count .result) (c .before .before .before .before .before .before .before .before .before .before .before .before .before .before .before .before .before .before .before .before .before .before .before .count .result + c .before .before .before .before .before .before .before .before .before .before .before .before .before .before .before .before .before .before .before .before .before .count2 .result) (c .before .before .before .before .before .before .before .before .before .before .before .before .before .before .before .before .case-range .result .lo) (c .before .before .before .before .before .before .before .before .before .before .before .before .before .before .before .loop .reg) (c .before .before .before .before .before .before .before .before .before .before .before .before .before .before .before .loop .i) (c .before .before .before .before .before .before .before .before .before .before .before .before .before .before .before .loop .j) (c .before .before .before .before .before .before .before .before .before .before .before .before .before .before .before .loop .bound) (c .before .before .before .before .before .before .before .before .before .before .before .before .before .before .before .loop .inv) (λ s st. standing (probeKey rowBytes keyBits (c .before .before .before .before .before .before .before .before .before .before .before .before .before .before .before .before .before .before .before .before .before .before .before .before .before .before .before .before .before .args .probe .now)) (c .before .before .before .before .before .before .before .before .before .before .before .before .before .before .before .before .before .before .before .before .before .before .before .before .before .before .before .before .before .args .evs .now) (c .before .before .before .before .before .before .before .before .before .before .before .before .before .before .before .before .before .before .before .before .before .before .before .before .before .before .before .before .before .args .reg .now) (c .before .before .before .before .before .before .before .before .before .before .before .before .before .before .before .before .before .before .before .before .before .before .before .count .result) (c .before .before .before .before .before .before .before .before .before .before .before .before .before .before .before .before .before .before .before .before .before .count2 .result) (c .before .before .before .before .before .before .before .before .before .before .before .before .before .before .before .before .before .before .before .before .before .before .before .count .ensures .0) (c .before .before .before .before .before .before .before .before .before .before .before .before .before .before .before .before .before .before .before .before .before .count2 .ensures .0) s st .1) (c .before .before .before .before .before .before .before .before .before .before .before .before .before .before .before .before .case-range .ensures .low) (c .before .before .before .before .before .before .before .before .before .before .before .before .before .next-below .result) (c .before .before .before .before .before .before .before .before .before .before .before .before .before .next-below .ensures) (c .before .before .before .before .before .before .before .before .before .before .before .before .if3 .left) (c .before .before .before .before .before .before .before .before .before .place-by .result) (c .before .before .before .before .before .before .before .before .before .place-by .ensures) (omega arith) (c .before .before .before .before .before .before .before .before .if4 .left) (c .before .before .before .before .before .before .widen .last .0) (c .before .before .set-count .last .0) (c .before .before .before .before .before .before .widen .kept .0) (c .before .before .set-count .kept .0) (c .before .before .before .before .before .before .widen .ensures) (c .before .before .set-count .ensures)
+loop-again c = one-fewer (c .before .before .before .before .before .before .before .before .before .before .before .before .before .before .before .before .before .before .before .before .before .before .before .before .before .before .before .before .before .before .args .reg .now) (probeKey rowBytes keyBits (c .before .before .before .before .before .before .before .before .before .before .before .before .before .before .before .before .before .before .before .before .before .before .before .before .before .before .before .before .before .before .args .probe .now)) (c .before .before .before .before .before .before .before .before .before .before .before .before .before .before .before .before .before .before .before .before .before .before .before .before .before .before .before .before .before .before .args .evs .now) (c .before .before .before .before .before .before .before .before .before .before .before .before .before .before .before .before .before .before .before .before .before .before .before .before .count .result) (c .before .before .before .before .before .before .before .before .before .before .before .before .before .before .before .before .before .before .before .before .before .before .before .before .count .result + c .before .before .before .before .before .before .before .before .before .before .before .before .before .before .before .before .before .before .before .before .before .before .count2 .result) (c .before .before .before .before .before .before .before .before .before .before .before .before .before .before .before .before .before .case-range .result .lo) (c .before .before .before .before .before .before .before .before .before .before .before .before .before .before .before .before .loop .reg) (c .before .before .before .before .before .before .before .before .before .before .before .before .before .before .before .before .loop .i) (c .before .before .before .before .before .before .before .before .before .before .before .before .before .before .before .before .loop .j) (c .before .before .before .before .before .before .before .before .before .before .before .before .before .before .before .before .loop .bound) (c .before .before .before .before .before .before .before .before .before .before .before .before .before .before .before .before .loop .inv) (λ s st. standing (probeKey rowBytes keyBits (c .before .before .before .before .before .before .before .before .before .before .before .before .before .before .before .before .before .before .before .before .before .before .before .before .before .before .before .before .before .before .args .probe .now)) (c .before .before .before .before .before .before .before .before .before .before .before .before .before .before .before .before .before .before .before .before .before .before .before .before .before .before .before .before .before .before .args .evs .now) (c .before .before .before .before .before .before .before .before .before .before .before .before .before .before .before .before .before .before .before .before .before .before .before .before .before .before .before .before .before .before .args .reg .now) (c .before .before .before .before .before .before .before .before .before .before .before .before .before .before .before .before .before .before .before .before .before .before .before .before .count .result) (c .before .before .before .before .before .before .before .before .before .before .before .before .before .before .before .before .before .before .before .before .before .before .count2 .result) (c .before .before .before .before .before .before .before .before .before .before .before .before .before .before .before .before .before .before .before .before .before .before .before .before .count .ensures .0) (c .before .before .before .before .before .before .before .before .before .before .before .before .before .before .before .before .before .before .before .before .before .before .count2 .ensures .0) s st .1) (c .before .before .before .before .before .before .before .before .before .before .before .before .before .before .before .before .before .before .before .before .before .before .before .before .before .before .before .before .before .before .pre .1) (c .before .before .before .before .before .before .before .before .before .before .before .before .before .before .before .before .before .case-range .ensures .low) (c .before .before .before .before .before .before .before .before .before .before .before .before .before .before .next-below .result) (c .before .before .before .before .before .before .before .before .before .before .before .before .before .before .next-below .ensures) (c .before .before .before .before .before .before .before .before .before .before .before .before .before .if3 .left) (c .before .before .before .before .before .before .before .before .before .place-event .result) (c .before .before .before .before .before .before .before .before .before .place-event .ensures) (omega arith) (c .before .before .before .before .before .before .before .before .if4 .left) (c .before .before .before .before .before .before .widen .last .0) (c .before .before .set-count .last .0) (c .before .before .before .before .before .before .widen .kept .0) (c .before .before .set-count .kept .0) (c .before .before .before .before .before .before .widen .ensures) (c .before .before .set-count .ensures) _ (c .before .before .before .before .before .before .before .before .before .before .before .event-key-of .ensures .0)
 
 remove-rows-requires : tie.Need-remove-rows-requires Inv-loop μ-loop
 remove-rows-requires c κs =
@@ -112,7 +112,7 @@ same-length-4 : tie.Need-same-length-4 Inv-loop μ-loop
 same-length-4 c = search needs
 
 returns-5 : tie.Need-returns-5 Inv-loop μ-loop
-returns-5 c = all-emptied (c .before .before .before .before .before .before .before .before .before .before .before .before .before .before .before .before .before .before .before .args .reg .now) (probeKey rowBytes keyBits (c .before .before .before .before .before .before .before .before .before .before .before .before .before .before .before .before .before .before .before .args .probe .now)) (c .before .before .before .before .before .before .before .before .before .before .before .before .before .before .before .before .before .before .before .args .evs .now) (c .before .before .before .before .before .before .before .before .before .before .before .before .before .count .result) (c .before .before .before .before .before .before .before .before .before .before .before .before .before .count .result + c .before .before .before .before .before .before .before .before .before .before .before .count2 .result) (c .before .before .before .before .before .before .case-range .result .lo) (c .before .before .before .before .before .loop .reg) (c .before .before .before .before .before .loop .i) (c .before .before .before .before .before .loop .j) (c .before .before .before .before .before .loop .bound) (c .before .before .before .before .before .loop .inv) (λ s st. standing (probeKey rowBytes keyBits (c .before .before .before .before .before .before .before .before .before .before .before .before .before .before .before .before .before .before .before .args .probe .now)) (c .before .before .before .before .before .before .before .before .before .before .before .before .before .before .before .before .before .before .before .args .evs .now) (c .before .before .before .before .before .before .before .before .before .before .before .before .before .before .before .before .before .before .before .args .reg .now) (c .before .before .before .before .before .before .before .before .before .before .before .before .before .count .result) (c .before .before .before .before .before .before .before .before .before .before .before .count2 .result) (c .before .before .before .before .before .before .before .before .before .before .before .before .before .count .ensures .0) (c .before .before .before .before .before .before .before .before .before .before .before .count2 .ensures .0) s st .1) (omega arith) (c .before .before .remove-rows .last .0) (c .before .before .remove-rows .ensures)
+returns-5 c = all-emptied (c .before .before .before .before .before .before .before .before .before .before .before .before .before .before .before .before .before .before .before .args .reg .now) (probeKey rowBytes keyBits (c .before .before .before .before .before .before .before .before .before .before .before .before .before .before .before .before .before .before .before .args .probe .now)) (c .before .before .before .before .before .before .before .before .before .before .before .before .before .before .before .before .before .before .before .args .evs .now) (c .before .before .before .before .before .before .before .before .before .before .before .before .before .count .result) (c .before .before .before .before .before .before .before .before .before .before .before .before .before .count .result + c .before .before .before .before .before .before .before .before .before .before .before .count2 .result) (c .before .before .before .before .before .before .case-range .result .lo) (c .before .before .before .before .before .loop .reg) (c .before .before .before .before .before .loop .i) (c .before .before .before .before .before .loop .j) (c .before .before .before .before .before .loop .bound) (c .before .before .before .before .before .loop .inv) (λ s st. standing (probeKey rowBytes keyBits (c .before .before .before .before .before .before .before .before .before .before .before .before .before .before .before .before .before .before .before .args .probe .now)) (c .before .before .before .before .before .before .before .before .before .before .before .before .before .before .before .before .before .before .before .args .evs .now) (c .before .before .before .before .before .before .before .before .before .before .before .before .before .before .before .before .before .before .before .args .reg .now) (c .before .before .before .before .before .before .before .before .before .before .before .before .before .count .result) (c .before .before .before .before .before .before .before .before .before .before .before .count2 .result) (c .before .before .before .before .before .before .before .before .before .before .before .before .before .count .ensures .0) (c .before .before .before .before .before .before .before .before .before .before .before .count2 .ensures .0) s st .1) (c .before .before .before .before .before .before .before .before .before .before .before .before .before .before .before .before .before .before .before .pre .1) (omega arith) (c .before .before .remove-rows .last .0) (c .before .before .remove-rows .ensures)
 
 pub cancel-events-spec : {M : Type 1} → statement M
 cancel-events-spec =
@@ -132,10 +132,10 @@ cancel-events-spec =
     next-below-requires
     same-length-2
     returns-3
-    mul-bound
-    shared-slice-read-bound
-    shr-bound
-    place-by-requires
+    mul-e
+    shared-slice-read-e
+    event-key-of-requires
+    place-event-requires
     same-length-3
     returns-4
     widen-requires

@@ -1,5 +1,5 @@
 -- The invariant: the register has the events from place i on over those with their keys.
-use Prim.Native.Nat.{_+_, _≤_}
+use Prim.Native.Nat.{_+_, _-_, _≤_}
 use mathlib.Core.Path.{_≡_, refl, _∙_}
 use borrow.Author.Tests.{not-true, not-false}
 use lib.ListN.{length}
@@ -59,19 +59,16 @@ loop-holds c =
 sub-i : tie.Need-sub-i Inv-loop μ-loop
 sub-i c = search needs
 
-mul-place-by : tie.Need-mul-place-by Inv-loop μ-loop
-mul-place-by c = search needs
+mul-place-event : tie.Need-mul-place-event Inv-loop μ-loop
+mul-place-event c = search needs
 
-shared-slice-read-place-by : tie.Need-shared-slice-read-place-by Inv-loop μ-loop
-shared-slice-read-place-by c = search needs
+shared-slice-read-place-event : tie.Need-shared-slice-read-place-event Inv-loop μ-loop
+shared-slice-read-place-event c = search needs
 
-shr-place-by : tie.Need-shr-place-by Inv-loop μ-loop
-shr-place-by c = search needs
-
-place-by-requires : tie.Need-place-by-requires Inv-loop μ-loop
-place-by-requires c κs =
+place-event-requires : tie.Need-place-event-requires Inv-loop μ-loop
+place-event-requires c κs =
     let f = room-end rowBytes (c .before .before .before .before .before .before .before .before .before .before .before .before .count .result + c .before .before .before .before .before .before .before .before .before .before .count2 .result) (length (c .before .before .before .before .before .before .before .before .before .before .before .before .before .before .before .before .before .before .args .reg .now)) (c .before .before .before .before .before .before .before .before .room-for .result) (c .before .before .before .before .before .before .before .before .room-for .ensures) (not-false _ (c .before .before .before .before .before .before .before .if2 .left)) (c .before .before .before .before .case-range .result .hi) (c .before .before .before .before .case-range .ensures .high) in
-    (c .before .before .before .before .case-range .ensures .mid, omega (arith, c .before .before .before .loop .inv .1), search needs, search needs)
+    (c .before .before .before .before .case-range .ensures .mid, omega (arith, c .before .before .before .loop .inv .1))
 
 mul-set-row : tie.Need-mul-set-row Inv-loop μ-loop
 mul-set-row c = search (needs, c .before .before .before .before .before .before .loop .inv .0, c .before .before .before .before .before .before .before .before .before .before .before .before .before .before .before .before .before .before .before .before .before .good)
@@ -83,8 +80,8 @@ set-row-requires : tie.Need-set-row-requires Inv-loop μ-loop
 set-row-requires c κs =
     let a = c .before .before .before .before .before .before .before .before .before .before .before .before .before .before .before .before .before .before .before .before .before .before .args in
     let v = c .before .before .before .before .before .before .before .loop in
-    let f = room-end rowBytes (c .before .before .before .before .before .before .before .before .before .before .before .before .before .before .before .before .count .result + c .before .before .before .before .before .before .before .before .before .before .before .before .before .before .count2 .result) (length (a .reg .now)) (c .before .before .before .before .before .before .before .before .before .before .before .before .room-for .result) (c .before .before .before .before .before .before .before .before .before .before .before .before .room-for .ensures) (not-false _ (c .before .before .before .before .before .before .before .before .before .before .before .if2 .left)) (c .before .before .before .place-by .result + 1) (omega (arith, c .before .before .before .before .before .before .before .before .case-range .ensures .high)) in
-    (omega (arith, v .inv .1), c .before .before .before .before .before .before .before .before .before .before .key-in .ensures, event-small (a .evs .now) (v .i) (c .before .before .before .before .before .before .before .before .before .before .before .before .before .before .before .before .before .before .before .before .before .before .pre .1) (omega arith) (v .inv .0))
+    let f = room-end rowBytes (c .before .before .before .before .before .before .before .before .before .before .before .before .before .before .before .before .count .result + c .before .before .before .before .before .before .before .before .before .before .before .before .before .before .count2 .result) (length (a .reg .now)) (c .before .before .before .before .before .before .before .before .before .before .before .before .room-for .result) (c .before .before .before .before .before .before .before .before .before .before .before .before .room-for .ensures) (not-false _ (c .before .before .before .before .before .before .before .before .before .before .before .if2 .left)) (c .before .before .before .place-event .result + 1) (omega (arith, c .before .before .before .before .before .before .before .before .case-range .ensures .high)) in
+    (omega (arith, v .inv .1), c .before .before .before .before .before .before .before .before .before .before .key-in .ensures, event-small (a .evs .now) (c .before .before .before .before .before .before .before .before .before .before .before .before .before .before .before .before .before .before .before .before .before .before .pre .1) (v .i - 1) (omega (arith, v .inv .0)))
 
 loop-less : tie.Need-loop-less Inv-loop μ-loop
 loop-less c = search needs
@@ -96,7 +93,7 @@ loop-again c =
     let g = c .before .before .before .before .before .before .before .before .before .before .before .case-range in (
       omega (arith, v .inv .0),
       c .before .before .set-row .kept .0 ∙ v .inv .1,
-      one-over (probeKey rowBytes keyBits (a .probe .now)) (a .evs .now) (a .reg .now) (c .before .before .before .before .before .before .before .before .before .before .before .before .before .before .before .before .before .before .before .count .result) (c .before .before .before .before .before .before .before .before .before .before .before .before .before .before .before .before .before .count2 .result) (c .before .before .before .before .before .before .before .before .before .before .before .before .before .before .before .before .before .before .before .count .ensures .0) (c .before .before .before .before .before .before .before .before .before .before .before .before .before .before .before .before .before .count2 .ensures .0) (c .before .before .before .before .before .before .before .before .before .before .before .before .before .key-in .ensures .small) (g .result .lo) (g .result .hi) (g .ensures) (v .reg) (v .i) (omega arith) (v .inv .0) (event-small (a .evs .now) (v .i) (c .before .before .before .before .before .before .before .before .before .before .before .before .before .before .before .before .before .before .before .before .before .before .before .before .before .pre .1) (omega arith) (v .inv .0)) (v .inv .2) (c .before .before .before .before .before .before .place-by .result) (c .before .before .before .before .before .before .place-by .ensures) (c .before .before .set-row .last .0) (c .before .before .set-row .kept .0) (c .before .before .set-row .ensures),
+      one-over (probeKey rowBytes keyBits (a .probe .now)) (a .evs .now) (a .reg .now) (c .before .before .before .before .before .before .before .before .before .before .before .before .before .before .before .before .before .before .before .count .result) (c .before .before .before .before .before .before .before .before .before .before .before .before .before .before .before .before .before .count2 .result) (c .before .before .before .before .before .before .before .before .before .before .before .before .before .before .before .before .before .before .before .count .ensures .0) (c .before .before .before .before .before .before .before .before .before .before .before .before .before .before .before .before .before .count2 .ensures .0) (c .before .before .before .before .before .before .before .before .before .before .before .before .before .key-in .ensures .small) (g .result .lo) (g .result .hi) (g .ensures) (v .reg) (v .i) (omega arith) (v .inv .0) (event-small (a .evs .now) (c .before .before .before .before .before .before .before .before .before .before .before .before .before .before .before .before .before .before .before .before .before .before .before .before .before .pre .1) (v .i - 1) (omega (arith, v .inv .0))) (v .inv .2) (c .before .before .before .before .before .before .place-event .result) (c .before .before .before .before .before .before .place-event .ensures) (c .before .before .set-row .last .0) (c .before .before .set-row .kept .0) (c .before .before .set-row .ensures),
     )
 
 loop-less-2 : tie.Need-loop-less-2 Inv-loop μ-loop
@@ -107,7 +104,7 @@ loop-again-2 c =
     let a = c .before .before .before .before .before .before .before .before .before .before .before .before .before .before .before .before .before .before .before .before .args in
     let v = c .before .before .before .before .before .loop in
     let g = c .before .before .before .before .before .before .case-range in
-    (omega (arith, v .inv .0), v .inv .1, never-past (probeKey rowBytes keyBits (a .probe .now)) (a .evs .now) (a .reg .now) (c .before .before .before .before .before .before .before .before .before .before .before .before .before .before .count .result) (c .before .before .before .before .before .before .before .before .before .before .before .before .count2 .result) (c .before .before .before .before .before .before .before .before .before .before .before .before .before .before .count .ensures .0) (c .before .before .before .before .before .before .before .before .before .before .before .before .count2 .ensures .0) (c .before .before .before .before .before .before .before .before .key-in .ensures .small) (g .result .lo) (g .result .hi) (g .ensures) (v .reg) (v .i) (omega arith) (v .inv .0) (event-small (a .evs .now) (v .i) (c .before .before .before .before .before .before .before .before .before .before .before .before .before .before .before .before .before .before .before .before .pre .1) (omega arith) (v .inv .0)) (v .inv .2) (c .before .place-by .result) (c .before .place-by .ensures) (c .if3 .left))
+    (omega (arith, v .inv .0), v .inv .1, never-past (probeKey rowBytes keyBits (a .probe .now)) (a .evs .now) (a .reg .now) (c .before .before .before .before .before .before .before .before .before .before .before .before .before .before .count .result) (c .before .before .before .before .before .before .before .before .before .before .before .before .count2 .result) (c .before .before .before .before .before .before .before .before .before .before .before .before .before .before .count .ensures .0) (c .before .before .before .before .before .before .before .before .before .before .before .before .count2 .ensures .0) (c .before .before .before .before .before .before .before .before .key-in .ensures .small) (g .result .lo) (g .result .hi) (g .ensures) (v .reg) (v .i) (omega arith) (v .inv .0) (event-small (a .evs .now) (c .before .before .before .before .before .before .before .before .before .before .before .before .before .before .before .before .before .before .before .before .pre .1) (v .i - 1) (omega (arith, v .inv .0))) (v .inv .2) (c .before .place-event .result) (c .before .place-event .ensures) (c .if3 .left))
 
 same-length-2 : tie.Need-same-length-2 Inv-loop μ-loop
 same-length-2 c = search needs
@@ -135,10 +132,9 @@ vary-events-spec =
     case-range-requires
     loop-holds
     sub-i
-    mul-place-by
-    shared-slice-read-place-by
-    shr-place-by
-    place-by-requires
+    mul-place-event
+    shared-slice-read-place-event
+    place-event-requires
     mul-set-row
     shared-slice-read-set-row
     set-row-requires

@@ -3,14 +3,11 @@ use borrow.Author.Needs.{needs}
 use Rattle.judge.proofs.clashes.clash.Statement.{statement}
 use Rattle.judge.proofs.clashes.clash.Tie as tie
 
-event-key-of-requires : tie.Need-event-key-of-requires
-event-key-of-requires c κs = search needs
-
-event-key-of-requires-2 : tie.Need-event-key-of-requires-2
-event-key-of-requires-2 c κs = search needs
+same-key-requires : tie.Need-same-key-requires
+same-key-requires c κs = search needs
 
 returns : tie.Need-returns
-returns c = clash-22 (c .before .before .before .args .number) (c .before .before .before .args .a) (c .before .before .before .args .b) _ _ (c .before .before .if1 .taken) (c .before .event-key-of .ensures .0) (c .event-key-of2 .ensures .0)
+returns c = clash-22 (c .before .before .args .number) (c .before .before .args .a) (c .before .before .args .b) _ (c .before .if1 .taken) (c .same-key .ensures)
 
 share-day-requires : tie.Need-share-day-requires
 share-day-requires c κs = search needs
@@ -40,8 +37,7 @@ pub clash-spec : {M : Type 1} → statement M
 clash-spec =
     tie.close
     (tie.spec
-    event-key-of-requires
-    event-key-of-requires-2
+    same-key-requires
     returns
     share-day-requires
     returns-2

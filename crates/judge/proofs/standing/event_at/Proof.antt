@@ -1,7 +1,7 @@
 use Prim.Native.Nat.{ℕ}
 use mathlib.Core.Path.{sym, ap₂, _∙_, subst}
 use Rattle.register.specs.Layout.{eventRest}
-use Rattle.register.specs.State.{split}
+use Rattle.register.specs.State.{splitBy}
 use Rattle.home_care.specs.Row.{rowBytes, homeCare, eventNumberInWide}
 use Rattle.home_care.specs.Fits.{RowWidth}
 use Rattle.home_care.proofs.Laid.{row-width}
@@ -19,7 +19,7 @@ event-of-requires c κs = subst RowWidth (sym (c .row-at .ensures .1)) row-width
 returns : tie.Need-returns
 returns c = (
   c .event-of .ensures .0
-      ∙ ap₂ (λ (v n : ℕ). eventNumberInWide v (split (eventRest (homeCare v)) n)) (c .before .row-at .ensures .1) (row-number rowBytes (c .before .before .before .args .reg .now) _ (c .before .before .before .args .i) (c .before .row-at .ensures .0)),
+      ∙ ap₂ (λ (v n : ℕ). eventNumberInWide v (splitBy (homeCare v .spare) (eventRest (homeCare v)) n)) (c .before .row-at .ensures .1) (row-number rowBytes (c .before .before .before .args .reg .now) _ (c .before .before .before .args .i) (c .before .row-at .ensures .0)),
   c .event-of .ensures .1,
 )
 

@@ -7,7 +7,8 @@ use lib.ListN.{length, drop, drop-of-length-le}
 use Rattle.laws.specs.Lists.{any}
 use Rattle.laws.proofs.Places.{front}
 use Rattle.judge.specs.ByNumber.{keyAmong}
-use Rattle.judge.specs.CaseRows.{standingIn, Climbs}
+use Rattle.home_care.specs.EventRows.{Climbs}
+use Rattle.judge.specs.CaseRows.{standingIn}
 use Rattle.judge.proofs.Scan.{hit, miss, past}
 use borrow.Author.Needs.{needs}
 use Rattle.judge.proofs.standing.some_event.Statement.{statement}
