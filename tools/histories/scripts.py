@@ -206,7 +206,7 @@ EVERY = [visit("2018-05-02", code) for code in OPERATORS]
 EVEN = [visit("2018-05-02", code) for code in OPERATORS if code % 2 == 0]
 script("histories/every_operator_on_one_day", note("operators 99, 13, 12 .. 1 in one record: the rows are 1 .. 13, 99, and no row is left"), ("rows 15", []),
   sub(1, "case_a", taken([0], rows(15, [A]))), sub(2, "visits_by_all", taken([0], rows(15, [A], EVERY))), ("sound", ans(0)), sub(1, "case_b", taken([17], rows(15, [A], EVERY))),
-  note("every other one is cancelled; all of them once more give 14"),
+  note("those of odd number are cancelled; all of them once more give 14"),
   sub(2, "visits_by_odd_cancelled", taken([0], rows(15, [A], EVEN))), ("sound", ans(0)), sub(2, "visits_by_all", taken([14], rows(15, [A], EVEN))))
 R1, R2 = reval("2018-05-10", 1), reval("2018-05-10", 2)
 with_case("histories/two_revaluations_on_one_day", note("the motivo is no part of the key: in one record 22; in two records 14 for the second"),

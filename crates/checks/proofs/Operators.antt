@@ -1,24 +1,26 @@
 -- Two operators on one day, computed: who comes is part of an Erogazione's key, and of no other event's (R9).
 use Prim.Native.Nat.{ℕ, _^_, _<_}
+use Prim.Native.Char.{code}
 use mathlib.Core.Path.{_≡_, refl}
-use mathlib.Core.Logic.{_↔_}
 use mathlib.Core.List.{List, [], _∷_}
 use native.Mathlib.Omega.{arith}
 use borrow.Author.Tests.{ltb-true}
 use Rattle.laws.specs.Lists.{all, any, same, somePair}
 use Rattle.laws.proofs.Every.{Every}
+use Rattle.codes.specs.CodesAndCharacters.{revaluation, service}
 use Rattle.days.specs.DayNumbers.{firstOf, yearsTo}
 use Rattle.model.specs.Map.{Row, find, put, keep, putAll, delAll, anyIn, allIn, twice}
 use Rattle.model.specs.Checks.{first}
 use Rattle.model.specs.Machine.{run, answers}
 use Rattle.model.specs.Flow.{State, machine}
 use Rattle.rows.specs.Packing.{packs}
-use Rattle.register.specs.Layout.{caseNamed}
-use Rattle.home_care.specs.Row.{Event, never, keyBits, eventBits, siad, keyNumber, eventNumber, eventRow, eventNumberIn, eventIn, endOf}
-use Rattle.home_care.specs.Fits.{eventWith}
-use Rattle.home_care.specs.Keys.{OwnAgree}
+use Rattle.rows.proofs.Bytes.{fit-same}
+use Rattle.register.specs.Stored as stored
+use Rattle.register.specs.Stored.{Sized}
+use Rattle.home_care.specs.Row.{Event, never, keyBits, charBits, codeBits, eventBits, siad, keyNumber, eventNumber, eventRow, endOf}
+use Rattle.home_care.specs.Fits.{KeyFits, EventFits, eventWith}
 use Rattle.home_care.specs.Record.{Record, eventNumbers}
-use Rattle.home_care.proofs.KeyWords.{rows-words}
+use Rattle.home_care.proofs.KeyWords.{key-words, rows-words}
 use Rattle.home_care.proofs.OldRows.{EndsDeclared}
 use Rattle.home_care.proofs.ReadBack.{event-sized}
 use Rattle.checks.specs.Flow.{caseRow, eventRows}
@@ -28,17 +30,17 @@ use Rattle.checks.proofs.Worked.{context, key, head, caseSaid, day, sai
 
 -- a nurse, a physiotherapist, a physician
 abbrev nurse : ℕ → Event
-nurse d = eventWith 1 (day d) 2 never 1 0
+nurse d = eventWith service (day d) 2 never 1 0
 
 abbrev physio : ℕ → Event
-physio d = eventWith 1 (day d) 7 never 1 0
+physio d = eventWith service (day d) 7 never 1 0
 
 abbrev physician : ℕ → Event
-physician d = eventWith 1 (day d) 1 never 1 0
+physician d = eventWith service (day d) 1 never 1 0
 
 -- a Rivalutazione for that motive, which confirms
 abbrev review : ℕ → ℕ → Event
-review motive d = eventWith 0 (day d) motive never 0 1
+review motive d = eventWith revaluation (day d) motive never 0 1
 
 abbrev row : Event → Row ℕ
 row e = eventRow (keyNumber key) (eventNumber e)
@@ -76,26 +78,40 @@ left = refl
 
 -- ---- what is said of keys and of ends, of these
 
+key-fits : KeyFits key
+unfolding firstOf
+key-fits =
+    record {
+      region = omega arith;
+      asl = (omega arith, (omega arith, (omega arith, tt)));
+      asl-length = refl;
+      taken = omega arith;
+      id = fit-same charBits 88 (code "A") (omega arith);
+      id-length = refl;
+    }
+
+visit-fits : (code : ℕ) → code < 2 ^ codeBits → EventFits (eventWith service (day 10) code never 1 0)
+unfolding firstOf
+visit-fits code h = record { kind = omega arith; date = omega arith; code = h; end = omega arith; accesses = omega arith; conferma = omega arith }
+
+-- two operators, two keys, by what the records say
+pub two-keys : row (nurse 10) .key ≡ row (physio 10) .key → ⊥
+two-keys e =
+    let q : _≡_ {A = ℕ} 2 7 = key-words key key (nurse 10) (physio 10) key-fits key-fits (visit-fits 2 (omega arith)) (visit-fits 7 (omega arith)) .0 e .own .operator refl in
+    omega arith
+
 small : keyNumber key < 2 ^ keyBits
 unfolding packs firstOf
 small = ltb-true (keyNumber key) (2 ^ keyBits) refl
 
-rows-agree : (a b : Event) → eventNumber a < 2 ^ eventBits → eventNumber b < 2 ^ eventBits →
-    (row a .key ≡ row b .key) ↔ ((caseNamed siad (row a .key) ≡ caseNamed siad (row b .key)) × OwnAgree (eventIn (eventNumberIn (row a))) (eventIn (eventNumberIn (row b))))
-rows-agree a b ha hb = rows-words (row a) (row b) (event-sized (keyNumber key) (eventNumber a) ha small) (event-sized (keyNumber key) (eventNumber b) hb small)
+sized : (e : Event) → eventNumber e < 2 ^ eventBits → Sized stored.events siad (row e)
+sized e h = event-sized (keyNumber key) (eventNumber e) h small
 
--- two operators, two keys
-pub two-keys : row (nurse 10) .key ≡ row (physio 10) .key → ⊥
-unfolding packs firstOf
-two-keys e =
-    let q : _≡_ {A = ℕ} 2 7 = rows-agree (nurse 10) (physio 10) (omega arith) (omega arith) .0 e .1 .operator refl in
-    omega arith
-
--- two motives, one key
+-- two motives, one key, by the rows
 pub one-key : row (review 1 12) .key ≡ row (review 2 12) .key
 unfolding packs firstOf
 one-key =
-    rows-agree (review 1 12) (review 2 12) (omega arith) (omega arith) .1
+    rows-words (row (review 1 12)) (row (review 2 12)) (sized (review 1 12) (omega arith)) (sized (review 2 12) (omega arith)) .1
     (refl, record { kind = refl; date = refl; operator = λ h. let z : _≡_ {A = ℕ} 0 1 = h in absurd (omega arith) })
 
 -- the accepted visits have an end as 10 leaves it: none

@@ -10,11 +10,10 @@ use lib.ListN.{drop}
 use lib.Pow.{shr-mono, shr-shr, pow-pos}
 use borrow.Author.Tests.{eqb-true, eq-eqb, ne-eqb}
 use Rattle.laws.proofs.Every.{same-truth}
-use Rattle.laws.proofs.Order.{Tri, tri}
-use Rattle.laws.proofs.Order.Tri.{below, equal, above}
 use Rattle.codes.specs.CodesAndCharacters.{service}
 use Rattle.model.specs.Map.{Row}
 use Rattle.rows.specs.Packing.{total, fieldAt}
+use Rattle.rows.proofs.Bytes.{lt-of-high}
 use Rattle.register.specs.Layout.{eventRest, caseNamed}
 use Rattle.register.specs.State.{unsplit, keyBy}
 use Rattle.register.specs.Stored.{events, splitOf, Sized}
@@ -101,16 +100,10 @@ module _ (a p : ℕ) where
 
   -- where keys rise, first bits do not fall
   pub own-rise : (k : ℕ) → eventKeyOf a < eventKeyOf p → a / 2 ^ k ≤ p / 2 ^ k
-  own-rise k h = shr-mono k (go (tri a p))
-    where
-      go : Tri a p → a ≤ p
-      go (below l _ _) = omega arith
-      go (equal l _ _) = omega arith
-      go (above l _ _) =
-          let m : p ≤ a = omega arith in
-          let u = shr-mono (eventBits - ownBitsOf p) m in
-          let v = own-below .0 h in
-          absurd (omega arith)
+  own-rise k h =
+      let l = lt-of-high a p (eventBits - ownBitsOf p) (own-below .0 h) in
+      let m : a ≤ p = omega arith in
+      shr-mono k m
 
 -- ---- in a row: the case's key, then the event's own
 

@@ -2,16 +2,16 @@
 use Prim.Native.Nat.{ℕ, _+_, _-_, _*_, _/_, _%_, _^_, _≤_, _<_}
 use mathlib.Core.Path.{_≡_, sym, ap, ap₂, _∙_}
 use mathlib.Core.List.{List}
+use mathlib.Core.Logic.{_↔_}
 use native.Mathlib.Omega.{arith}
 use lib.Pow.{shr-shr, field}
-use Rattle.laws.proofs.Order.{Tri, tri}
-use Rattle.laws.proofs.Order.Tri.{below, equal, above}
 use Rattle.rows.specs.Packing.{fieldAt}
 use Rattle.register.specs.Layout.{rowIn}
 use Rattle.register.specs.Gap.{fieldIn}
 use Rattle.register.specs.Search.{keyAt, Rises, Placed}
 use Rattle.register.specs.Stored.{events, splitOf}
 use Rattle.register.proofs.MixedKeys.{number-of}
+use Rattle.register.proofs.Places.{under-by, over-by}
 use Rattle.home_care.specs.Row.{rowBytes, keyBits, eventBits, eventZeros, ownBits, siad, eventKeyOf}
 use Rattle.home_care.specs.EventRows.{eventAt, eventKeyAt, Climbs, OwnPlaced, ownBitsOf}
 use Rattle.home_care.proofs.Laid.{row-width}
@@ -58,17 +58,13 @@ module _ (reg : List ℕ) where
         let z : eventBits - bits ≡ eventBits - ownBitsOf e = ap (λ (b : ℕ). eventBits - b) hb in
         (first-bits bits k few ∙ ap (λ (j : ℕ). eventAt reg k / 2 ^ j) z, hv ∙ ap (λ (j : ℕ). e / 2 ^ j) z)
 
-    -- a row is below by its bits where it is below by its key
-    under-key : (k : ℕ) → f k < v → eventKeyAt reg k < eventKeyOf e
-    under-key k h = own-below (eventAt reg k) e .1 (let s = shown k in let a = s .0 in let b = s .1 in omega arith)
-
-    over-key : (k : ℕ) → v ≤ f k → eventKeyOf e ≤ eventKeyAt reg k
-    over-key k h = go (tri (eventKeyAt reg k) (eventKeyOf e))
-      where
-        go : Tri (eventKeyAt reg k) (eventKeyOf e) → eventKeyOf e ≤ eventKeyAt reg k
-        go (below x _ _) = let s = shown k in let a = s .0 in let b = s .1 in let c = own-below (eventAt reg k) e .0 x in absurd (omega arith)
-        go (equal x _ _) = omega arith
-        go (above x _ _) = omega arith
+    -- a row is below by its key where it is below by its bits
+    alike : (k : ℕ) → (eventKeyAt reg k < eventKeyOf e) ↔ (f k < v)
+    alike k =
+        let a = shown k .0 in
+        let b = shown k .1 in
+        let c = own-below (eventAt reg k) e in
+        (λ h. let d = c .0 h in omega arith, λ h. c .1 (omega arith))
 
     -- and the place found by them is the place of the key
     pub own-found : (lo hi r : ℕ) → Placed f v lo hi r → OwnPlaced reg e lo hi r
@@ -76,6 +72,6 @@ module _ (reg : List ℕ) where
         record {
           low = pl .low;
           high = pl .high;
-          under = λ up k a b. under-key k (pl .under (bits-rise lo hi up bits few) k a b);
-          over = λ up k a b. over-key k (pl .over (bits-rise lo hi up bits few) k a b);
+          under = λ up. under-by f (eventKeyAt reg) v (eventKeyOf e) lo hi r alike (bits-rise lo hi up bits few) pl;
+          over = λ up. over-by f (eventKeyAt reg) v (eventKeyOf e) lo hi r alike (bits-rise lo hi up bits few) pl;
         }

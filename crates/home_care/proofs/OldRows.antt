@@ -31,7 +31,10 @@ oldNumber e = packs (oldFields e) 0
 abbrev pub firstDeclared : ℕ
 firstDeclared = dayNumber 2009 1 1
 
-first-is : firstDeclared ≡ 39812
+abbrev firstNumber : ℕ
+firstNumber = 39812
+
+first-is : firstDeclared ≡ firstNumber
 unfolding firstOf
 first-is = refl
 
@@ -86,7 +89,7 @@ module _ (e : Event) (f : EventFits e) where
   no-code-there : EndsDeclared (e .end) → NoCode upper
   no-code-there (inl h) = inr (omega arith, omega arith)
   no-code-there (inr h) =
-      let a : 39812 ≤ e .end = subst (λ (n : ℕ). n ≤ e .end) first-is (h .0) in
+      let a : firstNumber ≤ e .end = subst (λ (n : ℕ). n ≤ e .end) first-is (h .0) in
       let b = h .1 in
       inl (omega arith, omega arith)
 

@@ -90,5 +90,10 @@ module _ (c e : ℕ) (h : e < 2 ^ eventBits) where
   pub event-case : caseNamed siad (eventRow c e .key) ≡ c
   event-case = let k = event-key in let l = own-lt e h in omega arith
 
-  pub event-sized : c < 2 ^ keyBits → Sized events siad (eventRow c e)
-  event-sized g = sizes-by events siad laid-siad number (shl-lt (keyBits + eventBits) eventZeros (number-lt keyBits eventBits (keyBits + eventBits) (record { key = c; val = e }) refl g h))
+  -- it has the bits of a row
+  module _ (g : c < 2 ^ keyBits) where
+    pub event-row-lt : number < 2 ^ (8 * rowBytes)
+    event-row-lt = shl-lt (keyBits + eventBits) eventZeros (number-lt keyBits eventBits (keyBits + eventBits) (record { key = c; val = e }) refl g h)
+
+    pub event-sized : Sized events siad (eventRow c e)
+    event-sized = sizes-by events siad laid-siad number event-row-lt

@@ -103,11 +103,12 @@ pastOwn = eventBits - ownBits
 abbrev pub eventKeyBits : ℕ
 eventKeyBits = keyBits + ownBits
 
--- of these bits, how many at their end are no part of the key of an event of that kind: the code's, but of an Erogazione none
+-- R9: "with zeros for a code that is no part of it": of these bits, how many at their end are no part of the key of an event of that kind: the code's, but of an
+-- Erogazione none
 abbrev pub spareBits : ℕ → ℕ
 spareBits kind = cond (eqb kind service) 0 codeBits
 
--- the kind among the first 688 bits of an event's row, or among its own 26 of them: date and code follow it
+-- R23: the kind among the first 688 bits of an event's row, or among its own 26 of them: date and code follow it
 abbrev pub kindIn : ℕ → ℕ
 kindIn q = fieldAt (dayBits + codeBits) kindBits q
 

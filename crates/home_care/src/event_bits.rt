@@ -17,13 +17,13 @@ use crate::layout::CODE_BITS;
 use crate::layout::CONFERMA;
 use crate::layout::CONFERMA_BITS;
 use crate::layout::DATE;
-use crate::layout::DATED;
+use crate::layout::DATED_BITS;
 use crate::layout::DAY_BITS;
 use crate::layout::END;
 use crate::layout::EVENT_BITS;
 use crate::layout::KIND;
 use crate::layout::KIND_BITS;
-use crate::layout::OWN_KEY;
+use crate::layout::OWN_BITS;
 use crate::layout::PAST_OWN;
 use codes::code_lists::SERVICE;
 use codes::code_lists::SUSPENSION;
@@ -73,20 +73,20 @@ pub fn conferma_of(e: u64) -> u64
 }
 
 // The bits of its own key, the part past its case's: kind and date, and of an Erogazione the code.
-pub fn own_bits(e: u64) -> usize
+pub fn own_bits_of(e: u64) -> usize
     ensures { λ r. ⌜ (r ≡ ownBitsOf e) × (0 < r) × (r ≤ ownBits) ⌝ }
 {
     if field(e, KIND, KIND_BITS) == SERVICE {
-        return OWN_KEY;
+        return OWN_BITS;
     }
-    DATED
+    DATED_BITS
 }
 
 // That part as a number, with zeros for a code that is no part of it.
 pub fn event_key_of(e: u64) -> u64
     ensures { λ r. ⌜ (r ≡ eventKeyOf e) × (r < 2 ^ (64 - pastOwn)) ⌝ }
 {
-    let spare = OWN_KEY - own_bits(e);
+    let spare = OWN_BITS - own_bits_of(e);
     ((e >> PAST_OWN) >> spare) << spare
 }
 
@@ -94,7 +94,7 @@ pub fn event_key_of(e: u64) -> u64
 pub fn same_key(a: u64, b: u64) -> bool
     ensures { λ r. ⌜ r ≡ eqb (eventKeyOf a) (eventKeyOf b) ⌝ }
 {
-    let past = EVENT_BITS - own_bits(a);
+    let past = EVENT_BITS - own_bits_of(a);
     (a >> past) == (b >> past)
 }
 

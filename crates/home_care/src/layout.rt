@@ -64,14 +64,14 @@ pub const EVENT_BITS: usize = 52;
 
 // An event's own key, what its key has after its case's: kind and date, and of an Erogazione the code; the bits of the longest, the event's bits after
 // that, and no own key is so large.
-pub const OWN_KEY: usize = 26;
+pub const OWN_BITS: usize = 26;
 
 pub const PAST_OWN: usize = 26;
 
 pub const OWN_KEYS: u64 = 67108864;
 
 // The bits of kind and date.
-pub const DATED: usize = 19;
+pub const DATED_BITS: usize = 19;
 
 // ---- values
 

@@ -20,11 +20,11 @@ use Rattle.intake.specs.FileAnswers.{Submitted, submitted}
 use Rattle.intake.specs.Demands.{Answered, leftBy}
 use Rattle.intake.proofs.SoundBytes.{fit-zeros}
 use Rattle.intake.proofs.Files.{taken-answers, Alike, answered-once}
-use Rattle.intake.proofs.Samples.{admissions, begun, held, holding, first-record, gives}
+use Rattle.intake.proofs.Samples.{admissions, size, begun, held, holding, first-record, gives}
 
 fit : Fit (each 8 begun)
 unfolding emptied calls
-fit = fit-zeros 459
+fit = fit-zeros size
 
 -- the first row's fields
 abbrev fieldsIn : Map ℕ → ℕ

@@ -29,7 +29,7 @@ use Rattle.model.specs.Machine.{zeros, others, run, answers}
 use Rattle.model.specs.Log.{calls}
 use Rattle.model.specs.Flow.{State, empty, machine}
 use Rattle.rows.specs.Packing.{packs}
-use Rattle.register.specs.Layout.{rowIn}
+use Rattle.register.specs.Layout.{rowAt, rowIn}
 use Rattle.register.specs.State.{from, stateOf, rowsBytes, encode}
 use Rattle.register.specs.RoomAndEmptying.{emptied}
 use Rattle.register.specs.Sound.{ascending}
@@ -135,8 +135,11 @@ abbrev pub mistake : Call
 mistake = callOf mistaken 1 2018 2 (replicate 4 9)
 
 -- a register with room for five rows, whatever it held
+abbrev pub size : ℕ
+size = rowAt siad 5
+
 abbrev pub register : List ℕ
-register = replicate 459 7
+register = replicate size 7
 
 abbrev pub keyOf : Char → Key
 keyOf id = record { region = 10; asl = bytes "101"; taken = dayNumber 2018 5 1; id = replicate 88 (code id) }
@@ -188,7 +191,7 @@ abbrev pub begun : List ℕ
 begun = regAfter register []
 
 abbrev pub holding : State ℕ ℕ → List ℕ
-holding s = encode siad 459 s
+holding s = encode siad size s
 
 -- what the five calls give
 pub record Given : Type 0 where

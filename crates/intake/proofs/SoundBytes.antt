@@ -1,5 +1,5 @@
 -- Sound bytes are those of a sound state, and a sound state's bytes are sound.
-use Prim.Native.Nat.{ℕ, zero, suc, _+_, _-_, _≤_}
+use Prim.Native.Nat.{ℕ, _+_, _-_, _≤_}
 use mathlib.Core.Path.{_≡_, refl, sym, ap, _∙_}
 use mathlib.Core.Bool.{true}
 use mathlib.Core.List.{List, [], _∷_, _++_}
@@ -13,7 +13,7 @@ use Rattle.model.specs.Map.{Map}
 use Rattle.model.specs.Flow.{State, empty}
 use Rattle.rows.specs.Packing.{each, digits, Fit}
 use Rattle.rows.proofs.Packing.{fit-append}
-use Rattle.rows.proofs.Bytes.{each-append, digits-fit}
+use Rattle.rows.proofs.Bytes.{fit-same, each-append, digits-fit}
 use Rattle.register.specs.Layout.{caseRest, eventRest}
 use Rattle.register.specs.RoomAndEmptying.{room}
 use Rattle.register.specs.State.{unsplit, stateOf, rowsBytes, used, encode}
@@ -40,8 +40,7 @@ module _ (reg : List ℕ) (f : Fit (each 8 reg)) (h : isSound reg ≡ true) wher
 -- ---- from the state to the bytes
 
 pub fit-zeros : (n : ℕ) → Fit (each 8 (replicate n 0))
-fit-zeros zero = tt
-fit-zeros (suc n) = (omega arith, fit-zeros n)
+fit-zeros n = fit-same 8 n 0 (omega arith)
 
 join : (a b : List ℕ) → Fit (each 8 a) → Fit (each 8 b) → Fit (each 8 (a ++ b))
 join a b f g = rw (each-append 8 a b) (fit-append (each 8 a) (each 8 b) f g)

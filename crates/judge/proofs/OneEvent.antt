@@ -32,9 +32,13 @@ module _ (number : ℕ) (c : Context) (taken e : ℕ) where
 
 -- ---- 22, 26, 27, 28
 
-pub after-is : (c e last end kind date : ℕ) → last ≡ dateOf c → end ≡ endOf e → kind ≡ kindOf c → date ≡ dateOf e →
-    eqb kind 3 && (ltb last date || (not (eqb end never) && ltb last end)) ≡ afterConclusion c e
-after-is c e last end kind date l n k d = rw (l, n, k, d)
+module _ (c e kind : ℕ) (k : kind ≡ kindOf c) where
+  pub after-none : (kind ≡ 3 → ⊥) → false ≡ afterConclusion c e
+  after-none h = rw (← k, ne-eqb kind 3 h)
+
+  pub after-is : (last end date : ℕ) → kind ≡ 3 → last ≡ dateOf c → end ≡ endOf e → date ≡ dateOf e →
+      ltb last date || (not (eqb end never) && ltb last end) ≡ afterConclusion c e
+  after-is last end date h l n d = rw (← k, h, l, n, d)
 
 module _ (number a b : ℕ) where
   pub clash-22 : (r : Bool) → number ≡ 22 → r ≡ eqb (eventKeyOf a) (eventKeyOf b) → r ≡ clash number a b

@@ -107,12 +107,12 @@ module _ (reg : List ℕ) (lo hi : ℕ) (up : Climbs reg lo hi) where
     has-none h =
         sym (any-none reg same lo hi (omega (arith, pl .low, pl .high)) (λ j x y. smaller j x (omega arith)))
 
-    pub has-here : (here key : ℕ) → i < hi → here ≡ eventKeyAt reg i → key ≡ eventKeyOf e → eqb here key ≡ keyAmong (standingIn reg lo hi) e
-    has-here here key h z k = go (tri here key)
+    pub has-here : i < hi → same (eventAt reg i) ≡ keyAmong (standingIn reg lo hi) e
+    has-here h = go (tri (eventKeyAt reg i) (eventKeyOf e))
       where
-        go : Tri here key → eqb here key ≡ keyAmong (standingIn reg lo hi) e
+        go : Tri (eventKeyAt reg i) (eventKeyOf e) → same (eventAt reg i) ≡ keyAmong (standingIn reg lo hi) e
         go (below l _ t) = absurd (omega (arith, pl .over up i (omega arith) h))
-        go (equal l _ t) = t ∙ sym (any-one reg same lo i hi (pl .low) h (eq-eqb (eventKeyAt reg i) (eventKeyOf e) (sym z ∙ l ∙ k)))
+        go (equal l _ t) = t ∙ sym (any-one reg same lo i hi (pl .low) h t)
         go (above l _ t) = t ∙ sym (any-none reg same lo hi (omega (arith, pl .low)) (λ j x y. near j x y (tri j i)))
           where
             near : (j : ℕ) → lo ≤ j → j < hi → Tri j i → same (eventAt reg j) ≡ false

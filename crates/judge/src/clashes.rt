@@ -13,7 +13,6 @@ use crate::standing::rivals;
 use codes::code_lists::CONCLUSION;
 use home_care::event_bits::date_of;
 use home_care::event_bits::end_of;
-use home_care::event_bits::event_key_of;
 use home_care::event_bits::kind_of;
 use home_care::event_bits::same_key;
 use home_care::event_bits::share_day;
@@ -23,9 +22,13 @@ use home_care::layout::NEVER;
 fn after_conclusion(c: u64, e: u64) -> bool
     ensures { λ r. ⌜ r ≡ afterConclusion c e ⌝ }
 {
+    // most events are none, and their dates need no look
+    if kind_of(c) != CONCLUSION {
+        return false;
+    }
     let last = date_of(c);
     let end = end_of(e);
-    (kind_of(c) == CONCLUSION) & ((last < date_of(e)) | ((end != NEVER) & (last < end)))
+    (last < date_of(e)) | ((end != NEVER) & (last < end))
 }
 
 // What 22, 26, 27 and 28 ask of two events.
@@ -48,10 +51,9 @@ pub fn clash(number: u64, a: u64, b: u64) -> bool
 fn key_among(evs: &[u64], b: u64) -> bool
     ensures { λ r. ⌜ r ≡ keyAmong (now (evs .entry)) b ⌝ }
 {
-    let key = event_key_of(b);
     let mut i = 0;
     while i < evs.len() {
-        if event_key_of(evs[i]) == key {
+        if same_key(evs[i], b) {
             return true;
         }
         i += 1;

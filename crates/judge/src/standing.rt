@@ -15,12 +15,12 @@ use codes::code_lists::CONCLUSION;
 use codes::code_lists::SUSPENSION;
 use home_care::event_bits::date_of;
 use home_care::event_bits::end_of;
-use home_care::event_bits::event_key_of;
 use home_care::event_bits::event_of;
 use home_care::event_bits::kind_of;
+use home_care::event_bits::same_key;
 use home_care::event_rows::place_event;
 use home_care::layout::CASE_KEY;
-use home_care::layout::DATED;
+use home_care::layout::DATED_BITS;
 use home_care::layout::DAY_BITS;
 use home_care::layout::KIND_BITS;
 use home_care::layout::ROW;
@@ -45,7 +45,7 @@ fn has_event(reg: &[u8], lo: usize, hi: usize, e: u64) -> bool
     if hi <= i {
         return false;
     }
-    event_key_of(event_at(reg, i)) == event_key_of(e)
+    same_key(event_at(reg, i), e)
 }
 
 // Whether one of the record's events stands there, or, with `standing` false, does not.
@@ -81,8 +81,16 @@ fn sharing(reg: &[u8], lo: usize, hi: usize, a: u64) -> Span
     ensures { λ r. ⌜ Outside (shareDay a) (now (reg .entry)) lo hi (r .lo) (r .hi) ⌝ }
 {
     let first = SUSPENSION << DAY_BITS;
-    let from = place_by(reg, ROW, lo, hi, CASE_KEY, DATED, first + date_of(a));
-    let to = place_by(reg, ROW, from, hi, CASE_KEY, DATED, first + end_of(a) + 1);
+    let from = place_by(reg, ROW, lo, hi, CASE_KEY, DATED_BITS, first + date_of(a));
+    let to = place_by(
+        reg,
+        ROW,
+        from,
+        hi,
+        CASE_KEY,
+        DATED_BITS,
+        first + end_of(a) + 1,
+    );
     if lo < from {
         return Span {
             lo: from - 1,

@@ -3,6 +3,7 @@ use Prim.Native.Nat.{ℕ, zero, suc, _+_, _-_, _*_, _/_, _^_, _≤_, _<_}
 use mathlib.Core.Path.{_≡_, refl, sym, ap, ap₂, subst, _∙_}
 use mathlib.Core.Bool.{true, false, _&&_}
 use mathlib.Core.List.{List, [], _∷_, _++_}
+use mathlib.Core.Logic.{_↔_}
 use native.Mathlib.Omega.{arith}
 use lib.Dec.{ltb, eqb}
 use lib.ListN.{length, take, drop, getD, take-append-drop, length-drop}
@@ -43,6 +44,19 @@ key-is l reg k i = refl
 pub first-is : (g : Group) (l : Layout) (reg : List ℕ) (i : ℕ) → keyAt (l .bytes) (keyBitsOf g l) reg i ≡ rowIn l reg i / 2 ^ restOf g l
 first-is cases l reg i = key-is l reg (l .caseKey) i
 first-is events l reg i = key-is l reg (l .eventKey) i
+
+-- a place found by the numbers f is the place by the numbers g, where below by the one is below by the other
+module _ (f g : ℕ → ℕ) (v w lo hi r : ℕ) (alike : (k : ℕ) → (g k < w) ↔ (f k < v)) (rise : Rises f lo hi) (pl : Placed f v lo hi r) where
+  pub under-by : (k : ℕ) → lo ≤ k → k < r → g k < w
+  under-by k a b = alike k .1 (pl .under rise k a b)
+
+  pub over-by : (k : ℕ) → r ≤ k → k < hi → w ≤ g k
+  over-by k a b = go (tri (g k) w)
+    where
+      go : Tri (g k) w → w ≤ g k
+      go (below x _ _) = let u = alike k .0 x in let o = pl .over rise k a b in absurd (omega arith)
+      go (equal x _ _) = omega arith
+      go (above x _ _) = omega arith
 
 module _ (l : Layout) (lay : Laid l) (g : Group) (reg : List ℕ) (s : State ℕ ℕ) (h : Stored l reg s) where
   -- the first bits of a row, and its key
@@ -102,7 +116,10 @@ module _ (l : Layout) (lay : Laid l) (g : Group) (reg : List ℕ) (s : State ℕ
     abbrev spared : ℕ
     spared = spareOf g l p
 
-    pub bits-at : (i : ℕ) → keyAt (l .bytes) (keyBitsOf g l - spared) reg i ≡ firsts i / 2 ^ spared
+    abbrev bits : ℕ → ℕ
+    bits = keyAt (l .bytes) (keyBitsOf g l - spared) reg
+
+    pub bits-at : (i : ℕ) → bits i ≡ firsts i / 2 ^ spared
     bits-at i =
         let e : 8 * l .bytes - (keyBitsOf g l - spared) ≡ restOf g l + spared = omega (arith, few g lay p, group-bits g lay) in
         key-is l reg (keyBitsOf g l - spared) i ∙ ap (λ (k : ℕ). rowIn l reg i / 2 ^ k) e
@@ -110,29 +127,26 @@ module _ (l : Layout) (lay : Laid l) (g : Group) (reg : List ℕ) (s : State ℕ
 
     -- a place found by these bits is the place of the key
     pub bits-placed : (hi i : ℕ) → hi ≡ startOf g s + length (rowsOf g s) →
-        Placed (keyAt (l .bytes) (keyBitsOf g l - spared) reg) (p / 2 ^ spared) (startOf g s) hi i → Placed keys (keyPart g l p) (startOf g s) hi i
+        Placed bits (p / 2 ^ spared) (startOf g s) hi i → Placed keys (keyPart g l p) (startOf g s) hi i
     bits-placed hi i eh pl =
         record {
           low = pl .low;
           high = pl .high;
-          under = λ r k a b. key-below g l lay p (firsts k) .1 (rw (bits-at k) at (pl .under rise k a b));
-          over = λ r k a b. let u : p / 2 ^ spared ≤ firsts k / 2 ^ spared = rw (bits-at k) at (pl .over rise k a b) in not-below k u;
+          under = λ r. under-by bits keys (p / 2 ^ spared) (keyPart g l p) (startOf g s) hi i alike rise pl;
+          over = λ r. over-by bits keys (p / 2 ^ spared) (keyPart g l p) (startOf g s) hi i alike rise pl;
         }
       where
-        not-below : (k : ℕ) → p / 2 ^ spared ≤ firsts k / 2 ^ spared → keyPart g l p ≤ keys k
-        not-below k u = go (tri (keys k) (keyPart g l p))
-          where
-            go : Tri (keys k) (keyPart g l p) → keyPart g l p ≤ keys k
-            go (below x _ _) = let v = key-below g l lay p (firsts k) .0 x in absurd (omega arith)
-            go (equal x _ _) = omega arith
-            go (above x _ _) = omega arith
+        alike : (k : ℕ) → (keys k < keyPart g l p) ↔ (bits k < p / 2 ^ spared)
+        alike k =
+            let b = key-below g l lay p (firsts k) in
+            (λ h. rw (bits-at k) (b .0 h), λ h. b .1 (rw (bits-at k) at h))
 
-        rise : Rises (keyAt (l .bytes) (keyBitsOf g l - spared) reg) (startOf g s) hi
+        rise : Rises bits (startOf g s) hi
         rise a b x y z =
             rw (bits-at a, bits-at b) (firsts-rise g l lay (firsts a) (firsts b) (keys-climb a b x y (rw eh at z)) spared)
 
     -- and the row there has them exactly where it has the key
-    pub bits-same : (i : ℕ) → eqb (keyAt (l .bytes) (keyBitsOf g l - spared) reg i) (p / 2 ^ spared) ≡ eqb (keys i) (keyPart g l p)
+    pub bits-same : (i : ℕ) → eqb (bits i) (p / 2 ^ spared) ≡ eqb (keys i) (keyPart g l p)
     bits-same i = ap (λ (k : ℕ). eqb k (p / 2 ^ spared)) (bits-at i) ∙ go (tri (keys i) (keyPart g l p))
       where
         go : Tri (keys i) (keyPart g l p) → eqb (firsts i / 2 ^ spared) (p / 2 ^ spared) ≡ eqb (keys i) (keyPart g l p)

@@ -27,7 +27,7 @@ pub each-width : (w : ℕ) (cs : List ℕ) → width (each w cs) ≡ w * length 
 each-width w [] = sym (mul-zero w)
 each-width w (a ∷ cs) = ap (λ (k : ℕ). w + k) (each-width w cs) ∙ add-comm w (w * length cs) ∙ sym (mul-suc w (length cs))
 
--- each value of a run fits, and a run of which each fits
+-- each value of a run fits, and a run of which each fits, or of one value
 pub fit-at : (w : ℕ) (vs : List ℕ) (i : ℕ) → Fit (each w vs) → i < length vs → getD vs i 0 < 2 ^ w
 fit-at w [] i f h = absurd (not-suc-le-zero h)
 fit-at w (v ∷ vs) zero f h = f .0
@@ -36,6 +36,10 @@ fit-at w (v ∷ vs) (suc i) f h = fit-at w vs i (f .1) (le-of-suc-le-suc h)
 pub fit-of : (w : ℕ) (vs : List ℕ) → ((i : ℕ) → getD vs i 0 < 2 ^ w) → Fit (each w vs)
 fit-of w [] f = tt
 fit-of w (v ∷ vs) f = (f zero, fit-of w vs (λ i. f (suc i)))
+
+pub fit-same : (w n v : ℕ) → v < 2 ^ w → Fit (each w (replicate n v))
+fit-same w zero v h = tt
+fit-same w (suc n) v h = (h, fit-same w n v h)
 
 pub fit-drop : (w : ℕ) (k : ℕ) (vs : List ℕ) → Fit (each w vs) → Fit (each w (drop k vs))
 fit-drop w zero vs f = f

@@ -5,8 +5,8 @@ use Rattle.home_care.proofs.EventRows.{own-found}
 use Rattle.home_care.proofs.event_rows.place_event.Statement.{statement}
 use Rattle.home_care.proofs.event_rows.place_event.Tie as tie
 
-own-bits-requires : tie.Need-own-bits-requires
-own-bits-requires c κs = search needs
+own-bits-of-requires : tie.Need-own-bits-of-requires
+own-bits-of-requires c κs = search needs
 
 sub-place-by : tie.Need-sub-place-by
 sub-place-by c = search needs
@@ -20,8 +20,8 @@ place-by-requires c κs = search needs
 returns : tie.Need-returns
 returns c =
     let a = c .before .before .before .args in
-    own-found (a .reg .now) (a .e) (c .before .own-bits .result) _ (c .before .own-bits .ensures .0) (omega arith) refl (a .lo) (a .hi) (c .place-by .result) (c .place-by .ensures)
+    own-found (a .reg .now) (a .e) (c .before .own-bits-of .result) _ (c .before .own-bits-of .ensures .0) (omega arith) refl (a .lo) (a .hi) (c .place-by .result) (c .place-by .ensures)
 
 pub place-event-spec : {M : Type 1} → statement M
 place-event-spec =
-    tie.close (tie.spec own-bits-requires sub-place-by shr-place-by place-by-requires returns)
+    tie.close (tie.spec own-bits-of-requires sub-place-by shr-place-by place-by-requires returns)
