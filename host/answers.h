@@ -1,5 +1,5 @@
 /* What the answers say, in words: docs/RULES.md, F and A, shortened, with the schemas' Italian terms. 0 has no words
-   of its own: a file is taken, a record accepted, a register sound, a case found. */
+   of its own: a file is taken, a record accepted, a register sound, a case found, a cancellation file written. */
 #ifndef ANSWERS_H
 #define ANSWERS_H
 #include "siad.h"
@@ -38,8 +38,14 @@ static const struct answer_words {
     {SIAD_SUSPENSIONS_MEET, "two suspensions (Sospensione) share a day; one without dataFine runs on"},
     {SIAD_TWO_CONCLUSIONS, "two conclusions (Conclusione)"},
     {SIAD_AFTER_CONCLUSION, "an event's date or end date is after the conclusion (Conclusione)"},
-    /* of finding */
+    /* of finding, and of a cancellation file */
     {SIAD_NOT_FOUND, "a text is not allowed, or the case does not stand"},
+    /* of a cancellation file */
+    {SIAD_REPLACES, "a reassessment (Rivalutazione) of the quarter replaced the assessment (confermaPrecedente 2): the "
+                    "Valutazione that its cancellation must have is not kept"},
+    {SIAD_NOTHING_IN_QUARTER, "the case has no event in this quarter; a suspension (Sospensione) counts in that of "
+                              "dataFine, or without one of dataInizio"},
+    {SIAD_SHORT_OUTPUT, "the cancellation file is longer than the output"},
 };
 
 /* The words of an answer; `zero` for 0, and NULL for a number that no call answers. */

@@ -68,14 +68,50 @@ enum kind kind_of(const char *name) {
     return errno == ENOENT ? NOTHING : UNKNOWN;
 }
 
-/* The lock is on a file of its own beside the register, NAME.lock. A lock on the register would go with the old file
-   when a new one takes its name: who waited for it would then own a file without a name, beside who locks the new one.
-   For the same reason the lock's file is never removed. Readers need no lock: a file once named is not written to. */
-int lock_file(const char *name, void (*waiting)(void)) {
-    char *lock = beside(name, ".lock");
-    int fd = open(lock, O_RDWR | O_CREAT | O_CLOEXEC | O_NOFOLLOW, 0666), got = -1;
-    if (fd < 0 && errno == EACCES) fd = open(lock, O_RDONLY | O_CLOEXEC | O_NOFOLLOW); /* another user made it */
-    free(lock);
+int taken(const char *name) {
+    struct stat st;
+    return lstat(name, &st) == 0;
+}
+
+/* A name's last part. */
+static const char *last_of(const char *name) {
+    const char *slash = strrchr(name, '/');
+    return slash == NULL ? name : slash + 1;
+}
+
+/* The name of the folder that a name stands in, from room. */
+static char *folder_of(const char *name) {
+    char *folder = beside(name, "/."); /* room for "." where the name is empty */
+    size_t n = (size_t)(last_of(name) - name);
+    if (n == 0) folder[n++] = '.';
+    folder[n] = '\0';
+    return folder;
+}
+
+static int open_folder(const char *name) {
+    char *folder = folder_of(name);
+    int fd = open(folder, O_RDONLY | O_DIRECTORY | O_CLOEXEC);
+    free(folder);
+    return fd;
+}
+
+static int one_inode(const char *a, const char *b) {
+    struct stat s, t;
+    return stat(a, &s) == 0 && stat(b, &t) == 0 && s.st_dev == t.st_dev && s.st_ino == t.st_ino;
+}
+
+/* A file is told by its inode, whatever links and spellings lead to it; one that is not there by its folder's. */
+int same_file(const char *a, const char *b) {
+    char *folder_a = folder_of(a), *folder_b = folder_of(b);
+    int same = one_inode(a, b) || (strcmp(last_of(a), last_of(b)) == 0 && one_inode(folder_a, folder_b));
+    free(folder_a);
+    free(folder_b);
+    return same;
+}
+
+/* An open file once it is locked, else it is closed. */
+static int locked(int fd, void (*waiting)(void)) {
+    int got = -1;
     if (fd < 0) return -1;
     if (flock(fd, LOCK_EX | LOCK_NB) == 0) return fd;
     if (errno == EWOULDBLOCK) {
@@ -86,6 +122,21 @@ int lock_file(const char *name, void (*waiting)(void)) {
     if (got == 0) return fd;
     shut(fd);
     return -1;
+}
+
+/* The lock is on a file of its own beside the register, NAME.lock. A lock on the register would go with the old file
+   when a new one takes its name: who waited for it would then own a file without a name, beside who locks the new one.
+   For the same reason the lock's file is never removed. Readers need no lock: a file once named is not written to. */
+int lock_file(const char *name, void (*waiting)(void)) {
+    char *lock = beside(name, ".lock");
+    int fd = open(lock, O_RDWR | O_CREAT | O_CLOEXEC | O_NOFOLLOW, 0666);
+    if (fd < 0 && errno == EACCES) fd = open(lock, O_RDONLY | O_CLOEXEC | O_NOFOLLOW); /* another user made it */
+    free(lock);
+    return locked(fd, waiting);
+}
+
+int lock_folder(const char *name, void (*waiting)(void)) {
+    return locked(open_folder(name), waiting);
 }
 
 void unlock_file(int lock) {
@@ -126,11 +177,7 @@ static int write_new(const char *name, const char *like, const struct bytes *b) 
 
 /* A new name is on the disk once its folder is; some file systems know no sync of a folder, and say EINVAL. */
 static int sync_folder(const char *name) {
-    char *folder = beside(name, "");
-    char *slash = strrchr(folder, '/');
-    if (slash != NULL) slash[slash == folder ? 1 : 0] = '\0';
-    int fd = open(slash == NULL ? "." : folder, O_RDONLY | O_DIRECTORY | O_CLOEXEC);
-    free(folder);
+    int fd = open_folder(name);
     if (fd < 0) return -1;
     int bad = fsync(fd) != 0 && errno != EINVAL;
     shut(fd);

@@ -23,14 +23,23 @@ int read_file(const char *name, size_t most, struct bytes *b);
 enum kind { NOTHING, REGULAR, OTHER, UNKNOWN };
 enum kind kind_of(const char *name);
 
+/* Whether something has a name, be it a link to nothing. */
+int taken(const char *name);
+
+/* Whether two names are one file's, or would be where it is not there. */
+int same_file(const char *a, const char *b);
+
 /* Waits until this process is the one writer of the file; `waiting` is called if another is. Gives the lock, which is
    open until unlock or the process's end, however it ends. */
 int lock_file(const char *name, void (*waiting)(void));
 void unlock_file(int lock);
 
+/* The same for all files of a name's folder, and leaves no file there. */
+int lock_folder(const char *name, void (*waiting)(void));
+
 /* The file holds these bytes, or what it held before: never a part. It is used by those who use the file `like`, where
    that stands. 0 with the bytes safe on the disk; 1 where they stand but the disk could not be told to keep the name,
-   with errno set; -1 with the old file as it was. One writer at a time: lock_file. */
+   with errno set; -1 with the old file as it was. One writer at a time: lock_file or lock_folder. */
 int replace_file(const char *name, const char *like, const struct bytes *b);
 
 #endif

@@ -1,6 +1,6 @@
 /* The gateway: an office's register file, over the calls of siad.h. It decodes no row of a register: it reads the two
-   counts of a header, once the register is known to be sound. A register's file is written only as a whole, as a new
-   file that takes the old one's name (files.c), so whoever reads it sees the register before or after a call. */
+   counts of a header, once the register is known to be sound. A file is written only as a whole, as a new one that
+   takes the old one's name (files.c), so whoever reads a register sees it before or after a call. */
 #define _GNU_SOURCE
 #include "answers.h"
 #include "files.h"
@@ -22,6 +22,16 @@ static int failed(const char *what, const char *name) {
     return FAILED;
 }
 
+/* The bytes take a file's name. `undone` is what did not happen where they can't, `what` is what the file is. Gives
+   replace_file's 0, 1 or -1, and has told the reason for the last two. */
+static int write_whole(const char *name, const char *said, const struct bytes *b, const char *undone,
+                       const char *what) {
+    int done = replace_file(name, name, b);
+    if (done < 0) fprintf(stderr, "gateway: %s: cannot write %s %s: %s\n", undone, what, said, strerror(errno));
+    else if (done > 0) failed("done, but a power failure may undo it: cannot sync the folder of", said);
+    return done;
+}
+
 /* ---- a register's file */
 
 struct reg {
@@ -41,39 +51,35 @@ static void close_register(struct reg *r) {
     free(r->name);
 }
 
-/* 0 where the name is that of a regular file, or of nothing and `missing` is fine. */
-static int named(struct reg *r, int missing) {
-    r->name = realpath(r->said, NULL);
-    if (r->name == NULL && errno == ENOENT && missing) r->name = beside(r->said, "");
-    if (r->name == NULL) return failed("cannot read the register", r->said);
-    enum kind kind = kind_of(r->name);
-    if (kind == UNKNOWN) return failed("cannot read the register", r->said);
+/* A name without links, where it is that of a regular file, or of nothing and `missing` is fine; `cannot` is told where
+   it is neither. */
+static int named(const char *said, int missing, const char *cannot, char **name) {
+    *name = realpath(said, NULL);
+    if (*name == NULL && errno == ENOENT && missing) *name = beside(said, "");
+    if (*name == NULL) return failed(cannot, said);
+    enum kind kind = kind_of(*name);
+    if (kind == UNKNOWN) return failed(cannot, said);
     if (kind != OTHER) return GOOD;
-    fprintf(stderr, "gateway: cannot read the register %s: it is not a regular file\n", r->said);
+    fprintf(stderr, "gateway: %s %s: it is not a regular file\n", cannot, said);
     return FAILED;
 }
 
 /* Reads a register; a writer locks it before and until close_register, which is called whatever this gives. */
 static int open_register(struct reg *r, const char *said, int writer, int missing) {
     *r = (struct reg){said, NULL, {NULL, 0}, -1};
-    if (named(r, missing) != GOOD) return FAILED;
+    if (named(said, missing, "cannot read the register", &r->name) != GOOD) return FAILED;
     if (writer && (r->lock = lock_file(r->name, waiting)) < 0) return failed("cannot lock the register", said);
     if (missing && kind_of(r->name) == NOTHING) return GOOD;
     return read_file(r->name, SIZE_MAX, &r->bytes) == 0 ? GOOD : failed("cannot read the register", said);
 }
 
 /* The new bytes take the register's name; with --backup the old ones first go to REGISTER.bak. `undone` is what did not
-   happen where they can't. Gives replace_file's 0, 1 or -1, and has told the reason for the last two. */
+   happen where they can't. Gives and tells what write_whole does. */
 static int write_register(const struct reg *r, const struct bytes *now, const struct options *o, const char *undone) {
     char *bak = beside(r->name, ".bak");
     int done = o->backup && r->bytes.at != NULL ? replace_file(bak, r->name, &r->bytes) : 0;
-    if (done < 0) {
-        fprintf(stderr, "gateway: %s: cannot write the backup %s: %s\n", undone, bak, strerror(errno));
-    } else if ((done = replace_file(r->name, r->name, now)) < 0) {
-        fprintf(stderr, "gateway: %s: cannot write the register %s: %s\n", undone, r->said, strerror(errno));
-    } else if (done > 0) {
-        failed("done, but a power failure may undo it: cannot sync the folder of", r->said);
-    }
+    if (done < 0) fprintf(stderr, "gateway: %s: cannot write the backup %s: %s\n", undone, bak, strerror(errno));
+    else done = write_whole(r->name, r->said, now, undone, "the register");
     free(bak);
     return done;
 }
@@ -132,6 +138,21 @@ static int number(const char *what, const char *text, uint64_t *n) {
     if (len >= 1 && len <= 4 && strspn(text, "0123456789") == len) return GOOD;
     fprintf(stderr, "gateway: %s is a number of 1 to 4 digits, not \"%s\"\n", what, text);
     return FAILED;
+}
+
+/* The texts that name a case: region, ASL, date, Id_Rec. */
+struct key {
+    const uint8_t *text[4];
+    size_t len[4];
+};
+
+static struct key key_of(char **w) {
+    struct key k;
+    for (int i = 0; i < 4; i++) {
+        k.text[i] = (const uint8_t *)w[i];
+        k.len[i] = strlen(w[i]);
+    }
+    return k;
 }
 
 /* ---- the commands, each over its words */
@@ -244,11 +265,10 @@ static int find(char **w, const struct options *o) {
     (void)o;
     int status = open_register(&r, w[0], 0, 0);
     if (status == GOOD) {
-        const uint8_t *text[4];
         uint64_t place;
-        for (int i = 0; i < 4; i++) text[i] = (const uint8_t *)w[1 + i];
-        uint64_t answer = siad_find(r.bytes.at, r.bytes.len, text[0], strlen(w[1]), text[1], strlen(w[2]), text[2],
-                                    strlen(w[3]), text[3], strlen(w[4]), &place);
+        struct key k = key_of(w + 1);
+        uint64_t answer = siad_find(r.bytes.at, r.bytes.len, k.text[0], k.len[0], k.text[1], k.len[1], k.text[2],
+                                    k.len[2], k.text[3], k.len[3], &place);
         printf("find %" PRIu64 " %" PRIu64 "\t%s\n", answer, place,
                in_words(answer, "the case stands; its row begins at this place of the register, counted from 0"));
         status = printed(answer == 0 ? GOOD : NOT_SO, "the answer");
@@ -271,6 +291,100 @@ static int count(char **w, const struct options *o) {
     return status;
 }
 
+/* ---- a cancellation file */
+
+static void waiting_beside(void) {
+    fputs("gateway: another gateway is writing beside this file: waiting for it\n", stderr);
+}
+
+static int left(const char *name, const char *why, const char *unless) {
+    fprintf(stderr, "gateway: %s %s and is left as it is%s\n", name, why, unless);
+    return NOT_SO;
+}
+
+/* Not so where the name is the register's, or that of a file which a gateway makes beside it: what is written there
+   would be lost with the next submission, or be taken for a lock or a backup. */
+static int not_its_own(const struct reg *r, const char *said, const char *name) {
+    static const char *const own[][2] = {{"", "is the register"},
+                                         {".new", "is for the register's new bytes"},
+                                         {".lock", "is for the register's lock"},
+                                         {".bak", "is for the register's backup"},
+                                         {".bak.new", "is for the backup's new bytes"}};
+    for (size_t i = 0; i < sizeof own / sizeof *own; i++) {
+        char *kept = beside(r->name, own[i][0]);
+        int same = same_file(name, kept);
+        free(kept);
+        if (same) return left(said, own[i][1], "");
+    }
+    return GOOD;
+}
+
+/* Whether a file may be written by way of `fresh`, which replace_file removes before: neither is the register's, and
+   nothing stands there but what --force gives up. A name that is still a link leads to nothing (named). */
+static int may_write_by(const char *fresh, const struct reg *r, const char *said, const char *name, int force) {
+    if (not_its_own(r, said, name) != GOOD || not_its_own(r, fresh, fresh) != GOOD) return NOT_SO;
+    enum kind kind = kind_of(name);
+    if (kind == NOTHING && taken(name)) return left(said, "is a link to nothing", "");
+    if (force) return GOOD;
+    if (kind != NOTHING) return left(said, "exists", "; --force replaces it");
+    return taken(fresh) ? left(fresh, "is in the way", "; --force removes it") : GOOD;
+}
+
+static int may_write(const struct reg *r, const char *said, const char *name, const struct options *o) {
+    char *fresh = beside(name, ".new");
+    int status = may_write_by(fresh, r, said, name, o->force);
+    free(fresh);
+    return status;
+}
+
+/* What was answered; with 0, what the file is good for: w are the case's texts, the year and the quarter. */
+static void print_cancel(uint64_t answer, uint64_t length, char **w) {
+    printf("cancel-file %" PRIu64 " %" PRIu64 "\t", answer, length);
+    if (answer != 0) printf("%s\n", in_words(answer, ""));
+    else
+        printf("%" PRIu64 " bytes that cancel the events of quarter %s of %s of the case %s %s %s %s\n", length, w[5],
+               w[4], w[0], w[1], w[2], w[3]);
+}
+
+/* The call, the file where there is one, the answer. */
+static int write_cancel(const struct reg *r, const char *name, char **w, const uint64_t *period) {
+    struct bytes out = {room(SIAD_MOST_CANCEL_BYTES), 0};
+    struct key k = key_of(w + 2);
+    uint64_t length;
+    uint64_t answer =
+        siad_cancel_file(r->bytes.at, r->bytes.len, k.text[0], k.len[0], k.text[1], k.len[1], k.text[2], k.len[2],
+                         k.text[3], k.len[3], period[0], period[1], out.at, SIAD_MOST_CANCEL_BYTES, &length);
+    out.len = length;
+    int wrote = answer == 0 ? write_whole(name, w[1], &out, "NOT written", "the cancellation file") : 0;
+    int status = wrote != 0 ? FAILED : answer == 0 ? GOOD : NOT_SO;
+    if (wrote >= 0) {
+        print_cancel(answer, length, w + 2);
+        status = printed(status, answer == 0 ? "the cancellation file is written, but that" : "the answer");
+    }
+    free(out.at);
+    return status;
+}
+
+static int cancel_file(char **w, const struct options *o) {
+    static const char *const what[2] = {"YEAR", "QUARTER"};
+    uint64_t period[2];
+    char *name = NULL;
+    int lock = -1;
+    struct reg r;
+    for (int i = 0; i < 2; i++)
+        if (number(what[i], w[6 + i], &period[i]) != GOOD) return FAILED;
+    int status = open_register(&r, w[0], 0, 0);
+    if (status == GOOD) status = named(w[1], 1, "cannot write", &name);
+    if (status == GOOD && (lock = lock_folder(name, waiting_beside)) < 0)
+        status = failed("cannot lock the folder of", w[1]);
+    if (status == GOOD) status = may_write(&r, w[1], name, o);
+    if (status == GOOD) status = write_cancel(&r, name, w, period);
+    if (lock >= 0) unlock_file(lock);
+    free(name);
+    close_register(&r);
+    return status;
+}
+
 static const char help[] =
     "gateway empty [--force] [--backup] REGISTER ROWS\n"
     "    makes an emptied register for ROWS cases and events, 1 to 4096; a file that holds something is\n"
@@ -286,6 +400,9 @@ static const char help[] =
     "    its Id_Rec\n"
     "gateway count REGISTER\n"
     "    tells how many cases and events stand\n"
+    "gateway cancel-file [--force] REGISTER FILE REGION ASL DATE ID YEAR QUARTER\n"
+    "    writes FILE, a submission of Track 2 that cancels every event of a case in a quarter; the register is\n"
+    "    only read, until FILE is submitted; a FILE that exists is left as it is, unless --force\n"
     "--backup keeps the register as it was before, as REGISTER.bak.\n"
     "After a tab each line has its answer in words. Exit status: 0 taken, or so; 1 refused, or not so;\n"
     "2 the gateway failed, with the reason on standard error. REGISTER.lock keeps two gateways from writing\n"
@@ -303,6 +420,7 @@ static const struct command {
     {"sound", 1, "REGISTER", 0, 0, sound},
     {"find", 5, "REGISTER REGION ASL DATE ID", 0, 0, find},
     {"count", 1, "REGISTER", 0, 0, count},
+    {"cancel-file", 8, "REGISTER FILE REGION ASL DATE ID YEAR QUARTER", 1, 0, cancel_file},
 };
 
 /* Takes the options out of a command's words: how many words are left, or -1. */
@@ -340,6 +458,6 @@ int main(int argc, char **argv) {
         if (strcmp(argv[1], commands[i].name) == 0) return run(&commands[i], argv + 2);
     if (argc < 2) fputs("gateway: no command", stderr);
     else fprintf(stderr, "gateway: no command %s", argv[1]);
-    fputs("; there are empty, submit, sound, find, count and --help\n", stderr);
+    fputs("; there are empty, submit, sound, find, count, cancel-file and --help\n", stderr);
     return FAILED;
 }

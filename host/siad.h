@@ -24,7 +24,12 @@
 #define SIAD_MOST_BYTES 1048576
 #define SIAD_MOST_EVENTS 128
 
-/* The texts that siad_find takes: their lengths, the date as AAAA-MM-GG. Any other length is answered 30. */
+/* No cancellation file is longer: an output of so many bytes never gets SIAD_SHORT_OUTPUT. 4,095 events of at most 101
+   bytes each, 317 for each of 32 records, 27 for the root. */
+#define SIAD_MOST_CANCEL_BYTES 423766
+
+/* The texts that siad_find and siad_cancel_file take: their lengths, the date as AAAA-MM-GG. Any other length is
+   answered 30. */
 #define SIAD_REGION_BYTES 3
 #define SIAD_ASL_BYTES 3
 #define SIAD_DATE_BYTES 10
@@ -68,6 +73,14 @@ enum siad_record_answer {
 /* siad_find beside 0 and SIAD_UNSOUND: a text isn't allowed, or the case doesn't stand. */
 enum siad_find_answer { SIAD_NOT_FOUND = 30 };
 
+/* siad_cancel_file beside 0, SIAD_BAD_PERIOD, SIAD_UNSOUND and SIAD_NOT_FOUND, and after them. */
+enum siad_cancel_answer {
+    SIAD_REPLACES = 31,           /* a Rivalutazione in the quarter has confermaPrecedente 2: the Valutazione that its
+                                     cancellation must have is not kept */
+    SIAD_NOTHING_IN_QUARTER = 32, /* the case has no event in the quarter */
+    SIAD_SHORT_OUTPUT = 33        /* the file is longer than the output */
+};
+
 /* The places of a report's four numbers. */
 enum siad_report { SIAD_NUMBER, SIAD_RECORDS, SIAD_RECORDS_ACCEPTED, SIAD_RECORDS_DISCARDED, SIAD_REPORT };
 
@@ -86,6 +99,17 @@ uint64_t siad_sound(const uint8_t *reg, size_t reg_len);
 uint64_t siad_find(const uint8_t *reg, size_t reg_len, const uint8_t *region, size_t region_len, const uint8_t *asl,
                    size_t asl_len, const uint8_t *date, size_t date_len, const uint8_t *id, size_t id_len,
                    uint64_t *place);
+
+/* Writes a cancellation file: a submission of Track 2 that cancels every event of a case in a quarter. The case is
+   named as for siad_find; a suspension counts in the quarter of its end, or of its begin where it has none. With 0 the
+   first `length` bytes of `out` are the file, and later bytes stay. The file has 128 events to each record but the
+   last; submitted to this register for this year and quarter, with an answer byte for each record, all of it is
+   accepted, and of what stands these events alone are gone. With any other answer `length` is 0 and no byte of `out`
+   changes. */
+uint64_t siad_cancel_file(const uint8_t *reg, size_t reg_len, const uint8_t *region, size_t region_len,
+                          const uint8_t *asl, size_t asl_len, const uint8_t *date, size_t date_len, const uint8_t *id,
+                          size_t id_len, uint64_t year, uint64_t quarter, uint8_t *out, size_t out_len,
+                          uint64_t *length);
 
 /* Takes a submission of a track, a year and a quarter into a register. `report` gets SIAD_REPORT numbers: the record
    number, records, accepted, discarded. With SIAD_TAKEN byte i - 1 of `answers` is record i's answer, later bytes stay,

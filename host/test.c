@@ -172,12 +172,13 @@ static void submits(const uint8_t *sub, size_t n, uint64_t track, uint8_t *reg, 
 #define VISIT(day, operator, more) \
     "<Erogazione data=\"2018-" day "\"" more "><TipoOperatore>" operator "</TipoOperatore></Erogazione>"
 
-/* A file with one record of Track 2, of the case of case_twice. */
+/* A file with one record of Track 2, of the case of case_twice. With type C and events in the register's order it is the
+   cancellation file of these events, byte for byte (docs/CANCELLATION.md). */
 static uint8_t *events_of_case(char type, const char *events, size_t *n) {
     static const char record[] =
-        "<FlsAssDom_2><Assistenza><Trasmissione tipo=\"%c\"/><Erogatore><CodiceRegione>%s</CodiceRegione>"
-        "<CodiceASL>%s</CodiceASL></Erogatore><Eventi><PresaInCarico data=\"%s\"><Id_Rec>%s</Id_Rec></PresaInCarico>"
-        "%s</Eventi></Assistenza></FlsAssDom_2>";
+        "<FlsAssDom_2><Assistenza><Trasmissione tipo=\"%c\"></Trasmissione><Erogatore>"
+        "<CodiceRegione>%s</CodiceRegione><CodiceASL>%s</CodiceASL></Erogatore><Eventi>"
+        "<PresaInCarico data=\"%s\"><Id_Rec>%s</Id_Rec></PresaInCarico>%s</Eventi></Assistenza></FlsAssDom_2>";
     char text[1024];
     *n = (size_t)snprintf(text, sizeof text, record, type, region, asl, date, id, events);
     if (*n >= sizeof text) exit(2);
@@ -263,16 +264,94 @@ static void two_operators(const char *folder) {
     free(reg);
 }
 
+/* A cancellation file of that case, for an output of n bytes. */
+static uint64_t cancel(const uint8_t *reg, size_t reg_len, uint64_t year, uint64_t quarter, uint8_t *out, size_t n,
+                       uint64_t *length) {
+    return siad_cancel_file(reg, reg_len, (const uint8_t *)region, SIAD_REGION_BYTES, (const uint8_t *)asl,
+                            SIAD_ASL_BYTES, (const uint8_t *)date, SIAD_DATE_BYTES, (const uint8_t *)id, SIAD_ID_BYTES,
+                            year, quarter, out, n, length);
+}
+
+/* None is written: the length is 0, and no byte of the output changes. */
+static void cancels_not(const uint8_t *reg, size_t reg_len, uint64_t year, uint64_t quarter, size_t n,
+                        unsigned answer) {
+    uint8_t *out = filled(n, 9);
+    uint64_t length = 77;
+    IS(cancel(reg, reg_len, year, quarter, out, n, &length), answer);
+    IS(length, 0);
+    IS(all(out, n, 9), 1);
+    free(out);
+}
+
+/* This file is written, and so many bytes behind it stay. Gives the output. */
+static uint8_t *cancels(const uint8_t *reg, size_t reg_len, const uint8_t *file, size_t n, size_t more) {
+    uint8_t *out = filled(n + more, 9);
+    uint64_t length = 77;
+    IS(cancel(reg, reg_len, 2018, 2, out, n + more, &length), 0);
+    IS(length, n);
+    IS(memcmp(out, file, n) == 0, 1);
+    IS(all(out + n, more, 9), 1);
+    return out;
+}
+
+/* Three events: their cancellation file is written into outputs of its length and of more bytes, and not into shorter
+   ones; then what was written is submitted, and the register is as before the events. */
+static void undone(const char *folder) {
+    static const char events[] =
+        "<Rivalutazione data=\"2018-06-30\" motivo=\"1\" confermaPrecedente=\"1\"></Rivalutazione>"
+        VISIT("05-02", "13", " numAccessi=\"3\"")
+        "<Sospensione dataInizio=\"2018-05-03\" dataFine=\"2018-05-05\"><Motivazione>9</Motivazione></Sospensione>";
+    enum { CONFERMA = SIAD_HEADER_BYTES + SIAD_ROW_BYTES + 89 }; /* its byte in the first event's row (R28) */
+    size_t n, file_n, len = SIAD_REGISTER_BYTES(4);
+    uint8_t *sub = submission(folder, "case_twice", &n), *file = events_of_case('C', events, &file_n);
+    uint8_t *reg = filled(len, 0), *before = filled(len, 0), *after = filled(len, 0);
+    uint64_t length = 77;
+    cancels_not(reg, len, 2018, 2, file_n, SIAD_NOT_FOUND);
+    submits(sub, n, 1, reg, 4, 2, SIAD_ACCEPTED, SIAD_STANDS);
+    memcpy(before, reg, len);
+    cancels_not(reg, len, 2018, 2, file_n, SIAD_NOTHING_IN_QUARTER);
+    sends(reg, 'I', events, SIAD_ACCEPTED);
+    memcpy(after, reg, len);
+    cancels_not(reg, len, 2008, 2, file_n, SIAD_BAD_PERIOD);
+    cancels_not(reg, len, ~0ull, ~0ull, file_n, SIAD_BAD_PERIOD);
+    cancels_not(reg, SIAD_HEADER_BYTES - 1, 2018, 2, file_n, SIAD_UNSOUND);
+    cancels_not(reg, len, 2018, 3, file_n, SIAD_NOTHING_IN_QUARTER);
+    cancels_not(reg, len, 2018, 2, file_n - 1, SIAD_SHORT_OUTPUT);
+    cancels_not(reg, len, 2018, 2, 0, SIAD_SHORT_OUTPUT);
+    IS(cancel(reg, len, 2018, 2, NULL, 0, &length), SIAD_SHORT_OUTPUT);
+    IS(length, 0);
+    IS(reg[CONFERMA], 0x40);
+    reg[CONFERMA] = 0x80; /* confermaPrecedente 2 */
+    IS(siad_sound(reg, len), 0);
+    cancels_not(reg, len, 2018, 2, file_n, SIAD_REPLACES);
+    reg[CONFERMA] = 0x40;
+    uint8_t *out = cancels(reg, len, file, file_n, 0);
+    free(cancels(reg, len, file, file_n, 1));
+    free(cancels(reg, len, file, file_n, SIAD_MOST_CANCEL_BYTES - file_n));
+    IS(memcmp(reg, after, len) == 0, 1);
+    submits(out, file_n, 2, reg, 4, 1, SIAD_ACCEPTED, 9);
+    IS(memcmp(reg, before, len) == 0, 1);
+    free(sub);
+    free(file);
+    free(out);
+    free(reg);
+    free(before);
+    free(after);
+}
+
 /* NULL with length 0, as siad.h tells: answered as an empty buffer is. */
 static void nulls(const char *folder) {
     size_t n, len = SIAD_REGISTER_BYTES(1);
     uint8_t *sub = submission(folder, "case_twice", &n), *reg = filled(len, 0);
-    uint64_t report[SIAD_REPORT], place = 77;
+    uint64_t report[SIAD_REPORT], place = 77, length = 77;
     IS(siad_empty(NULL, 0), SIAD_UNSOUND);
     IS(siad_sound(NULL, 0), SIAD_UNSOUND);
     IS(siad_find(NULL, 0, NULL, 0, NULL, 0, NULL, 0, NULL, 0, &place), SIAD_UNSOUND);
     IS(siad_find(reg, len, NULL, 0, NULL, 0, NULL, 0, NULL, 0, &place), SIAD_NOT_FOUND);
     IS(place, 0);
+    IS(siad_cancel_file(NULL, 0, NULL, 0, NULL, 0, NULL, 0, NULL, 0, 2018, 2, NULL, 0, &length), SIAD_UNSOUND);
+    IS(siad_cancel_file(reg, len, NULL, 0, NULL, 0, NULL, 0, NULL, 0, 2018, 2, NULL, 0, &length), SIAD_NOT_FOUND);
+    IS(length, 0);
     IS(siad_submit(NULL, 0, 1, 2018, 2, NULL, 0, NULL, 0, report), SIAD_UNSOUND);
     IS(siad_submit(NULL, 0, 1, 2018, 2, reg, len, NULL, 0, report), SIAD_NOT_MARKUP);
     IS(siad_submit(sub, n, 1, 2018, 2, reg, len, NULL, 0, report), SIAD_SHORT_LIST);
@@ -287,7 +366,7 @@ static void words(void) {
         int of_file = n >= SIAD_BAD_PERIOD && n <= SIAD_SHORT_LIST;
         int of_record = (n >= SIAD_OUTSIDE_QUARTER && n <= SIAD_STANDS_NOT) || n == SIAD_NO_ROOM ||
                         (n >= SIAD_NO_EVENT && n <= SIAD_AFTER_CONCLUSION);
-        int answer = of_file || of_record || n == SIAD_NOT_FOUND;
+        int answer = of_file || of_record || (n >= SIAD_NOT_FOUND && n <= SIAD_SHORT_OUTPUT);
         IS(words_of(n, NULL) != NULL, answer);
     }
     IS(SIAD_REGISTER_BYTES(160), 14564);
@@ -304,6 +383,7 @@ int main(int argc, char **argv) {
     taken(argv[1], SIAD_REGISTER_BYTES(160), SIAD_ACCEPTED, SIAD_STANDS);
     carried_away(argv[1]);
     two_operators(argv[1]);
+    undone(argv[1]);
     nulls(argv[1]);
     words();
     puts(bad ? "FAILED" : "ok");

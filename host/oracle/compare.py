@@ -7,7 +7,7 @@ from datetime import date
 import oracle as O
 
 CALLER = subprocess.Popen(os.environ["CALLER"].split(), stdin=subprocess.PIPE, stdout=subprocess.PIPE)
-EMPTY, SOUND, FIND, SUBMIT = range(4)
+EMPTY, SOUND, FIND, SUBMIT, CANCEL_FILE = range(5)
 GUARD = bytes((i * 37 + 11) & 255 for i in range(64))
 
 
@@ -184,6 +184,19 @@ def check_find(reg, texts):
     C["find %d" % mine[0]] += 1
     if mine != theirs or not g or b.get() != (reg, True) or any(t.get() != (x, True) for t, x in zip(ts, texts)):
         diff("find", (reg, *texts), mine, theirs)
+
+
+def check_cancel_file(reg, texts, year, quarter, out):
+    mine = O.cancel_file(reg, *texts, year, quarter, out)
+    b, ts, o, n = Buf(reg), [Buf(t) for t in texts], Buf(out), Buf(b"\xA5" * 8)
+    got = call(CANCEL_FILE, (b, *ts, o, n), (year, quarter))
+    (after, g1), (length, g2) = o.get(), n.get()
+    theirs = (got, int.from_bytes(length, "little"), after)
+    C["cancel_file"] += 1
+    C["cancel_file %d" % mine[0]] += 1
+    if mine != theirs or not (g1 and g2) or b.get() != (reg, True) or any(t.get() != (x, True) for t, x in zip(ts, texts)):
+        diff("cancel_file", (reg, *texts, year, quarter, out), mine, theirs + (g1, g2))
+    return mine
 
 
 def check_empty(reg):

@@ -12,8 +12,15 @@ P=2**56-5; out=[]
 def standing(reg):
     if len(reg)>=4: out.append("cases %d events %d"%(int.from_bytes(reg[:2],'big'),int.from_bytes(reg[2:4],'big')))
     out.append("sum %d"%(int.from_bytes(reg,'big')%P))
+def submit(sub,track,year,quarter):
+    global reg
+    a,num,r,acc,dis,reg,ans=oracle.submit(sub,int(track),int(year),int(quarter),reg,bytes(lst))
+    out.append("file %d %d records %d accepted %d discarded %d"%(a,num,r,acc,dis))
+    for i in range(r): out.append("%d %d"%(i+1,ans[i]))
+    standing(reg)
+def key(region,asl,when,ident): return region.encode(),asl.encode(),when.encode(),(ident*88 if len(ident)==1 else ident).encode()
 for name in open(ROOT+'/args').read().split():
-    out.append(name+":"); reg=bytes(4); lst=512
+    out.append(name+":"); reg=bytes(4); lst=512; before=after=b""; length=0      # before, after: the output of the last `cancel`
     for line in open(D+name).read().splitlines():
         out.append("> "+line); w=line.split(' ')
         if w[0]=='rows': reg=bytes(4+91*int(w[1]))
@@ -25,16 +32,18 @@ for name in open(ROOT+'/args').read().split():
             if w[0]=='padded': n=int(w.pop(1))
             sub=open(D+w[4],'rb').read()
             if n: sub=sub.ljust(n)
-            a,num,r,acc,dis,reg,ans=oracle.submit(sub,int(w[1]),int(w[2]),int(w[3]),reg,bytes(lst))
-            out.append("file %d %d records %d accepted %d discarded %d"%(a,num,r,acc,dis))
-            for i in range(r): out.append("%d %d"%(i+1,ans[i]))
-            standing(reg)
+            submit(sub,*w[1:4])
         elif w[0]=='sound': out.append("answer %d"%oracle.sound(reg))
         elif w[0]=='empty':
             a,reg=oracle.empty(reg); out.append("answer %d"%a); standing(reg)
         elif w[0]=='find':
-            idr=w[4]*88 if len(w[4])==1 else w[4]
-            a,p=oracle.find(reg,w[1].encode(),w[2].encode(),w[3].encode(),idr.encode()); out.append("answer %d place %d"%(a,p))
+            a,p=oracle.find(reg,*key(*w[1:5])); out.append("answer %d place %d"%(a,p))
+        elif w[0]=='cancel':
+            before=bytes(i%251 for i in range(int(w[1])))
+            a,length,after=oracle.cancel_file(reg,*key(*w[2:6]),int(w[6]),int(w[7]),before); out.append("answer %d length %d"%(a,length))
+        elif w[0]=='text':                                   # the file's bytes, and behind them what stood there
+            text=open(D+w[1],'rb').read(); out.append("same" if after==text+before[len(text):] and length==len(text) else "differs")
+        elif w[0]=='undo': submit(after[:length],2,*w[1:3])
 said = "".join(l + "\n" for l in out)
 with open(ROOT + "/stdout") as f:
     same = f.read() == said

@@ -599,19 +599,41 @@ def sound(reg):
     return 3 if load(reg) is None else 0
 
 
+def case_named(r, region, asl, when, ident):
+    """The key, or None. C10: "where a text is not allowed or the case doesn't stand" """
+    if not (is_region(region) and is_asl(asl) and is_date(when) and is_id(ident)):
+        return None
+    k = (int(region), asl, day(when), ident)
+    return k if k in r.cases else None
+
+
 def find(reg, region, asl, when, ident):
     r = load(reg)
     if r is None:
         return 3, 0
-    if not (is_region(region) and is_asl(asl) and is_date(when) and is_id(ident)):
-        return 30, 0
-    k = (int(region), asl, day(when), ident)
-    if k not in r.cases:
+    k = case_named(r, region, asl, when, ident)
+    if k is None:
         return 30, 0
     return 0, 4 + ROW * sorted(r.cases).index(k)             # C11: "the first case's being 4"
 
 
 # ------------------------------------------------------------------ records judged and applied
+def is_period(year, quarter):
+    return 2009 <= year <= 2099 and 1 <= quarter <= 4        # D5: "a year from 2009 to 2099 and a quarter from 1 to 4"
+
+
+def days_of(year, quarter):
+    """D6: "all days of the months 3q - 2 to 3q"; whether a day is one of them"""
+    first = date(year, 3 * quarter - 2, 1).toordinal() - DAY0
+    following = (date(year, 3 * quarter + 1, 1) if quarter < 4 else date(year + 1, 1, 1)).toordinal() - DAY0
+    return lambda d: first <= d < following
+
+
+def day_held(e):
+    """A10: the day that is held to the quarter: "of a Sospensione `dataFine`, .. or `dataInizio` where it has no end" """
+    return e[3] if e[0] == SOS and e[3] != NO_END else e[1]
+
+
 def standing(r):
     return len(r.cases) + sum(map(len, r.events.values()))
 
@@ -657,9 +679,8 @@ def apply2(r, rec, in_quarter):
     evs = [e for e, _ in pairs]
     if not evs:                                              # A20: "the record has no event"
         return 20
-    for e in evs:                                            # A10: "of a Sospensione `dataFine`, .. or `dataInizio` where it has no end"
-        if not in_quarter(e[3] if e[0] == SOS and e[3] != NO_END else e[1]):
-            return 10
+    if not all(in_quarter(day_held(e)) for e in evs):        # A10
+        return 10
     for e, v in pairs:                                       # A21: "a Rivalutazione has conferma 1 and a Valutazione, or 2 and none"
         if e[0] == RIV and (e[5] == 1) == (v is not None):
             return 21
@@ -696,7 +717,7 @@ def apply2(r, rec, in_quarter):
 def submit(sub, track, year, quarter, reg, answers):
     """-> (answer, record number, records, accepted, discarded, register after, answer list after)"""
     refuse = lambda a, n=0: (a, n, 0, 0, 0, reg, answers)    # G4: "With 1 to 8 all three counts are 0, and no byte of register or answer list changes"
-    if not 2009 <= year <= 2099 or not 1 <= quarter <= 4:
+    if not is_period(year, quarter):
         return refuse(1)
     if track not in (1, 2):
         return refuse(2)
@@ -718,16 +739,64 @@ def submit(sub, track, year, quarter, reg, answers):
                 return refuse(7, n)
     if len(answers) < len(records):
         return refuse(8)
-    first = date(year, 3 * quarter - 2, 1).toordinal() - DAY0
-    following = (date(year, 3 * quarter + 1, 1) if quarter < 4 else date(year + 1, 1, 1)).toordinal() - DAY0
-    in_quarter = lambda d: first <= d < following
+    in_quarter = days_of(year, quarter)
     judge = apply1 if track == 1 else apply2
     got = bytes(judge(r, rec, in_quarter) for rec in records)   # G7: "Records are taken in file order"
     accepted = got.count(0)
     return 0, 0, len(records), accepted, len(records) - accepted, store(r, len(reg)), got + answers[len(got):]
 
 
-if __name__ == "__main__":                                   # P1, P5 and P6; E2's rows, worked out by hand
+# ------------------------------------------------------------------ E3: "A cancellation file written from the register"
+def written(n):
+    return date.fromordinal(n + DAY0).isoformat().encode()   # D3: "exactly AAAA-MM-GG"
+
+
+def event_text(e):
+    """E3: "the schema's spelling of codes"; numAccessi where the row has one, dataFine likewise, since A10 looks at it; never `<X/>`"""
+    kind, when, code, end, accesses, _ = e
+    when, code = written(when), b"%d" % code
+    if kind == RIV:
+        return b'<Rivalutazione data="%s" motivo="%s" confermaPrecedente="1"></Rivalutazione>' % (when, code)
+    if kind == ERO:
+        return b'<Erogazione data="%s"%s><TipoOperatore>%s</TipoOperatore></Erogazione>' % (when, b' numAccessi="%d"' % accesses if accesses else b"", code)
+    if kind == SOS:
+        fine = b"" if end == NO_END else b' dataFine="%s"' % written(end)
+        return b'<Sospensione dataInizio="%s"%s><Motivazione>%s</Motivazione></Sospensione>' % (when, fine, code)
+    return b'<Conclusione dataAD="%s"><Motivazione>%s</Motivazione></Conclusione>' % (when, code)
+
+
+def record_text(region, asl, when, ident, evs):
+    """E3: "given a case key": the four texts, which are written as they were lent"""
+    return (b'<Assistenza><Trasmissione tipo="C"></Trasmissione><Erogatore><CodiceRegione>%s</CodiceRegione><CodiceASL>%s</CodiceASL></Erogatore>'
+            b'<Eventi><PresaInCarico data="%s"><Id_Rec>%s</Id_Rec></PresaInCarico>%s</Eventi></Assistenza>'
+            % (region, asl, when, ident, b"".join(map(event_text, evs))))
+
+
+def cancel_file(reg, region, asl, when, ident, year, quarter, out):
+    """-> (answer, length, output after); the first refusal of 1, 3, 30, 31, 32, 33"""
+    refuse = lambda a: (a, 0, out)                           # E3: "output untouched"
+    if not is_period(year, quarter):
+        return refuse(1)
+    r = load(reg)
+    if r is None:
+        return refuse(3)
+    k = case_named(r, region, asl, when, ident)
+    if k is None:                                            # E3: "case not standing"; nor does one with a text that is not allowed
+        return refuse(30)
+    in_quarter = days_of(year, quarter)                      # E3: "every event of the case that check 10 places in the quarter", in the rows' order
+    evs = [e for _, e in sorted(r.events[k].items()) if in_quarter(day_held(e))]
+    if any(e[0] == RIV and e[5] == 2 for e in evs):          # E3: "among those events": by A21 conferma 2 wants a Valutazione, which isn't kept (V9)
+        return refuse(31)
+    if not evs:                                              # there is none
+        return refuse(32)
+    records = [evs[i:i + 128] for i in range(0, len(evs), 128)]   # E3: "128 to each record but the last"
+    text = b"<FlsAssDom_2>%s</FlsAssDom_2>" % b"".join(record_text(region, asl, when, ident, x) for x in records)
+    if len(out) < len(text):                                 # the output has no room for it
+        return refuse(33)
+    return 0, len(text), text + out[len(text):]              # E3: "bytes past it stay"
+
+
+if __name__ == "__main__":                                   # P1, P5 and P6; E2's rows and E3's file, worked out by hand
     assert LAST_DAY == 73048 and day(b"2000-02-29") == 36583 and day(b"1900-02-29") is None
     k = (10, b"101", day(b"2018-05-01"), b"A" * 88)
     assert pack_case(k, (1950, b"123", (0,) * 6))[:6].hex() == "0a62c18aa34e"
@@ -741,4 +810,27 @@ if __name__ == "__main__":                                   # P1, P5 and P6; E2
     of = lambda *evs: sound(bytes([0, 1, 0, len(evs)]) + pack_case(k, (1950, b"123", (0,) * 6)) + b"".join(pack_event(k, e) for e in evs))
     assert of(one, two, stop) == 0 and of(two, one) == of(two, two) == of(stop, two) == of((RIV, may(2), 1, NO_END, 0, 1), (RIV, may(2), 2, NO_END, 0, 1)) == 3
     assert sound(bytes(4)) == 0 and sound(bytes(3)) == 3 and room(bytes(94)) == 0 and room(bytes(95)) == 1
+    # E3's file, each kind with and without what is optional
+    case, key = pack_case(k, (1950, b"123", (0,) * 6)), (b"010", b"101", b"2018-05-01", b"A" * 88)
+    held = lambda *evs: (bytes([0, 1, 0, len(evs)]) + case + b"".join(pack_event(k, e) for e in evs)).ljust(1000, b"\0")
+    plain, last, many = (RIV, may(31), 2, NO_END, 0, 1), (CON, may(31), 97, NO_END, 0, 0), (ERO, may(31), 99, NO_END, 99, 0)
+    reg = held(plain, two, (ERO, may(2), 13, NO_END, 0, 0), many, stop, (SOS, may(31), 1, NO_END, 0, 0), last)
+    file = (b'<FlsAssDom_2><Assistenza><Trasmissione tipo="C"></Trasmissione>'
+            b'<Erogatore><CodiceRegione>010</CodiceRegione><CodiceASL>101</CodiceASL></Erogatore><Eventi><PresaInCarico data="2018-05-01"><Id_Rec>'
+            b'AAAAAAAAAAAAAAAAAAAAAAAAAAAAAAAAAAAAAAAAAAAAAAAAAAAAAAAAAAAAAAAAAAAAAAAAAAAAAAAAAAAAAAAA</Id_Rec></PresaInCarico>'
+            b'<Rivalutazione data="2018-05-31" motivo="2" confermaPrecedente="1"></Rivalutazione>'
+            b'<Erogazione data="2018-05-02" numAccessi="3"><TipoOperatore>2</TipoOperatore></Erogazione>'
+            b'<Erogazione data="2018-05-02"><TipoOperatore>13</TipoOperatore></Erogazione>'
+            b'<Erogazione data="2018-05-31" numAccessi="99"><TipoOperatore>99</TipoOperatore></Erogazione>'
+            b'<Sospensione dataInizio="2018-05-03" dataFine="2018-05-05"><Motivazione>9</Motivazione></Sospensione>'
+            b'<Sospensione dataInizio="2018-05-31"><Motivazione>1</Motivazione></Sospensione>'
+            b'<Conclusione dataAD="2018-05-31"><Motivazione>97</Motivazione></Conclusione></Eventi></Assistenza></FlsAssDom_2>')
+    assert cancel_file(reg, *key, 2018, 2, bytes(len(file)) + b"past") == (0, len(file), file + b"past")
+    assert len(file) == 27 + 317 + 83 + 90 + 76 + 92 + 101 + 79 + 76
+    assert submit(file, 2, 2018, 2, reg, b"??") == (0, 0, 1, 1, 0, held(), b"\0?")
+    answer = lambda reg, quarter, out=bytes(900), texts=key: cancel_file(reg, *texts, 2018, quarter, out)[0]
+    over = held((RIV, may(2), 1, NO_END, 0, 2), (SOS, day(b"2018-06-30"), 3, day(b"2018-07-01"), 0, 0))     # conferma 2; and over the quarter's end
+    assert [answer(over, q) for q in (2, 3, 4)] == [31, 0, 32] and cancel_file(reg, *key, 2018, 2, file[1:]) == (33, 0, file[1:])
+    assert answer(over[:-900], 5) == 1 and answer(over[:-900], 2, b"", (b"10", *key[1:])) == 3      # the first of two or three that hold
+    assert answer(over, 2, b"", (b"10", *key[1:])) == 30 and answer(over, 2, b"") == 31 and answer(over, 4, b"") == 32
     print("ok")

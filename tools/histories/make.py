@@ -218,6 +218,57 @@ F["after_a_cancelled_inserted"] = f1(t1(AFTER_A, "C"), t1(AFTER_A))
 F["depth_12"] = "<D>" * 11 + "<D/>" + "</D>" * 11 + "\n"
 F["depth_13"] = "<D>" * 12 + "<D/>" + "</D>" * 12 + "\n"
 
+# ---- cancellation files (docs/CANCELLATION.md): the case's texts as they are lent, events in the register's order, 128 to a record
+def xr1(date, motivo=1): return f'<Rivalutazione data="{date}" motivo="{motivo}" confermaPrecedente="1"></Rivalutazione>'
+def undone(events, id="A"):
+    head = ('<Assistenza><Trasmissione tipo="C"></Trasmissione><Erogatore><CodiceRegione>010</CodiceRegione><CodiceASL>101</CodiceASL></Erogatore>'
+      f'<Eventi><PresaInCarico data="2018-05-01"><Id_Rec>{ident(id)}</Id_Rec></PresaInCarico>')
+    records = [head + "".join(events[i:i + 128]) + "</Eventi></Assistenza>" for i in range(0, len(events), 128)]
+    text = "<FlsAssDom_2>" + "".join(records) + "</FlsAssDom_2>"
+    assert len(text) == 27 + 317 * len(records) + sum(map(len, events))
+    return text
+F["nothing"] = ""
+# written out by hand
+F["undo_visit"] = (
+ '<FlsAssDom_2><Assistenza><Trasmissione tipo="C"></Trasmissione><Erogatore><CodiceRegione>010</CodiceRegione><CodiceASL>101</CodiceASL></Erogatore><Eventi>'
+ '<PresaInCarico data="2018-05-01"><Id_Rec>AAAAAAAAAAAAAAAAAAAAAAAAAAAAAAAAAAAAAAAAAAAAAAAAAAAAAAAAAAAAAAAAAAAAAAAAAAAAAAAAAAAAAAAA</Id_Rec></PresaInCarico>'
+ '<Erogazione data="2018-05-02" numAccessi="3"><TipoOperatore>2</TipoOperatore></Erogazione></Eventi></Assistenza></FlsAssDom_2>')
+F["undo_every_kind"] = (
+ '<FlsAssDom_2><Assistenza><Trasmissione tipo="C"></Trasmissione><Erogatore><CodiceRegione>010</CodiceRegione><CodiceASL>101</CodiceASL></Erogatore><Eventi>'
+ '<PresaInCarico data="2018-05-01"><Id_Rec>AAAAAAAAAAAAAAAAAAAAAAAAAAAAAAAAAAAAAAAAAAAAAAAAAAAAAAAAAAAAAAAAAAAAAAAAAAAAAAAAAAAAAAAA</Id_Rec></PresaInCarico>'
+ '<Rivalutazione data="2018-05-01" motivo="2" confermaPrecedente="1"></Rivalutazione>'
+ '<Rivalutazione data="2018-06-30" motivo="1" confermaPrecedente="1"></Rivalutazione>'
+ '<Erogazione data="2018-05-02" numAccessi="1"><TipoOperatore>9</TipoOperatore></Erogazione>'
+ '<Erogazione data="2018-05-02"><TipoOperatore>10</TipoOperatore></Erogazione>'
+ '<Erogazione data="2018-05-02" numAccessi="99"><TipoOperatore>99</TipoOperatore></Erogazione>'
+ '<Erogazione data="2018-06-09" numAccessi="10"><TipoOperatore>1</TipoOperatore></Erogazione>'
+ '<Sospensione dataInizio="2018-05-10" dataFine="2018-05-19"><Motivazione>9</Motivazione></Sospensione>'
+ '<Sospensione dataInizio="2018-06-29"><Motivazione>1</Motivazione></Sospensione>'
+ '<Conclusione dataAD="2018-06-30"><Motivazione>99</Motivazione></Conclusione>'
+ '</Eventi></Assistenza></FlsAssDom_2>')
+assert F["undo_visit"] == undone([xv("2018-05-02", 2, 3)]) and len(F["undo_visit"]) == 27 + 317 + 90
+KIND = [xr1("2018-05-01", 2), xr1("2018-06-30"), xv("2018-05-02", 9, 1), xv("2018-05-02", 10), xv("2018-05-02", 99, 99), xv("2018-06-09", 1, 10),
+  xs("2018-05-10", "2018-05-19", 9), xs("2018-06-29"), xc("2018-06-30", 99)]
+assert F["undo_every_kind"] == undone(KIND) and [len(e) for e in KIND] == [83, 83, 90, 76, 92, 91, 101, 79, 76]
+F["every_kind"] = f2(t2(KIND))
+F["undo_visit_varied"] = undone([xv("2018-05-02", 2, 7)])
+F["undo_visit_2018_06_30"] = undone([xv("2018-06-30")])
+F["undo_visit_2018_07_01"] = undone([xv("2018-07-01")])
+F["undo_suspension_june_to_july"] = undone([xs("2018-06-28", "2018-07-02")])
+F["undo_suspension_without_end"] = undone([xs("2018-05-10")])
+F["revaluation_2_cancelled"] = f2(t2([xr("2018-05-10", 1, 2, valut("250"))], tipo="C"))
+F["events_of_b_undone"] = undone([xr1("2018-05-10"), xv("2018-05-02")], "B")
+# 257 events of a quarter: a Rivalutazione and three visits on each of 61 days, twelve suspensions, a conclusion
+THREE = [(d, code) for d in DAYS for code in (1, 2, 13)]
+E257 = [xr1(d) for d in DAYS] + [xv(d, code) for d, code in THREE] + [xs(d, d) for d in DAYS[:12]] + [xc("2018-06-30")]
+assert len(E257) == 257
+F["events_1_to_127"], F["event_128"], F["event_129"], F["events_130_to_257"] = [f2(t2(E257[a:b])) for a, b in ((0, 127), (127, 128), (128, 129), (129, 257))]
+for n in (127, 128, 129, 257): F["undo_%d_events" % n] = undone(E257[:n])
+# events of A in three quarters, the last days of a year and of a February among them, and of B beside them
+Q4, Q1, LEAP = ["2018-12-31"], ["2019-01-01", "2019-03-31"], ["2020-02-28", "2020-02-29", "2020-03-01"]
+F["visits_a_b_2018_12_31"], F["visits_a_b_2019_1"], F["visits_a_b_2020_1"] = [f2(t2([xv(d) for d in ds]), t2([xv(d) for d in ds], "B")) for ds in (Q4, Q1, LEAP)]
+F["undo_2018_12_31"], F["undo_2019_1"], F["undo_2020_1"] = [undone([xv(d) for d in ds]) for ds in (Q4, Q1, LEAP)]
+
 A, B = case("A"), case("B")
 AV = case("A", 1941, "4019")
 V2, V7 = visit("2018-05-02", 2, 3), visit("2018-05-02", 7)
@@ -243,6 +294,13 @@ def sub(track, f, exp, year=2018, quarter=2): return ("submit %d %d %d files/%s.
 def note(t): return ("# " + t, [])
 def ans(n): return ["answer %d" % n]
 def at(n, p): return ["answer %d place %d" % (n, p)]
+def cancel(room, exp, year=2018, quarter=2, texts="010 101 2018-05-01 A"): return ("cancel %d %s %d %d" % (room, texts, year, quarter), exp)
+def long(n, length): return ["answer %d length %d" % (n, length)]
+def text(f): return ("text files/%s.xml" % f, ["same"])
+def undo(exp, year=2018, quarter=2): return ("undo %d %d" % (year, quarter), exp)
+# a file that is written, into an output of its length and so many bytes more; none is written, and no byte of the output changes
+def writes(f, more=0, **k): return [cancel(len(F[f]) + more, long(0, len(F[f])), **k), text(f)]
+def writes_none(n, room=1000, **k): return [cancel(room, long(n, 0), **k), text("nothing")]
 exec(open(os.path.join(HERE, "scripts.py")).read())
 
 if __name__ == "__main__":

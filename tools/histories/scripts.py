@@ -48,10 +48,11 @@ script("answers/17_no_room", note("room for one row: a second case, an event"), 
   sub(1, "case_a", taken([0], rows(1, [A]))), sub(1, "case_b", taken([17], rows(1, [A]))), sub(2, "visit", taken([17], rows(1, [A]))))
 
 # ---- records, Track 2
+R12 = reval("2018-05-10", 1, 2)
 script("answers/20_no_event", note("tested first: the case does not stand either"), ("rows 4", []), sub(2, "no_event", taken([20], rows(4))))
 with_case("answers/21_conferma", note("confermaPrecedente 1 with a Valutazione; 2 without; 2 with one is accepted"),
   sub(2, "revaluation_1_with", taken([21], rows(4, [A]))), sub(2, "revaluation_2_without", taken([21], rows(4, [A]))),
-  sub(2, "revaluation_2_with", taken([0], rows(4, [A], [reval("2018-05-10", 1, 2)]))))
+  sub(2, "revaluation_2_with", taken([0], rows(4, [A], [R12]))))
 with_case("answers/22_key_twice", note("in one record: two visits of a day by one operator; two Rivalutazioni of a day, two Sospensioni from one, whatever the code"),
   sub(2, "visit_twice", taken([22], rows(4, [A]))), sub(2, "revaluations_on_one_day", taken([22], rows(4, [A]))), sub(2, "suspensions_from_05_03", taken([22], rows(4, [A]))),
   note("two operators on one day are two visits"), sub(2, "visits_on_one_day", taken([0], rows(4, [A], [V2, V7]))))
@@ -71,6 +72,21 @@ with_case("answers/28_after_the_conclusion", note("a visit on the day after the 
 script("answers/30_not_found", note("found; another Id_Rec; texts that no case has: a region, an ASL, a date, an Id_Rec of two characters"), ("load registers/case_a", []),
   ("find 010 101 2018-05-01 A", at(0, 4)), ("find 010 101 2018-05-01 B", at(30, 0)), ("find 011 101 2018-05-01 A", at(30, 0)), ("find 010 10 2018-05-01 A", at(30, 0)),
   ("find 010 101 2018-02-30 A", at(30, 0)), ("find 010 101 2018-05-01 AA", at(30, 0)))
+
+with_case("answers/31_replaces_the_evaluation", note("a Rivalutazione with confermaPrecedente 2 in the quarter: its Valutazione isn't kept, so no cancellation is written"),
+  sub(2, "visit", taken([0], rows(4, [A], [V2]))), sub(2, "revaluation_2_with", taken([0], rows(4, [A], [R12, V2]))), *writes_none(31), *writes_none(31, 0),
+  note("the third quarter has none, and its file is written"), sub(2, "visit_2018_07_01", taken([0], rows(4, [A], [R12, V2, visit("2018-07-01")])), quarter=3),
+  *writes("undo_visit_2018_07_01", quarter=3), undo(taken([0], rows(4, [A], [R12, V2])), quarter=3),
+  note("the Rivalutazione is cancelled with its Valutazione: what is left of the second quarter is written"),
+  sub(2, "revaluation_2_cancelled", taken([0], rows(4, [A], [V2]))), *writes("undo_visit"), undo(taken([0], rows(4, [A]))))
+with_case("answers/32_nothing_in_the_quarter", note("a case without events; then one event, of the second quarter's last day: none in the first, none in the third, nor in another year's"),
+  *writes_none(32), *writes_none(32, 0), sub(2, "visit_2018_06_30", taken([0], rows(4, [A], [visit("2018-06-30")]))),
+  *writes_none(32, quarter=1), *writes_none(32, quarter=3), *writes_none(32, year=2017), *writes_none(32, year=2019), *writes("undo_visit_2018_06_30"))
+UNDO = len(F["undo_visit"])
+with_case("answers/33_output_too_short", note("one byte too short, and none: nothing is written; the file's length is enough, and what is behind it stays"),
+  sub(2, "visit", taken([0], rows(4, [A], [V2]))), *writes_none(33, UNDO - 1), *writes_none(33, 0), *writes("undo_visit"), *writes("undo_visit", 1),
+  note("a file as long, with one byte that isn't the same"), ("text files/undo_visit_varied.xml", ["differs"]),
+  note("an output of 423,766 bytes is long enough for every file"), *writes("undo_visit", 423766 - UNDO))
 
 # ---- histories
 JULY = [V2, susp("2018-06-28", "2018-07-02")]
@@ -246,3 +262,60 @@ script("histories/the_first_that_holds", note("files to which two answers would 
   sub(1, "prevalente_000", taken([13], A1)), sub(1, "case_a", taken([14], A1)),
   note("Track 2, with no room: 25 and 26 before 17"),
   sub(2, "visit_2018_04_30", taken([25], A1)), sub(2, "suspensions_share_05_05", taken([26], A1)), sub(2, "visit", taken([17], A1)))
+
+# ---- a cancellation file written from the register (E3)
+with_case("histories/undo_1_event", note("a visit: its cancellation is written and submitted, and the register is as before; then nothing is left to write"),
+  sub(2, "visit", taken([0], rows(4, [A], [V2]))), *writes("undo_visit"), undo(taken([0], rows(4, [A]))), ("sound", ans(0)), *writes_none(32),
+  note("of a varied visit it is the new one; declared for another quarter 10, submitted twice 15; inserted again it stands as before"),
+  sub(2, "visit", taken([0], rows(4, [A], [V2]))), sub(2, "visit_varied", taken([0], rows(4, [A], [VV]))), *writes("undo_visit_varied"),
+  undo(taken([10], rows(4, [A], [VV])), quarter=3), undo(taken([0], rows(4, [A]))), undo(taken([15], rows(4, [A]))), sub(2, "visit", taken([0], rows(4, [A], [V2]))))
+EVERY_KIND = [reval("2018-05-01", 2), reval("2018-06-30"), visit("2018-05-02", 9, 1), visit("2018-05-02", 10), visit("2018-05-02", 99, 99), visit("2018-06-09", 1, 10),
+  susp("2018-05-10", "2018-05-19", 9), susp("2018-06-29"), concl("2018-06-30", 99)]
+script("histories/undo_every_kind", note("every kind of event, codes and accesses of one digit and of two, with and without accesses and end: no byte besides"), ("rows 10", []),
+  sub(1, "case_a", taken([0], rows(10, [A]))), sub(2, "every_kind", taken([0], rows(10, [A], EVERY_KIND))),
+  *writes("undo_every_kind"), undo(taken([0], rows(10, [A]))), ("sound", ans(0)))
+MOST = [reval(d) for d in DAYS] + [visit(d, code) for d, code in THREE] + [susp(d, d) for d in DAYS[:12]] + [concl("2018-06-30")]
+STEPS = {127: "events_1_to_127", 128: "event_128", 129: "event_129", 257: "events_130_to_257"}
+def of_many(n): return rows(258, [A], MOST[:n])
+def with_many(n, what, *steps):
+    script("histories/undo_%d_events" % n, note(what), ("rows 258", []), sub(1, "case_a", taken([0], of_many(0))),
+      *[sub(2, f, taken([0], of_many(k))) for k, f in STEPS.items() if k <= n],
+      *writes_none(33, len(F["undo_%d_events" % n]) - 1), *writes("undo_%d_events" % n), *steps, ("sound", ans(0)), *writes_none(32))
+with_many(127, "127 events: one record", undo(taken([0], of_many(0))))
+with_many(128, "128 events: one record, as many as it may have", undo(taken([0], of_many(0))))
+with_many(129, "129 events: the second record has one", undo(taken([0, 0], of_many(0))))
+with_many(257, "257 events: records of 128, 128 and 1; the answer list must have three bytes", ("list 2", []), undo(refused(8, of_many(257))), ("list 3", []),
+  undo(taken([0, 0, 0], of_many(0))), undo(taken([15, 15, 15], of_many(0))))
+S67 = susp("2018-06-28", "2018-07-02")
+with_case("histories/undo_a_suspension_over_two_quarters", note("begun in June and ended in July, it is the third quarter's: of the second only the visit is written, then nothing"),
+  sub(2, "suspension_june_to_july", taken([0], rows(4, [A], [S67])), quarter=3), sub(2, "visit", taken([0], rows(4, [A], [V2, S67]))),
+  *writes("undo_visit"), undo(taken([0], rows(4, [A], [S67]))), *writes_none(32),
+  *writes("undo_suspension_june_to_july", quarter=3), undo(taken([0], rows(4, [A])), quarter=3),
+  note("without end it is that of its begin"), sub(2, "suspension_without_end", taken([0], rows(4, [A], [susp("2018-05-10")]))),
+  *writes_none(32, quarter=3), *writes("undo_suspension_without_end"), undo(taken([0], rows(4, [A]))), ("sound", ans(0)))
+def both(*quarters): return [visit(d, id=id) for id, qs in zip("AB", quarters) for d in sum(qs, [])]
+def twelve(*quarters): return rows(14, [A, B], both(*quarters))
+ALL3 = [Q4, Q1, LEAP]
+script("histories/undo_quarter_by_quarter", note("cases A and B with the same events in three quarters of three years"), ("rows 14", []),
+  sub(1, "case_a", taken([0], rows(14, [A]))), sub(1, "case_b", taken([0], rows(14, [A, B]))),
+  sub(2, "visits_a_b_2020_1", taken([0, 0], twelve([LEAP], [LEAP])), 2020, 1), sub(2, "visits_a_b_2018_12_31", taken([0, 0], twelve([Q4, LEAP], [Q4, LEAP])), 2018, 4),
+  sub(2, "visits_a_b_2019_1", taken([0, 0], twelve(ALL3, ALL3)), 2019, 1),
+  note("A's are undone quarter by quarter until none is left; B's stay"),
+  *writes("undo_2019_1", year=2019, quarter=1), undo(taken([0], twelve([Q4, LEAP], ALL3)), 2019, 1), *writes_none(32, year=2019, quarter=1),
+  *writes("undo_2018_12_31", year=2018, quarter=4), undo(taken([0], twelve([LEAP], ALL3)), 2018, 4), *writes_none(32, year=2018, quarter=4),
+  *writes("undo_2020_1", year=2020, quarter=1), undo(taken([0], twelve([], ALL3)), 2020, 1), *writes_none(32, year=2020, quarter=1),
+  ("sound", ans(0)), ("find 010 101 2018-05-01 A", at(0, 4)), ("find 010 101 2018-05-01 B", at(0, 95)))
+OF_B = {"texts": "010 101 2018-05-01 B"}
+with_three("histories/undo_the_neighbours_stay", "B's events of the second quarter are undone: those of A and of C, and B's of the third, stay",
+  *writes("events_of_b_undone", **OF_B), undo(taken([0], rows(10, [A, B, C3], AE + BE[2:] + CE))), ("sound", ans(0)), *writes_none(32, **OF_B),
+  note("its file of the third quarter is written; then B is cancelled, and the file submitted: 24"),
+  cancel(1000, long(0, len(undone([xv("2018-07-05")], "B"))), quarter=3, **OF_B), sub(1, "b_cancelled", taken([0], WITHOUT_B)), undo(taken([24], WITHOUT_B), quarter=3))
+with_case("histories/undo_refused", note("years 2008 and 2100, quarters 0 and 5"), sub(2, "visit", taken([0], rows(4, [A], [V2]))),
+  *writes_none(1, year=2008), *writes_none(1, year=2100), *writes_none(1, quarter=0), *writes_none(1, quarter=5),
+  note("a case that doesn't stand; texts that no case has"),
+  *[step for t in ("010 101 2018-05-01 B", "011 101 2018-05-01 A", "10 101 2018-05-01 A", "010 10 2018-05-01 A", "010 101 2018-02-30 A", "010 101 2018-05-02 A", "010 101 2018-05-01 AA")
+    for step in writes_none(30, texts=t)],
+  note("a register that isn't sound"), ("load registers/case_a_and_a_bit_behind", []), *writes_none(3), ("bytes 3", []), *writes_none(3),
+  note("the first that holds is given: 1 before 3, 3 before 30, 30 before 33, and 31 and 32 before it"), *writes_none(1, 0, year=2008), *writes_none(3, 0, texts="010 101 2018-05-01 B"),
+  ("load registers/case_a", []), *writes_none(1, 0, quarter=5, texts="010 101 2018-05-01 B"), *writes_none(30, 0, texts="010 101 2018-05-01 B"), *writes_none(32, 0),
+  sub(2, "revaluation_2_with", taken([0], rows(2, [A], [R12]))), *writes_none(31, 0))

@@ -5,3 +5,4 @@ pub mod Years
 pub mod Digits
 pub mod Periods
 pub mod Reading
+pub mod WrittenDates

@@ -3,3 +3,4 @@ pub mod Table
 pub mod Dates
 pub mod Quarters
 pub mod View
+pub mod WrittenDates

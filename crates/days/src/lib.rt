@@ -3,3 +3,4 @@ pub mod calendar;
 pub mod dates;
 pub mod quarters;
 pub mod table;
+pub mod written;

@@ -4,6 +4,8 @@ ghost use Rattle.register.specs.RoomAndEmptying.{emptied};
 ghost use Rattle.soundness.specs.Sound.{soundness};
 ghost use Rattle.soundness.specs.Finding.{found};
 ghost use Rattle.intake.specs.FileAnswers.{callOf, submitted};
+ghost use Rattle.cancellation.specs.FileText.{caseTexts};
+ghost use Rattle.cancellation.specs.CancelFile.{cancelFile, CancelTold};
 ghost use Rattle.exports.specs.Told.{Told};
 use soundness::find::Lookup;
 
@@ -71,4 +73,25 @@ pub extern "C" fn siad_find(
         Lookup::Unsound => told(place, 0, 3),
         Lookup::Nowhere => told(place, 0, 30),
     }
+}
+
+// Writes the file that cancels what a case has in a quarter: 0 with its length; or 1 for no such period, 3, 30 as finding answers, 31 where one of the events is
+// a Rivalutazione with conferma 2, 32 where there is none, 33 where the output is too short, and then the length is 0.
+#[no_mangle]
+pub extern "C" fn siad_cancel_file(
+    reg: &[u8],
+    region: &[u8],
+    asl: &[u8],
+    date: &[u8],
+    id: &[u8],
+    year: u64,
+    quarter: u64,
+    out: &mut [u8],
+    length: &mut u64,
+) -> u64
+    ensures { λ r. ⌜ CancelTold (cancelFile (now (reg .entry)) (caseTexts (now (region .entry)) (now (asl .entry)) (now (date .entry)) (now (id .entry))) year quarter (now (out .entry))) r (now (length .exit)) (now (out .exit)) ⌝ }
+{
+    let written = cancellation::write::cancel_file(reg, region, asl, date, id, year, quarter, out);
+    *length = written.length as u64;
+    written.answer
 }

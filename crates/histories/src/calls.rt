@@ -5,12 +5,15 @@ use crate::words::size;
 use crate::words::word;
 use home_care::layout::ROW;
 use markup::bytes::part;
+use markup::bytes::peek;
 use markup::bytes::same;
 
-// How many bytes of the register's buffer and of the answer list are lent.
+// How many bytes of the register's buffer, of the answer list and of the output are lent, and how many of the output's the file has that was written last.
 pub struct Held {
     pub register: usize,
     pub list: usize,
+    pub output: usize,
+    pub file: usize,
 }
 
 // The bytes of a file, into a lent buffer: how many.
@@ -32,6 +35,17 @@ fn blank(buf: &mut [u8], from: usize) {
         buf[i] = b' ';
         i += 1;
     }
+}
+
+fn is_blank(s: &[u8], from: usize) -> bool {
+    let mut i = from;
+    while i < s.len() {
+        if s[i] != b' ' {
+            return false;
+        }
+        i += 1;
+    }
+    true
 }
 
 // The answer list has as many bytes as the script lends of the buffer.
@@ -70,19 +84,73 @@ fn find(line: &[u8], id: &[u8], reg: &[u8]) {
 }
 
 // An Id_Rec of one character is written for 88 of it.
+fn in_full<'a>(id: &'a [u8], whole: &'a [u8]) -> &'a [u8] {
+    if id.len() == 1 { whole } else { id }
+}
+
 fn find_case(line: &[u8], reg: &[u8]) {
     let id = word(line, 4);
-    if id.len() == 1 {
-        let whole = [id[0]; 88];
-        find(line, &whole, reg);
+    let whole = [peek(id, 0); 88];
+    find(line, in_full(id, &whole), reg);
+}
+
+// A cancellation file of the line's texts and this Id_Rec, for its quarter: answer and length. The length isn't 0 before, so that the call must have said it.
+fn cancel(line: &[u8], id: &[u8], reg: &[u8], out: &mut [u8]) -> usize {
+    let mut length: u64 = 77;
+    let answer = exports::siad_cancel_file(
+        reg,
+        word(line, 2),
+        word(line, 3),
+        word(line, 4),
+        id,
+        number(line, 6),
+        number(line, 7),
+        out,
+        &mut length,
+    );
+    shown::length(answer, length);
+    length as usize
+}
+
+// The output is blank before.
+fn cancel_case(line: &[u8], reg: &[u8], out: &mut [u8]) -> usize {
+    blank(out, 0);
+    let id = word(line, 5);
+    let whole = [peek(id, 0); 88];
+    cancel(line, in_full(id, &whole), reg, out)
+}
+
+// The output has as many bytes as the script lends of the buffer.
+fn write(line: &[u8], held: Held, reg: &[u8], out: &mut [u8]) -> Held {
+    let output = size(line, 1);
+    if out.len() < output {
+        shown::put(b"no output so long\n");
+        return held;
+    }
+    let file = cancel_case(line, reg, &mut out[..output]);
+    Held {
+        register: held.register,
+        list: held.list,
+        output,
+        file,
+    }
+}
+
+// Whether the output that was lent is this file, and blank behind it as before.
+fn compare(path: &[u8], held: Held, sub: &mut [u8], out: &[u8]) {
+    let n = read(path, sub);
+    let written = (n == held.file) & same(part(sub, 0, n), part(out, 0, n));
+    if written & is_blank(part(out, 0, held.output), n) {
+        shown::put(b"same\n");
     } else {
-        find(line, id, reg);
+        shown::put(b"differs\n");
     }
 }
 
 // The calls, on the register that is lent.
-fn call(line: &[u8], list: usize, reg: &mut [u8], sub: &mut [u8]) {
+fn call(line: &[u8], held: Held, reg: &mut [u8], sub: &mut [u8], out: &[u8]) {
     let name = word(line, 0);
+    let list = held.list;
     if same(name, b"submit") {
         let n = read(word(line, 4), sub);
         submit(
@@ -104,6 +172,17 @@ fn call(line: &[u8], list: usize, reg: &mut [u8], sub: &mut [u8]) {
             list,
             reg,
         );
+    } else if same(name, b"undo") {
+        submit(
+            part(out, 0, held.file),
+            2,
+            number(line, 1),
+            number(line, 2),
+            list,
+            reg,
+        );
+    } else if same(name, b"text") {
+        compare(word(line, 1), held, sub, out);
     } else if same(name, b"sound") {
         shown::answer(exports::siad_sound(reg));
     } else if same(name, b"find") {
@@ -117,46 +196,57 @@ fn call(line: &[u8], list: usize, reg: &mut [u8], sub: &mut [u8]) {
 }
 
 // A register of so many zero bytes, as far as the buffer goes.
-fn zeros(n: usize, list: usize, reg: &mut [u8]) -> Held {
+fn zeros(n: usize, reg: &mut [u8]) -> usize {
     exports::siad_empty(reg);
     if n <= reg.len() {
-        return Held { register: n, list };
+        return n;
     }
-    Held {
-        register: reg.len(),
-        list,
-    }
+    reg.len()
 }
 
-fn load(path: &[u8], list: usize, reg: &mut [u8]) -> Held {
+fn load(path: &[u8], reg: &mut [u8]) -> usize {
     exports::siad_empty(reg);
-    let n = read(path, reg);
-    Held { register: n, list }
+    read(path, reg)
+}
+
+// The same with a register of so many bytes.
+fn lending(held: Held, register: usize) -> Held {
+    Held {
+        register,
+        list: held.list,
+        output: held.output,
+        file: held.file,
+    }
 }
 
 // A line's command, and what is lent from then on.
-pub fn command(line: &[u8], held: Held, reg: &mut [u8], sub: &mut [u8]) -> Held {
+pub fn command(line: &[u8], held: Held, reg: &mut [u8], sub: &mut [u8], out: &mut [u8]) -> Held {
     shown::echo(line);
     let name = word(line, 0);
-    let n = held.register;
-    let list = held.list;
     if same(name, b"rows") {
-        return zeros(4 + ROW * size(line, 1), list, reg);
+        return lending(held, zeros(4 + ROW * size(line, 1), reg));
     }
     if same(name, b"bytes") {
-        return zeros(size(line, 1), list, reg);
+        return lending(held, zeros(size(line, 1), reg));
     }
     if same(name, b"load") {
-        return load(word(line, 1), list, reg);
+        return lending(held, load(word(line, 1), reg));
     }
     if same(name, b"list") {
         return Held {
-            register: n,
+            register: held.register,
             list: size(line, 1),
+            output: held.output,
+            file: held.file,
         };
     }
-    if n <= reg.len() {
-        call(line, list, &mut reg[..n], sub);
+    let n = held.register;
+    if reg.len() < n {
+        return held;
     }
+    if same(name, b"cancel") {
+        return write(line, held, &reg[..n], out);
+    }
+    call(line, held, &mut reg[..n], sub, out);
     held
 }

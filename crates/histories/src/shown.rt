@@ -31,12 +31,20 @@ pub fn answer(n: u64) {
     put(b"\n");
 }
 
-pub fn place(answer: u64, at: u64) {
+fn answer_with(answer: u64, what: &[u8], n: u64) {
     put(b"answer ");
     number(answer);
-    put(b" place ");
-    number(at);
+    put(what);
+    number(n);
     put(b"\n");
+}
+
+pub fn place(answer: u64, at: u64) {
+    answer_with(answer, b" place ", at);
+}
+
+pub fn length(answer: u64, n: u64) {
+    answer_with(answer, b" length ", n);
 }
 
 // The register's bytes as one number, the first byte the most significant, by the prime: every byte counts, and its place too.

@@ -96,6 +96,7 @@ pub case-rows : (reg : List ℕ) (v n rows lo hi : ℕ) → Fit (each 8 reg) →
 case-rows reg v n rows lo hi f e g w r =
     record {
       mid = r .mid;
+      high = omega (arith, r .high);
       end = omega (arith, r .high);
       settled = λ h. events-settled reg f h v lo hi held;
       are = λ h. events-are reg f h v lo hi held;

@@ -1,10 +1,10 @@
 -- The events in a case's rows, and where among them one is looked for.
-use Prim.Native.Nat.{ℕ, _-_, _≤_, _<_}
+use Prim.Native.Nat.{ℕ, _+_, _-_, _≤_, _<_}
 use mathlib.Core.Path.{_≡_}
 use mathlib.Core.Bool.{Bool, true, false}
 use mathlib.Core.List.{List, map}
 use lib.ListN.{length}
-use Rattle.register.specs.Layout.{rowAt}
+use Rattle.register.specs.Layout.{rowAt, casesHeld, eventsHeld}
 use Rattle.register.specs.State.{eventsFrom, stateOf}
 use Rattle.register.specs.Sound.{eventsOf}
 use Rattle.home_care.specs.Row.{siad, eventNumberIn, dateOf, endOf}
@@ -36,6 +36,7 @@ pub record Outside (q : ℕ → Bool) (reg : List ℕ) (lo hi a e : ℕ) : Type 
 -- the rows from lo up to hi are, in a sound register, those of the events of the case c
 pub record OfCase (c : ℕ) (reg : List ℕ) (lo hi : ℕ) : Type 0 where
   pub mid : lo ≤ hi
+  pub high : hi ≤ casesHeld reg + eventsHeld reg
   pub end : rowAt siad hi ≤ length reg
   pub settled : isSound reg ≡ true → Settled reg lo hi
   pub are : isSound reg ≡ true → eventsOf siad c (stateOf siad reg .events) ≡ eventsFrom siad reg lo (hi - lo)

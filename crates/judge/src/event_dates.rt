@@ -12,7 +12,7 @@ use home_care::event_bits::kind_of;
 use home_care::layout::NEVER;
 
 // The day that 10 asks for: a suspension's end, or its begin where that is missing.
-fn day_for(e: u64) -> u64
+pub fn day_for(e: u64) -> u64
     ensures { λ r. ⌜ r ≡ dayFor e ⌝ }
 {
     let end = end_of(e);

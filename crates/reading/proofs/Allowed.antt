@@ -17,7 +17,8 @@ use Rattle.markup.specs.Elements.{Inside, Tree, depth, alone}
 use Rattle.markup.specs.Elements.Inside.{end, says, note, elem}
 use Rattle.markup.specs.Document.{document}
 use Rattle.markup.specs.NamesAndValues.Read.{read}
-use Rattle.reading.specs.Print.{pairsOn, endOn, printOn, print, placedTree, IsName, PairsOk, Prints, Printable, ValuesPlain, Plain}
+use Rattle.reading.specs.Print.{pairsOn, endOn, printOn, print, placedTree}
+use Rattle.reading.specs.Printable.{IsName, PairsOk, Prints, Printable, ValuesPlain, Plain}
 use Rattle.reading.proofs.Files.{printed-document}
 
 or-cases : (a b : Bool) → a || b ≡ true → (a ≡ true) ⊎ (b ≡ true)

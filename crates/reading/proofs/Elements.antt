@@ -19,7 +19,7 @@ use Rattle.markup.specs.Elements.{Inside, Tree, Piece, tagPiece, piece, onto, a
 use Rattle.markup.specs.Elements.Inside.{end, says, note, elem}
 use Rattle.markup.specs.Elements.Piece.{words, aside, closing, child}
 use Rattle.reading.specs.Places.{up, upTree}
-use Rattle.reading.specs.Print.{IsName}
+use Rattle.reading.specs.Printable.{IsName}
 use Rattle.reading.proofs.Cut.{never, then-is, read-in, still, Cut, Cuts, Local, cond-cuts, cons-cuts, less-cuts, look-cuts, map-cut, cuts-is, then-local, map-local, past-local, refused-cuts, only, only-cuts, read-local, Goes, goes-of, stopped, goes-less, loop-local}
 use Rattle.reading.proofs.Leaves.{not-byte, run-local}
 use Rattle.reading.proofs.Tags.{dashed-local, endTag-local, tag-local, tag-opens}

@@ -9,7 +9,8 @@ use Rattle.markup.specs.Tags.{differ}
 use Rattle.markup.specs.Elements.{Tree, depth, mk, alone}
 use Rattle.markup.specs.Elements.Inside.{end, says, note, elem}
 use Rattle.markup.specs.Document.{document}
-use Rattle.reading.specs.Print.{print, placedTree, Printable, Plain}
+use Rattle.reading.specs.Print.{print, placedTree}
+use Rattle.reading.specs.Printable.{Printable, Plain}
 use Rattle.reading.proofs.Allowed.{plain-document}
 
 -- an element with an attribute, a text, a comment and a child; z and y are its places

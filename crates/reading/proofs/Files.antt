@@ -17,7 +17,8 @@ use Rattle.markup.specs.NamesAndValues.Read.{refused, read}
 use Rattle.markup.specs.Comments.{opensOther, dashed, declared}
 use Rattle.markup.specs.Elements.{Tree, element, depth}
 use Rattle.markup.specs.Document.{declares, declaration, goOn, miscStep, misc, atEnd, document}
-use Rattle.reading.specs.Print.{print, placedTree, Printable}
+use Rattle.reading.specs.Print.{print, placedTree}
+use Rattle.reading.specs.Printable.{Printable}
 use Rattle.reading.proofs.Cut.{never, then-is, cond-is, read-in}
 use Rattle.reading.proofs.Leaves.{not-byte}
 use Rattle.reading.proofs.Tags.{dashed-local}

@@ -12,7 +12,7 @@ use Rattle.laws.specs.Lists.{all}
 use Rattle.markup.specs.Bytes.{isWs, isNameStart, isName, inValue, runLength, front, after}
 use Rattle.markup.specs.NamesAndValues.{Read, then, skipWs, byte, name, isQuote, value}
 use Rattle.markup.specs.NamesAndValues.Read.{refused, read}
-use Rattle.reading.specs.Print.{IsName}
+use Rattle.reading.specs.Printable.{IsName}
 use Rattle.reading.proofs.Cut.{never, still, Local, refused-cuts, cond-cuts, cons-cuts, then-local, read-local}
 
 -- a byte that passes a test is none that fails it

@@ -13,7 +13,8 @@ use Rattle.markup.specs.Elements.{Tree, piece, content, element}
 use Rattle.markup.specs.Elements.Piece.{child}
 use Rattle.markup.specs.Document.{document}
 use Rattle.reading.specs.Places.{upTree}
-use Rattle.reading.specs.Print.{IsName, endOn}
+use Rattle.reading.specs.Print.{endOn}
+use Rattle.reading.specs.Printable.{IsName}
 use Rattle.reading.specs.Many.{Part, Start, spell, trees, wrapped, wrappedTree, Allowed, belowRoot}
 use Rattle.laws.proofs.Lists.{all-join}
 use Rattle.reading.proofs.Tags.{tag-local, tag-opens}

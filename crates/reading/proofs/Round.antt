@@ -20,7 +20,8 @@ use Rattle.markup.specs.Tags.{Pair, attribute, ending, before, goOn, attributes
 use Rattle.markup.specs.Elements.{Inside, Tree, piece, content, element, alone}
 use Rattle.markup.specs.Elements.Inside.{end, says, note, elem}
 use Rattle.markup.specs.Elements.Piece.{words, aside, closing, child}
-use Rattle.reading.specs.Print.{pairsOn, endOn, printOn, treeOn, print, placed, placedTree, IsName, PairsOk, TagOk, NoText, Prints, Printable}
+use Rattle.reading.specs.Print.{pairsOn, endOn, printOn, treeOn, print, placed, placedTree}
+use Rattle.reading.specs.Printable.{IsName, PairsOk, TagOk, NoText, Prints, Printable}
 use Rattle.reading.proofs.Cut.{never}
 use Rattle.reading.proofs.Leaves.{not-byte, front-back, after-back, run-none, byte-back, name-back}
 use Rattle.reading.proofs.Tags.{attributes-less}
@@ -151,7 +152,8 @@ tree-back (suc d) t r p =
 
 -- ---- `print t ++ z` is `treeOn t z`
 
-pairs-append : (ps : List Pair) (r z : List ℕ) → pairsOn ps r ++ z ≡ pairsOn ps (r ++ z)
+-- attributes, and what stands behind them
+pub pairs-append : (ps : List Pair) (r z : List ℕ) → pairsOn ps r ++ z ≡ pairsOn ps (r ++ z)
 pairs-append [] r z = refl
 pairs-append (p ∷ ps) r z = rw (append-assoc (p .key) (code "=" ∷ code "\"" ∷ (p .val ++ (code "\"" ∷ pairsOn ps r))) z, append-assoc (p .val) (code "\"" ∷ pairsOn ps r) z, pairs-append ps r z)
 

@@ -16,7 +16,7 @@ use Rattle.markup.specs.NamesAndValues.{Read, then, skipWs, byte, name, value}
 use Rattle.markup.specs.NamesAndValues.Read.{refused, read}
 use Rattle.markup.specs.Comments.{opensOther, comment, dashed}
 use Rattle.markup.specs.Tags.{Pair, attribute, Attributes, ending, before, goOn, attributesAt, attributesStep, attributes, differ, Tag, tagOf, tag, endTag}
-use Rattle.reading.specs.Print.{IsName}
+use Rattle.reading.specs.Printable.{IsName}
 use Rattle.reading.proofs.Cut.{never, still, Cut, Cuts, Local, refused-cuts, past-local, cond-cuts, cons-cuts, tail-cuts, less-cuts, look-cuts, follow, then-local, read-local, Goes, goes-of, stopped, then-is, cond-is, read-in, map-cut, goes-less, loop-local}
 use Rattle.reading.proofs.Leaves.{run-local, front-length, byte-is, byte-local, spaced-local, name-is, name-local, value-local}
 

@@ -1,4 +1,5 @@
 pub mod Places
 pub mod Print
+pub mod Printable
 pub mod Many
 pub mod Everywhere

@@ -65,7 +65,7 @@ fn find_key(reg: &[u8], w: usize, probe: &[u8]) -> Lookup
 }
 
 // The probe row of the texts' key, where they are allowed.
-fn probe_of(
+pub fn probe_of(
     t: &[u32; 2400],
     out: &mut [u8],
     region: &[u8],

@@ -73,7 +73,8 @@ spelled-reads = by-tens (λ n. decimal (spelled n) ≡ n) one more
     more : (n : ℕ) → 10 ≤ n → decimal (spelled (n / 10)) ≡ n / 10 → decimal (spelled n) ≡ n
     more n h e = rw (spelled-more n h, decimal-on 0 (spelled (n / 10)) (digit (n % 10)), e) (omega arith)
 
-digit-is : (n : ℕ) → n < 10 → isDigit (digit n) ≡ true
+-- the digit of a number below 10 is one
+pub digit-is : (n : ℕ) → n < 10 → isDigit (digit n) ≡ true
 digit-is n h = and-tell (leb (code "0") (digit n)) (leb (digit n) (code "9")) (le-leb (code "0") (digit n) (omega arith)) (le-leb (digit n) (code "9") (omega arith))
 
 -- each byte is a digit

@@ -4,10 +4,10 @@ use Rattle.histories.proofs.main.Statement.{statement}
 use Rattle.histories.proofs.main.Tie as tie
 
 abbrev Inv-loop : tie.InvT-loop
-Inv-loop reg₀ sub₀ n i₀ reg sub i = Unit {0}
+Inv-loop reg₀ sub₀ out₀ n i₀ reg sub out i = Unit {0}
 
 abbrev μ-loop : tie.MeasureT-loop
-μ-loop reg₀ sub₀ n i₀ reg sub i = n - i
+μ-loop reg₀ sub₀ out₀ n i₀ reg sub out i = n - i
 
 arg-count-requires : tie.Need-arg-count-requires Inv-loop μ-loop
 arg-count-requires c κs = search needs

@@ -7,10 +7,10 @@ use Rattle.histories.proofs.run.Statement.{statement}
 use Rattle.histories.proofs.run.Tie as tie
 
 abbrev Inv-loop : tie.InvT-loop
-Inv-loop script reg₀ sub₀ held₀ at₀ reg sub held at = (length reg ≡ length reg₀) × (length sub ≡ length sub₀)
+Inv-loop script reg₀ sub₀ out₀ held₀ at₀ reg sub out held at = (length reg ≡ length reg₀) × (length sub ≡ length sub₀) × (length out ≡ length out₀)
 
 abbrev μ-loop : tie.MeasureT-loop
-μ-loop script reg₀ sub₀ held₀ at₀ reg sub held at = length script - at
+μ-loop script reg₀ sub₀ out₀ held₀ at₀ reg sub out held at = length script - at
 
 siad-empty-requires : tie.Need-siad-empty-requires Inv-loop μ-loop
 siad-empty-requires c κs = search needs
@@ -42,6 +42,9 @@ same-length c = search needs
 same-length-2 : tie.Need-same-length-2 Inv-loop μ-loop
 same-length-2 c = search needs
 
+same-length-3 : tie.Need-same-length-3 Inv-loop μ-loop
+same-length-3 c = search needs
+
 returns : tie.Need-returns Inv-loop μ-loop
 returns c = search needs
 
@@ -61,4 +64,5 @@ run-spec =
     loop-again
     same-length
     same-length-2
+    same-length-3
     returns)

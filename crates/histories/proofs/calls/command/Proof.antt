@@ -29,6 +29,9 @@ add-zeros c = search needs
 zeros-requires : tie.Need-zeros-requires
 zeros-requires c κs = search needs
 
+lending-requires : tie.Need-lending-requires
+lending-requires c κs = search needs
+
 same-length : tie.Need-same-length
 same-length c = search needs
 
@@ -46,6 +49,9 @@ size-requires-2 c κs = search needs
 
 zeros-requires-2 : tie.Need-zeros-requires-2
 zeros-requires-2 c κs = search needs
+
+lending-requires-2 : tie.Need-lending-requires-2
+lending-requires-2 c κs = search needs
 
 same-length-2 : tie.Need-same-length-2
 same-length-2 c = search needs
@@ -65,6 +71,9 @@ word-requires-2 c κs = search needs
 load-requires : tie.Need-load-requires
 load-requires c κs = search needs
 
+lending-requires-3 : tie.Need-lending-requires-3
+lending-requires-3 c κs = search needs
+
 same-length-3 : tie.Need-same-length-3
 same-length-3 c = search needs
 
@@ -83,6 +92,33 @@ size-requires-3 c κs = search needs
 returns-4 : tie.Need-returns-4
 returns-4 c = search needs
 
+returns-5 : tie.Need-returns-5
+returns-5 c = search needs
+
+slice-aggregate-same-5 : tie.Need-slice-aggregate-same-5
+slice-aggregate-same-5 c = search needs
+
+same-requires-5 : tie.Need-same-requires-5
+same-requires-5 c κs = search needs
+
+slice-reshare-prefix-write : tie.Need-slice-reshare-prefix-write
+slice-reshare-prefix-write c = search needs
+
+slice-aggregate-write : tie.Need-slice-aggregate-write
+slice-aggregate-write c = sym (length-take-le _ _ (omega arith))
+
+write-requires : tie.Need-write-requires
+write-requires c κs = search needs
+
+same-length-4 : tie.Need-same-length-4
+same-length-4 c = search needs
+
+same-length-5 : tie.Need-same-length-5
+same-length-5 c = search needs
+
+returns-6 : tie.Need-returns-6
+returns-6 c = search needs
+
 slice-relend-prefix-call : tie.Need-slice-relend-prefix-call
 slice-relend-prefix-call c = search needs
 
@@ -92,17 +128,17 @@ slice-aggregate-call c = sym (length-take-le _ _ (omega arith))
 call-requires : tie.Need-call-requires
 call-requires c κs = search needs
 
-same-length-4 : tie.Need-same-length-4
-same-length-4 c = search needs
+same-length-6 : tie.Need-same-length-6
+same-length-6 c = search needs
 
-same-length-5 : tie.Need-same-length-5
-same-length-5 c = search needs
+same-length-7 : tie.Need-same-length-7
+same-length-7 c = search needs
 
-returns-5 : tie.Need-returns-5
-returns-5 c = search needs
+same-length-8 : tie.Need-same-length-8
+same-length-8 c = search needs
 
-returns-6 : tie.Need-returns-6
-returns-6 c = search needs
+returns-7 : tie.Need-returns-7
+returns-7 c = search needs
 
 pub command-spec : {M : Type 1} → statement M
 command-spec =
@@ -116,28 +152,40 @@ command-spec =
     mul-zeros
     add-zeros
     zeros-requires
+    lending-requires
     same-length
     returns
     slice-aggregate-same-2
     same-requires-2
     size-requires-2
     zeros-requires-2
+    lending-requires-2
     same-length-2
     returns-2
     slice-aggregate-same-3
     same-requires-3
     word-requires-2
     load-requires
+    lending-requires-3
     same-length-3
     returns-3
     slice-aggregate-same-4
     same-requires-4
     size-requires-3
     returns-4
+    returns-5
+    slice-aggregate-same-5
+    same-requires-5
+    slice-reshare-prefix-write
+    slice-aggregate-write
+    write-requires
+    same-length-4
+    same-length-5
+    returns-6
     slice-relend-prefix-call
     slice-aggregate-call
     call-requires
-    same-length-4
-    same-length-5
-    returns-5
-    returns-6)
+    same-length-6
+    same-length-7
+    same-length-8
+    returns-7)

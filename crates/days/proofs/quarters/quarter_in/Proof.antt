@@ -5,13 +5,13 @@ use Rattle.days.specs.Quarters.{isPeriod}
 use Rattle.days.proofs.Periods.{period, first-real, last-real}
 use native.Mathlib.Omega.{arith}
 use borrow.Author.Needs.{needs}
-use Rattle.days.proofs.quarters.quarter_days.Statement.{statement}
-use Rattle.days.proofs.quarters.quarter_days.Tie as tie
-use Rattle.days.proofs.quarters.quarter_days.Reads as reads
-use Rattle.days.proofs.quarters.quarter_days.Lts as lts
+use Rattle.days.proofs.quarters.quarter_in.Statement.{statement}
+use Rattle.days.proofs.quarters.quarter_in.Tie as tie
+use Rattle.days.proofs.quarters.quarter_in.Reads as reads
+use Rattle.days.proofs.quarters.quarter_in.Lts as lts
 use Rattle.days.proofs.calendar.month_length.Reads as month-length-reads
 use Rattle.days.proofs.quarters.is_period.Reads as is-period-reads
-use Rattle.days.proofs.quarters.numbered.Reads as numbered-reads
+use Rattle.days.proofs.calendar.day_number.Reads as day-number-reads
 
 is-period-requires : tie.Need-is-period-requires
 is-period-requires c κs = search needs
@@ -30,29 +30,29 @@ cast-last c = let p = period (c .before .before .args .year) (c .before .before 
 mul-last : tie.Need-mul-last
 mul-last c = let p = period (c .before .before .args .year) (c .before .before .args .quarter) (sym (c .before .is-period .ensures) ∙ not-false _ (c .if1 .left)) in record { fits = omega arith }
 
-sub-numbered : tie.Need-sub-numbered
-sub-numbered c = let p = period (c .before .before .args .year) (c .before .before .args .quarter) (sym (c .before .is-period .ensures) ∙ not-false _ (c .if1 .left)) in omega arith
+sub-day-number : tie.Need-sub-day-number
+sub-day-number c = let p = period (c .before .before .args .year) (c .before .before .args .quarter) (sym (c .before .is-period .ensures) ∙ not-false _ (c .if1 .left)) in omega arith
 
-numbered-requires : tie.Need-numbered-requires
-numbered-requires c κs =
+day-number-requires : tie.Need-day-number-requires
+day-number-requires c κs =
     let p = period (c .before .before .args .year) (c .before .before .args .quarter) (sym (c .before .is-period .ensures) ∙ not-false _ (c .if1 .left)) in
-    first-real (c .before .before .args .year) (c .before .before .args .quarter) p
+    (c .before .before .pre, first-real (c .before .before .args .year) (c .before .before .args .quarter) p)
 
 month-length-requires : tie.Need-month-length-requires
 month-length-requires c κs = search needs
 
-numbered-requires-2 : tie.Need-numbered-requires-2
-numbered-requires-2 c κs =
+day-number-requires-2 : tie.Need-day-number-requires-2
+day-number-requires-2 c κs =
     let p = period (c .before .before .before .before .args .year) (c .before .before .before .before .args .quarter) (sym (c .before .before .before .is-period .ensures) ∙ not-false _ (c .before .before .if1 .left)) in
-    rw (c .month-length .ensures) (last-real (c .before .before .before .before .args .year) (c .before .before .before .before .args .quarter) p)
+    (c .before .before .before .before .pre, rw (c .month-length .ensures) (last-real (c .before .before .before .before .args .year) (c .before .before .before .before .args .quarter) p))
 
 returns-2 : tie.Need-returns-2
 returns-2 c =
     let e : isPeriod (c .before .before .before .before .before .args .year) (c .before .before .before .before .before .args .quarter) ≡ true = sym (c .before .before .before .before .is-period .ensures) ∙ not-false _ (c .before .before .before .if1 .left) in
-    (rw (e, c .before .before .numbered .ensures .0, c .numbered2 .ensures .0, c .before .month-length .ensures), rw e)
+    (rw (e, c .before .before .day-number .ensures .0, c .day-number2 .ensures .0, c .before .month-length .ensures), rw e)
 
-pub quarter-days-spec : {M : Type 1} → statement M
-quarter-days-spec =
+pub quarter-in-spec : {M : Type 1} → statement M
+quarter-in-spec =
     tie.close
     (tie.spec
     is-period-requires
@@ -60,8 +60,8 @@ quarter-days-spec =
     cast-y
     cast-last
     mul-last
-    sub-numbered
-    numbered-requires
+    sub-day-number
+    day-number-requires
     month-length-requires
-    numbered-requires-2
+    day-number-requires-2
     returns-2)

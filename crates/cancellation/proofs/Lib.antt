@@ -1,0 +1,11 @@
+pub mod CaseFields
+pub mod EventTexts
+pub mod ChosenRows
+pub mod Printed
+pub mod FileTexts
+pub mod Lengths
+pub mod SurveyLaws
+pub mod EventsPut
+pub mod RecordsPut
+pub mod WriteWays
+pub mod FoundWays

@@ -1,0 +1,4 @@
+pub mod Chosen
+pub mod FileText
+pub mod CancelFile
+pub mod View
