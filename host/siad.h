@@ -8,7 +8,7 @@
    over buffers of their own may run at the same time.
    Stack: measured, not proved: siad_submit at most 15,736 bytes on the files that bench/stack makes, hostile ones among
    them; siad_sound 9,932 and siad_find 10,188, each on a register for 4,096 rows that bench's two ordinary files
-   filled. Keep 16 KB free. */
+   filled; siad_cancel_file 11,286, for 1 to 1,274 events (bench/cancel). Keep 16 KB free. */
 #ifndef SIAD_H
 #define SIAD_H
 #include <stddef.h>
