@@ -6,7 +6,7 @@
 #include <string.h>
 
 static uint8_t reg[ROOM], answers[MOST];
-static uint64_t answer, report[4];
+static uint64_t answer, report[SIAD_REPORT];
 
 submitter *const preparing = siad_submit;
 
@@ -17,11 +17,13 @@ void ready(const char *word) {
 void once(const struct file *f) {
     memcpy(reg, f->reg, ROOM);
     answer = siad_submit((const uint8_t *)f->bytes, f->n, f->track, f->year, f->quarter, reg, ROOM, answers, MOST,
-                         report);
+                         report, SIAD_REPORT);
 }
 
 void tell(void) {
-    printf("answer %" PRIu64 ", %" PRIu64 " records, %" PRIu64 " accepted", answer, report[1], report[2]);
-    if (answer) printf(", record %" PRIu64, report[0]);
-    if (report[1]) printf(", the last answered %d", answers[report[1] - 1]);
+    uint64_t records = report[SIAD_RECORDS];
+    printf("answer %" PRIu64 ", %" PRIu64 " records, %" PRIu64 " accepted", answer, records,
+           report[SIAD_RECORDS_ACCEPTED]);
+    if (answer) printf(", record %" PRIu64 ", place %" PRIu64, report[SIAD_NUMBER], report[SIAD_PLACE]);
+    if (records) printf(", the last answered %d", answers[records - 1]);
 }

@@ -1,5 +1,6 @@
 /* Makes the measured files: ordinary ones, and ones that a sender could make to cost the reader as much as possible. */
 #define _GNU_SOURCE
+#include "../host/siad.h"
 #include "files.h"
 #include <stdarg.h>
 #include <stdio.h>
@@ -29,10 +30,10 @@ static int fits(const struct file *f, size_t more) {
    isn't the one meant would measure something else. */
 static void stand(struct file *f, uint64_t track, uint64_t year, uint64_t quarter) {
     static uint8_t answers[4096];
-    uint64_t report[4] = {0, 0, 0, 0};
+    uint64_t report[SIAD_REPORT] = {0};
     if (f->submit && (f->submit((uint8_t *)f->bytes, f->n, track, year, quarter, f->reg, ROOM, answers, sizeof answers,
-                                report) != 0 ||
-                      report[1] != report[2]))
+                                report, SIAD_REPORT) != 0 ||
+                      report[SIAD_RECORDS] != report[SIAD_RECORDS_ACCEPTED]))
         fail("not accepted in full:", f->bytes);
     f->n = 0;
 }

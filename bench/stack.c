@@ -7,12 +7,12 @@
 #include <stdlib.h>
 
 static uint8_t answers[MOST];
-static uint64_t answer, report[4];
+static uint64_t answer, report[SIAD_REPORT];
 static struct file file;
 
 static void call(void) {
     answer = siad_submit((uint8_t *)file.bytes, file.n, file.track, file.year, file.quarter, file.reg, ROOM, answers,
-                         MOST, report);
+                         MOST, report, SIAD_REPORT);
 }
 
 int main(void) {

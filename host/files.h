@@ -10,6 +10,10 @@ struct bytes {
     size_t len;
 };
 
+/* Standard input, output and error stay those: one that is closed would be the next file that is opened, the lock or
+   the register's new bytes. It is opened to be read, so that what is written to it still fails. */
+void hold_streams(void);
+
 /* n zero bytes, never NULL; the process ends with status 2 where there is no memory. */
 uint8_t *room(size_t n);
 

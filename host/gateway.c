@@ -4,6 +4,7 @@
 #define _GNU_SOURCE
 #include "answers.h"
 #include "files.h"
+#include "where.h"
 #include <errno.h>
 #include <inttypes.h>
 #include <signal.h>
@@ -121,6 +122,17 @@ static void print_records(const uint8_t *answers, uint64_t records) {
         printf("%" PRIu64 " %u\t%s\n", i + 1, answers[i], in_words(answers[i], "accepted"));
 }
 
+/* Where a submission is not of the shape, as compilers tell it. A place that is none in the file is not told. */
+static void tell_place(const char *said, const struct bytes *sub, const uint64_t *report) {
+    const char *fault = report[SIAD_NUMBER] > 0
+                            ? "the first fault is in the element that begins here"
+                            : "the fault is outside every record, or there is no record: this is the root";
+    struct where w;
+    if (!where_is(sub->at, sub->len, report[SIAD_PLACE], &w)) return;
+    fprintf(stderr, "%s:%zu:%zu: %s (byte %" PRIu64 ", counted from 0)\n%s\n%s\n", said, w.line, w.column,
+            fault, report[SIAD_PLACE], w.text, w.mark);
+}
+
 /* What stands, and how much room a register of this length has. */
 static void print_counts(const struct bytes *b) {
     size_t rows = (b->len - SIAD_HEADER_BYTES) / SIAD_ROW_BYTES;
@@ -211,18 +223,20 @@ static int print_report(int status, uint64_t answer, const uint64_t *report, con
 }
 
 /* The call, the register's file, the report. The file is written where the register's bytes changed, which only a taken
-   submission does. */
-static int take(const struct reg *r, const struct bytes *sub, const uint64_t *period, const struct options *o) {
+   submission does. `said` is the submission's name. */
+static int take(const struct reg *r, const char *said, const struct bytes *sub, const uint64_t *period,
+                const struct options *o) {
     uint64_t report[SIAD_REPORT] = {0};
     uint8_t *answers = room(sub->len); /* a record takes more than a byte, so this list is never too short */
     struct bytes now = {room(r->bytes.len), r->bytes.len};
     memcpy(now.at, r->bytes.at, now.len);
     uint64_t answer = siad_submit(sub->at, sub->len, period[0], period[1], period[2], now.at, now.len, answers,
-                                  sub->len, report);
+                                  sub->len, report, SIAD_REPORT);
     int changed = memcmp(now.at, r->bytes.at, now.len) != 0;
     int wrote = changed ? write_register(r, &now, o, "the submission is NOT taken") : 0;
     int status = wrote != 0 ? FAILED : answer == SIAD_TAKEN ? GOOD : NOT_SO;
     if (wrote >= 0) status = print_report(status, answer, report, answers, &now);
+    if (answer == SIAD_NOT_SHAPE && status == NOT_SO) tell_place(said, sub, report);
     free(now.at);
     free(answers);
     return status;
@@ -241,7 +255,7 @@ static int submit(char **w, const struct options *o) {
         return failed("cannot read the submission", w[1]);
     }
     int status = open_register(&r, w[0], 1, 0);
-    if (status == GOOD) status = take(&r, &sub, period, o);
+    if (status == GOOD) status = take(&r, w[1], &sub, period, o);
     close_register(&r);
     free(sub.at);
     return status;
@@ -392,7 +406,8 @@ static const char help[] =
     "gateway submit [--backup] REGISTER SUBMISSION TRACK YEAR QUARTER\n"
     "    takes a submission (XML) of a track (1 or 2) and a quarter (1 to 4) into a register; prints the\n"
     "    file's answer, record number, records, accepted, discarded; each record's number and answer;\n"
-    "    the cases and events that stand\n"
+    "    the cases and events that stand; with answer 6, on standard error, where the first fault is, as\n"
+    "    SUBMISSION:LINE:COLUMN, and that line with a mark\n"
     "gateway sound REGISTER\n"
     "    tells whether a register is sound\n"
     "gateway find REGISTER REGION ASL DATE ID\n"
@@ -448,6 +463,7 @@ static int run(const struct command *c, char **words) {
 }
 
 int main(int argc, char **argv) {
+    hold_streams();
     signal(SIGPIPE, SIG_IGN); /* a reader that goes away is an error like any other */
     signal(SIGXFSZ, SIG_IGN); /* as is a file that may not grow */
     if (argc >= 2 && strcmp(argv[1], "--help") == 0) {

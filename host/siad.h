@@ -6,7 +6,7 @@
    NULL was tried for each slice (host/test.c), and was answered as an empty buffer is; nothing promises that.
    Threads: no state is kept between calls (the archive has no writable data) and no memory is taken but stack, so calls
    over buffers of their own may run at the same time.
-   Stack: measured, not proved: siad_submit at most 15,736 bytes on the files that bench/stack makes, hostile ones among
+   Stack: measured, not proved: siad_submit at most 15,752 bytes on the files that bench/stack makes, hostile ones among
    them; siad_sound 9,932 and siad_find 10,188, each on a register for 4,096 rows that bench's two ordinary files
    filled; siad_cancel_file 11,286, for 1 to 1,274 events (bench/cancel). Keep 16 KB free. */
 #ifndef SIAD_H
@@ -43,7 +43,8 @@ enum siad_file_answer {
     SIAD_UNSOUND = 3,     /* the register is not sound; of siad_empty: it has fewer than 4 bytes */
     SIAD_TOO_LONG = 4,    /* more than SIAD_MOST_BYTES */
     SIAD_NOT_MARKUP = 5,  /* not in the markup */
-    SIAD_NOT_SHAPE = 6,   /* not of the shape; the record's number, or 0 for a fault outside every record */
+    SIAD_NOT_SHAPE = 6,   /* not of the shape; the record's number and its first fault's place, or 0 and the root's for
+                             a fault outside every record */
     SIAD_MANY_EVENTS = 7, /* a record has more than SIAD_MOST_EVENTS; the first one's number */
     SIAD_SHORT_LIST = 8   /* the answer list has fewer bytes than there are records */
 };
@@ -81,8 +82,15 @@ enum siad_cancel_answer {
     SIAD_SHORT_OUTPUT = 33        /* the file is longer than the output */
 };
 
-/* The places of a report's four numbers. */
-enum siad_report { SIAD_NUMBER, SIAD_RECORDS, SIAD_RECORDS_ACCEPTED, SIAD_RECORDS_DISCARDED, SIAD_REPORT };
+/* Where a report's numbers stand, and how many they are. */
+enum siad_report {
+    SIAD_NUMBER,            /* the record's, counted from 1, with SIAD_NOT_SHAPE and SIAD_MANY_EVENTS; else 0 */
+    SIAD_RECORDS,           /* with SIAD_TAKEN, as the next two; else 0 */
+    SIAD_RECORDS_ACCEPTED,
+    SIAD_RECORDS_DISCARDED,
+    SIAD_PLACE,             /* with SIAD_NOT_SHAPE, counted from the submission's byte 0; else 0 */
+    SIAD_REPORT
+};
 
 #ifdef __cplusplus
 extern "C" {
@@ -111,12 +119,20 @@ uint64_t siad_cancel_file(const uint8_t *reg, size_t reg_len, const uint8_t *reg
                           size_t id_len, uint64_t year, uint64_t quarter, uint8_t *out, size_t out_len,
                           uint64_t *length);
 
-/* Takes a submission of a track, a year and a quarter into a register. `report` gets SIAD_REPORT numbers: the record
-   number, records, accepted, discarded. With SIAD_TAKEN byte i - 1 of `answers` is record i's answer, later bytes stay,
-   and the register holds what the accepted records say. With any other answer all counts are 0 and no byte of register
-   or answer list changes. An answer list as long as the submission never gets SIAD_SHORT_LIST. */
+/* Takes a submission of a track, a year and a quarter into a register. With SIAD_TAKEN byte i - 1 of `answers` is
+   record i's answer, later bytes stay, and the register holds what the accepted records say. With any other answer all
+   counts are 0 and no byte of register or answer list changes. An answer list as long as the submission never gets
+   SIAD_SHORT_LIST.
+   `report` is lent as `report_len` numbers, not bytes, and gets SIAD_REPORT of them: record number, records, accepted,
+   discarded, place. A shorter one gets as many as fit; entries behind them stay. With SIAD_NOT_SHAPE the place is that
+   of the `<` which opens the element that the record's first fault, in reading order, was met in: of a text, a code, a
+   date or an attribute its own element; of missing, extra or misordered children, and of text between them, their
+   parent; with record number 0 the root. A root may stand at place 0: SIAD_NOT_SHAPE is told by the answer alone.
+   The report was four numbers without a length before there was a place (E5): the one change of this call's form, made
+   while nothing is in the field yet. A host that was built for the old form still links, and lends whatever stands
+   there as the length: build it anew. */
 uint64_t siad_submit(const uint8_t *sub, size_t sub_len, uint64_t track, uint64_t year, uint64_t quarter, uint8_t *reg,
-                     size_t reg_len, uint8_t *answers, size_t answers_len, uint64_t *report);
+                     size_t reg_len, uint8_t *answers, size_t answers_len, uint64_t *report, size_t report_len);
 
 #ifdef __cplusplus
 }

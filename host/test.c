@@ -1,7 +1,8 @@
-/* The calls of siad.h from C, over heap buffers of exactly the lent length, so that a byte read or written past an end
-   is seen: by valgrind, and of the C code also by the sanitizers, which the archive itself is not built with.
+/* The calls of siad.h from C, and where.c, over heap buffers of exactly the lent length, so that a byte read or written
+   past an end is seen: by valgrind, and of the C code also by the sanitizers, which the archive is not built with.
    The argument is the folder of the program's cases (crates/siad_cases/data). host/run builds and runs it. */
 #include "answers.h"
+#include "where.h"
 #include <stdio.h>
 #include <stdlib.h>
 #include <string.h>
@@ -29,6 +30,11 @@ static int all(const uint8_t *p, size_t n, int b) {
     return 1;
 }
 
+/* n numbers for a report, each byte of them 77. */
+static uint64_t *numbers(size_t n) {
+    return (uint64_t *)(void *)filled(n * sizeof(uint64_t), 77);
+}
+
 /* The submission of a case: what follows its first line. */
 static uint8_t *submission(const char *folder, const char *name, size_t *n) {
     char path[4096];
@@ -50,19 +56,22 @@ static uint8_t *submission(const char *folder, const char *name, size_t *n) {
     return p;
 }
 
+static uint64_t told[SIAD_REPORT]; /* the report of the last that was refused */
+
 /* One call over a register of zeros: its answer; a refusal must leave register and answer list as they were and every
    count 0. */
 static uint64_t refused(const uint8_t *sub, size_t n, uint64_t track, uint64_t year, uint64_t quarter, size_t reg_len,
                         size_t answers_len) {
     uint8_t *reg = filled(reg_len, 0), *answers = filled(answers_len, 9);
-    uint64_t *report = malloc(SIAD_REPORT * sizeof *report);
-    if (report == NULL) exit(2);
-    for (int i = 0; i < SIAD_REPORT; i++) report[i] = 77;
-    uint64_t answer = siad_submit(sub, n, track, year, quarter, reg, reg_len, answers, answers_len, report);
+    uint64_t *report = numbers(SIAD_REPORT);
+    uint64_t answer =
+        siad_submit(sub, n, track, year, quarter, reg, reg_len, answers, answers_len, report, SIAD_REPORT);
     IS(all(reg, reg_len, 0), 1);
     IS(all(answers, answers_len, 9), 1);
     IS(report[SIAD_RECORDS] + report[SIAD_RECORDS_ACCEPTED] + report[SIAD_RECORDS_DISCARDED], 0);
     if (answer != SIAD_NOT_SHAPE && answer != SIAD_MANY_EVENTS) IS(report[SIAD_NUMBER], 0);
+    if (answer != SIAD_NOT_SHAPE) IS(report[SIAD_PLACE], 0);
+    memcpy(told, report, sizeof told);
     free(reg);
     free(answers);
     free(report);
@@ -93,8 +102,12 @@ static void refusals(const char *folder) {
     IS(refused(blanks, most, 1, 2018, 2, one_row, 2), SIAD_NOT_MARKUP);
     IS(refused(none, 0, 1, 2018, 2, SIAD_HEADER_BYTES, 0), SIAD_NOT_MARKUP);
     IS(refused(sub, two, 2, 2018, 2, one_row, 2), SIAD_NOT_SHAPE);
+    IS(told[SIAD_NUMBER], 0);
+    IS(told[SIAD_PLACE], 0); /* the root's */
     IS(refused(faulty, shape, 2, 2018, 2, one_row, 2), SIAD_NOT_SHAPE);
+    IS(told[SIAD_NUMBER], 2);
     IS(refused(crowded, many, 2, 2018, 2, one_row, 2), SIAD_MANY_EVENTS);
+    IS(told[SIAD_NUMBER], 2);
     IS(refused(sub, two, 1, 2018, 2, one_row, 1), SIAD_SHORT_LIST);
     cut_short(sub, two);
     free(sub);
@@ -105,9 +118,44 @@ static void refusals(const char *folder) {
     free(none);
 }
 
+/* One call with a report of some length, over a register of one row: as many of these numbers as fit, and what is
+   behind them stays, in the report and in so many entries more that are not lent. */
+static void reports(const uint8_t *sub, size_t n, uint64_t track, uint64_t answer, const uint64_t *wanted, size_t len,
+                    size_t more) {
+    size_t reg_len = SIAD_REGISTER_BYTES(1), fit = len < SIAD_REPORT ? len : SIAD_REPORT;
+    uint8_t *reg = filled(reg_len, 0), *answers = filled(2, 9);
+    uint64_t *report = numbers(len + more);
+    IS(siad_submit(sub, n, track, 2018, 2, reg, reg_len, answers, 2, report, len), answer);
+    IS(memcmp(report, wanted, fit * sizeof *report) == 0, 1);
+    IS(all((uint8_t *)(report + fit), (len + more - fit) * sizeof *report, 77), 1);
+    IS(reg[1], wanted[SIAD_RECORDS_ACCEPTED]);
+    IS(answers[0], answer == SIAD_TAKEN ? SIAD_ACCEPTED : 9);
+    free(reg);
+    free(answers);
+    free(report);
+}
+
+/* Reports of each length from 0 to 7: of a taken file, of one with a place, of one with a number alone. */
+static void report_lengths(const char *folder) {
+    static const uint64_t of_taken[SIAD_REPORT] = {0, 2, 1, 1, 0}, of_crowded[SIAD_REPORT] = {2, 0, 0, 0, 0};
+    static const uint64_t of_faulty[SIAD_REPORT] = {2, 0, 0, 0, 438}; /* <CodiceRegione>011 */
+    size_t two, shape, many;
+    uint8_t *sub = submission(folder, "case_twice", &two), *faulty = submission(folder, "wrong_shape", &shape);
+    uint8_t *crowded = submission(folder, "events_129", &many);
+    for (size_t i = 0; i < 16; i++) {
+        size_t len = i / 2, more = 2 * (i % 2);
+        reports(sub, two, 1, SIAD_TAKEN, of_taken, len, more);
+        reports(faulty, shape, 2, SIAD_NOT_SHAPE, of_faulty, len, more);
+        reports(crowded, many, 2, SIAD_MANY_EVENTS, of_crowded, len, more);
+    }
+    free(sub);
+    free(faulty);
+    free(crowded);
+}
+
 /* The case of case_twice. */
-static const char region[] = "010", asl[] = "101", date[] = "2018-05-01",
-                  id[] = "AAAAAAAAAAAAAAAAAAAAAAAAAAAAAAAAAAAAAAAAAAAAAAAAAAAAAAAAAAAAAAAAAAAAAAAAAAAAAAAAAAAAAAAA";
+#define ID "AAAAAAAAAAAAAAAAAAAAAAAAAAAAAAAAAAAAAAAAAAAAAAAAAAAAAAAAAAAAAAAAAAAAAAAAAAAAAAAAAAAAAAAA"
+static const char region[] = "010", asl[] = "101", date[] = "2018-05-01", id[] = ID;
 
 static uint64_t find(const uint8_t *reg, size_t reg_len, size_t region_len, size_t asl_len, size_t date_len,
                      size_t id_len, uint64_t *place) {
@@ -134,15 +182,16 @@ static void taken(const char *folder, size_t reg_len, unsigned first, unsigned s
     static const uint8_t row[] = {0x0A, 0x62, 0xC1, 0x8A, 0xA3, 0x4E}; /* P6 */
     size_t n, stands = first == SIAD_ACCEPTED;
     uint8_t *sub = submission(folder, "case_twice", &n), *reg = filled(reg_len, 9), *answers = filled(3, 9);
-    uint64_t report[SIAD_REPORT] = {77, 77, 77, 77};
+    uint64_t report[SIAD_REPORT] = {77, 77, 77, 77, 77};
     IS(siad_sound(reg, reg_len), SIAD_UNSOUND);
     IS(siad_empty(reg, reg_len), 0);
     IS(all(reg, reg_len, 0), 1);
-    IS(siad_submit(sub, n, 1, 2018, 2, reg, reg_len, answers, 3, report), SIAD_TAKEN);
+    IS(siad_submit(sub, n, 1, 2018, 2, reg, reg_len, answers, 3, report, SIAD_REPORT), SIAD_TAKEN);
     IS(report[SIAD_NUMBER], 0);
     IS(report[SIAD_RECORDS], 2);
     IS(report[SIAD_RECORDS_ACCEPTED], stands);
     IS(report[SIAD_RECORDS_DISCARDED], 2 - stands);
+    IS(report[SIAD_PLACE], 0);
     IS(answers[0], first);
     IS(answers[1], second);
     IS(answers[2], 9);
@@ -160,12 +209,14 @@ static void taken(const char *folder, size_t reg_len, unsigned first, unsigned s
 static void submits(const uint8_t *sub, size_t n, uint64_t track, uint8_t *reg, size_t rows, size_t records,
                     unsigned first, unsigned second) {
     uint8_t *answers = filled(2, 9);
-    uint64_t report[SIAD_REPORT] = {77, 77, 77, 77};
-    IS(siad_submit(sub, n, track, 2018, 2, reg, SIAD_REGISTER_BYTES(rows), answers, 2, report), SIAD_TAKEN);
+    uint64_t report[SIAD_REPORT] = {77, 77, 77, 77, 77};
+    size_t len = SIAD_REGISTER_BYTES(rows);
+    IS(siad_submit(sub, n, track, 2018, 2, reg, len, answers, 2, report, SIAD_REPORT), SIAD_TAKEN);
     IS(report[SIAD_RECORDS], records);
+    IS(report[SIAD_PLACE], 0);
     IS(answers[0], first);
     IS(answers[1], second);
-    IS(siad_sound(reg, SIAD_REGISTER_BYTES(rows)), 0);
+    IS(siad_sound(reg, len), 0);
     free(answers);
 }
 
@@ -339,11 +390,155 @@ static void undone(const char *folder) {
     free(after);
 }
 
+/* A record's text is replaced, and then the element that begins so is at fault; a root's fault is outside every
+   record. */
+struct fault {
+    uint64_t track;
+    const char *good, *bad, *at;
+};
+
+static const struct fault faults[] = {
+    /* texts, codes and what else stands in a leaf: its own element */
+    {1, "<AnnoNascita>1951", "<AnnoNascita>195", "<AnnoNascita>"},
+    {1, "<Genere>1", "<Genere>3", "<Genere>"},
+    {1, "<CUNI>ABC", "<CUNI>A<!-- B -->", "<CUNI>"},
+    {1, "<CUNI>ABC", "<CUNI><Altro/>", "<CUNI>"},
+    {2, "<Trasmissione tipo=\"I\"/>", "<Trasmissione tipo=\"I\"> </Trasmissione>", "<Trasmissione"},
+    {2, "<CodiceRegione>010", "<CodiceRegione>999", "<CodiceRegione>"},
+    {2, "<TipoOperatore>1", "<TipoOperatore>14", "<TipoOperatore>"},
+    {2, "<Motivazione>9<", "<Motivazione>9\n<", "<Motivazione>"},
+    /* attributes: their element */
+    {1, "2018-05-02", "2018-02-30", "<Valutazione"},
+    {1, " soggettoRichiedente=\"1\"", "", "<PresaInCarico"},
+    {1, "<Conviventi>", "<Conviventi a=\"b\">", "<Conviventi"},
+    {2, "<Assistenza>", "<Assistenza a=\"b\">", "<Assistenza"},
+    {2, "tipo=\"I\"", "tipo=\"X\"", "<Trasmissione"},
+    {2, "dataFine=\"2018-05-05\"", "dataFine=\"2018-5-5\"", "<Sospensione"},
+    {2, "<Id_Rec>", "<Id_Rec a=\"b\">", "<Id_Rec"},
+    /* missing, extra and misordered children, and text between them: the parent */
+    {1, "<CodiceASL>101</CodiceASL>", "", "<Erogatore>"},
+    {1, "</Residenza>", "<Altro/></Residenza>", "<Residenza>"},
+    {1, "<NucleoFamiliare>2</NucleoFamiliare>", "", "<Conviventi>"},
+    {1, "<Assistito>", "<Assistito>text", "<Assistito>"},
+    {2, "<TipoOperatore>1</TipoOperatore>", "", "<Erogazione"},
+    {2, "</Sospensione>", "</Sospensione><Erogazione/>", "<Eventi>"},
+    {2, "</Erogazione>", "</Erogazione>text", "<Eventi>"},
+    {2, "<Erogatore><CodiceRegione>010</CodiceRegione><CodiceASL>101</CodiceASL></Erogatore>", "", "<Assistenza"},
+    /* two faults: the one that is met first */
+    {2, "<CodiceRegione>010</CodiceRegione><CodiceASL>101</CodiceASL>", "<CodiceRegione>0</CodiceRegione>",
+     "<CodiceRegione>"},
+    {2, "<CodiceASL>101</CodiceASL></Erogatore><Eventi>", "</Erogatore><Eventi a=\"b\">", "<Erogatore>"},
+    /* outside every record: the root, whatever the records are */
+    {1, "<FlsAssDom_1>", "<FlsAssDom_1 a=\"b\">", "<FlsAssDom_1"},
+    {1, "</Assistenza></FlsAssDom_1>", "</Assistenza>text</FlsAssDom_1>", "<FlsAssDom_1"},
+    {2, "</Assistenza></FlsAssDom_2>", "<Altro/></Assistenza><Altro/></FlsAssDom_2>", "<FlsAssDom_2"},
+};
+
+/* Where a text has a part for the nth time. */
+static const char *nth(const char *text, const char *part, unsigned n) {
+    const char *p = strstr(text, part);
+    while (p != NULL && --n > 0) p = strstr(p + 1, part);
+    if (p == NULL) {
+        printf("no %s\n", part);
+        exit(2);
+    }
+    return p;
+}
+
+/* A file with the nth good text made bad. */
+static char *made_bad(const char *file, const struct fault *f, unsigned n) {
+    const char *good = nth(file, f->good, n);
+    size_t room = strlen(file) + strlen(f->bad) + 1;
+    char *p = (char *)filled(room, 0);
+    snprintf(p, room, "%.*s%s%s", (int)(good - file), file, f->bad, good + strlen(f->good));
+    return p;
+}
+
+/* The same file with a line for each tag, and with other quotes. */
+static char *written(const char *file, int lines, int single) {
+    char *to = (char *)filled(3 * strlen(file) + 1, 0), *p = to;
+    for (; *file != '\0'; file++) {
+        if (lines && *file == '<' && p > to && p[-1] == '>') p += sprintf(p, "\r\n");
+        *p++ = single && *file == '"' ? '\'' : *file;
+    }
+    return to;
+}
+
+/* A fault in the nth record, in a file that begins with `front`. */
+static void placed(const char *front, const char *file, const struct fault *f, unsigned n) {
+    unsigned number = strncmp(f->at, "<Fls", 4) == 0 ? 0 : n;
+    size_t before = strlen(front), len = before + strlen(file);
+    uint8_t *sub = filled(len, 0);
+    memcpy(sub, front, before);
+    memcpy(sub + before, file, len - before);
+    IS(refused(sub, len, f->track, 2018, 2, SIAD_REGISTER_BYTES(1), 2), SIAD_NOT_SHAPE);
+    IS(told[SIAD_NUMBER], number);
+    if (told[SIAD_PLACE] != before + (size_t)(nth(file, f->at, n) - file)) {
+        printf("%s for %s in record %u: place %llu\n", f->bad, f->good, n, (unsigned long long)told[SIAD_PLACE]);
+        bad = 1;
+    }
+    free(sub);
+}
+
+/* A fault in a file of two records, written in each way. */
+static void placed_in(const char *good, const struct fault *f, unsigned n) {
+    static const char *const fronts[] = {"", "\n", "<?xml version='1.0'?>\r\n<!-- <Assistenza> -->\r\n\t"};
+    char *file = made_bad(good, f, n);
+    for (int how = 0; how < 12; how++) {
+        char *text = written(file, how & 1, how & 2);
+        placed(fronts[how / 4], text, f, n);
+        free(text);
+    }
+    free(file);
+}
+
+#define EVENTS \
+    "<Assistenza><Trasmissione tipo=\"I\"/>" \
+    "<Erogatore><CodiceRegione>010</CodiceRegione><CodiceASL>101</CodiceASL></Erogatore>" \
+    "<Eventi><PresaInCarico data=\"2018-05-01\"><Id_Rec>" ID "</Id_Rec></PresaInCarico>" \
+    VISIT("05-02", "1", "") "<Sospensione dataInizio=\"2018-05-03\" dataFine=\"2018-05-05\">" \
+    "<Motivazione>9</Motivazione></Sospensione></Eventi></Assistenza>"
+
+/* Each fault in the first and in the second record; those of the root are in the file once. */
+static void places(const char *folder) {
+    static const char events[] = "<FlsAssDom_2>" EVENTS EVENTS "</FlsAssDom_2>";
+    size_t n;
+    uint8_t *sub = submission(folder, "case_twice", &n);
+    char *cases = (char *)filled(n + 1, 0);
+    memcpy(cases, sub, n);
+    for (size_t i = 0; i < sizeof faults / sizeof *faults; i++) {
+        const struct fault *f = &faults[i];
+        const char *good = f->track == 1 ? cases : events;
+        placed_in(good, f, 1);
+        if (strncmp(f->at, "<Fls", 4) != 0) placed_in(good, f, 2);
+    }
+    free(sub);
+    free(cases);
+}
+
+/* Line and column of each place of a file, and of none that is outside it or in a line's end (where.c). */
+static void lines(void) {
+    static const unsigned line[] = {1, 1, 0, 0, 2, 2, 0}, column[] = {1, 2, 0, 0, 1, 2, 0};
+    size_t n = 6;
+    uint8_t *file = filled(n, 0), *none = filled(0, 0);
+    struct where w;
+    memcpy(file, "ab\r\ncd", n);
+    for (size_t place = 0; place <= n; place++) {
+        int has = where_is(file, n, place, &w);
+        IS(has ? w.line : 0, line[place]);
+        IS(has ? w.column : 0, column[place]);
+    }
+    IS(where_is(file, n, UINT64_MAX, &w), 0);
+    IS(where_is(none, 0, 0, &w), 0);
+    free(file);
+    free(none);
+}
+
 /* NULL with length 0, as siad.h tells: answered as an empty buffer is. */
 static void nulls(const char *folder) {
     size_t n, len = SIAD_REGISTER_BYTES(1);
     uint8_t *sub = submission(folder, "case_twice", &n), *reg = filled(len, 0);
-    uint64_t report[SIAD_REPORT], place = 77, length = 77;
+    uint64_t place = 77, length = 77;
     IS(siad_empty(NULL, 0), SIAD_UNSOUND);
     IS(siad_sound(NULL, 0), SIAD_UNSOUND);
     IS(siad_find(NULL, 0, NULL, 0, NULL, 0, NULL, 0, NULL, 0, &place), SIAD_UNSOUND);
@@ -352,9 +547,10 @@ static void nulls(const char *folder) {
     IS(siad_cancel_file(NULL, 0, NULL, 0, NULL, 0, NULL, 0, NULL, 0, 2018, 2, NULL, 0, &length), SIAD_UNSOUND);
     IS(siad_cancel_file(reg, len, NULL, 0, NULL, 0, NULL, 0, NULL, 0, 2018, 2, NULL, 0, &length), SIAD_NOT_FOUND);
     IS(length, 0);
-    IS(siad_submit(NULL, 0, 1, 2018, 2, NULL, 0, NULL, 0, report), SIAD_UNSOUND);
-    IS(siad_submit(NULL, 0, 1, 2018, 2, reg, len, NULL, 0, report), SIAD_NOT_MARKUP);
-    IS(siad_submit(sub, n, 1, 2018, 2, reg, len, NULL, 0, report), SIAD_SHORT_LIST);
+    IS(siad_submit(NULL, 0, 1, 2018, 2, NULL, 0, NULL, 0, NULL, 0), SIAD_UNSOUND);
+    IS(siad_submit(NULL, 0, 1, 2018, 2, reg, len, NULL, 0, NULL, 0), SIAD_NOT_MARKUP);
+    IS(siad_submit(sub, n, 2, 2018, 2, reg, len, NULL, 0, NULL, 0), SIAD_NOT_SHAPE);
+    IS(siad_submit(sub, n, 1, 2018, 2, reg, len, NULL, 0, NULL, 0), SIAD_SHORT_LIST);
     IS(all(reg, len, 0), 1);
     free(sub);
     free(reg);
@@ -378,6 +574,8 @@ int main(int argc, char **argv) {
         return 2;
     }
     refusals(argv[1]);
+    report_lengths(argv[1]);
+    places(argv[1]);
     taken(argv[1], SIAD_REGISTER_BYTES(1) - 1, SIAD_NO_ROOM, SIAD_NO_ROOM);
     taken(argv[1], SIAD_REGISTER_BYTES(1), SIAD_ACCEPTED, SIAD_STANDS);
     taken(argv[1], SIAD_REGISTER_BYTES(160), SIAD_ACCEPTED, SIAD_STANDS);
@@ -385,6 +583,7 @@ int main(int argc, char **argv) {
     two_operators(argv[1]);
     undone(argv[1]);
     nulls(argv[1]);
+    lines();
     words();
     puts(bad ? "FAILED" : "ok");
     return bad;

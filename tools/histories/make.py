@@ -58,8 +58,8 @@ def standing(r):
 def taken(answers, r):
     a = sum(1 for x in answers if x == 0)
     return ["file 0 0 records %d accepted %d discarded %d" % (len(answers), a, len(answers) - a)] + ["%d %d" % (i + 1, x) for i, x in enumerate(answers)] + standing(r)
-def refused(answer, r, number=0):
-    return ["file %d %d records 0 accepted 0 discarded 0" % (answer, number)] + standing(r)
+def refused(answer, r, number=0, place=0):
+    return ["file %d %d records 0 accepted 0 discarded 0" % (answer, number)] + (["place %d" % place] if answer == 6 else []) + standing(r)
 
 # ---- submissions
 NEEDS1 = ["DrenaggioPosturale", "OssigenoTerapia", "Ventiloterapia", "Tracheostomia", "(", "GestioneStomia", "ElimiUrinariaIntestinale", "AlterRitmoSonnoVeglia",
@@ -192,9 +192,6 @@ F["conclusion_for_99_cancelled"] = f2(t2([xc("2018-06-01", 99)], tipo="C"))
 F["conclusion_2018_06_02"] = f2(t2([xc("2018-06-02")]))
 F["conclusion_2018_07_31"] = f2(t2([xc("2018-07-31", 3)]))
 F["not_closed"] = "<FlsAssDom_2>\n"
-F["no_record"] = "<FlsAssDom_2/>\n"
-F["text_between_records"] = f2(t2(taken="2018-02-30"), "text\n")
-F["second_taken_in_2018_02_30"] = f2(t2(), t2(taken="2018-02-30"))
 DAYS = [(datetime.date(2018, 5, 1) + datetime.timedelta(i)).isoformat() for i in range(61)]
 E128 = [xr(d) for d in DAYS] + [xv(d) for d in DAYS] + [xs(d, d) for d in DAYS[:6]]
 F["events_128"] = f2(t2(E128))
@@ -217,6 +214,83 @@ F["after_a_cancelled"] = f1(t1(AFTER_A, "C"))
 F["after_a_cancelled_inserted"] = f1(t1(AFTER_A, "C"), t1(AFTER_A))
 F["depth_12"] = "<D>" * 11 + "<D/>" + "</D>" * 11 + "\n"
 F["depth_13"] = "<D>" * 12 + "<D/>" + "</D>" * 12 + "\n"
+
+# ---- files at fault: `@` is no byte of the file. It stands before the `<` of the element that S24 to S26 refuse in, and the bytes before it are the place that
+# 6 must tell
+PLACE = {}
+def at_fault(name, text):
+    assert text.count("@") == 1 and "@<" in text, name
+    PLACE[name], F[name] = text.index("@"), text.replace("@", "")
+def but(text, *changes):
+    for old, new in changes:
+        assert text.count(old) == 1, old
+        text = text.replace(old, new)
+    return text
+VISIT, NO_DAY = t2([xv("2018-05-02")]), t2(taken="2018-02-30")
+TIPO, REGION, ASL = '<Trasmissione tipo="I"/>', "<CodiceRegione>010</CodiceRegione>", "<CodiceASL>101</CodiceASL>"
+EROGATORE, OPERATOR = "<Erogatore>" + REGION + ASL + "</Erogatore>", "<TipoOperatore>2</TipoOperatore>"
+BAD_OPERATOR = (OPERATOR, "@<TipoOperatore>14</TipoOperatore>")
+# outside the records: the root's place
+at_fault("no_record", "@<FlsAssDom_2/>\n")
+at_fault("text_between_records", "@" + f2(NO_DAY, "text\n"))
+at_fault("no_record_but_a_comment", " \t\n@<FlsAssDom_2><!-- none --></FlsAssDom_2>\n")
+at_fault("other_root_after_a_comment", "<!-- Track 1 -->\n@" + F["case_a"])
+at_fault("root_attribute_after_a_declaration", '<?xml version="1.0"?>\n@' + but(f2(VISIT), ("<FlsAssDom_2>", '<FlsAssDom_2 anno="2018">')))
+at_fault("child_of_root_after_a_comment", "<!-- -->\n@" + f2(VISIT, '<Nota data="2018-02-30"/>\n'))
+at_fault("fault_in_a_record_then_text", "<!-- -->\n@" + f2(NO_DAY, "text\n", VISIT))
+at_fault("text_then_fault_in_a_record", "<!-- -->\n@" + f2("text\n", NO_DAY, VISIT))
+# attributes: the place of their element
+at_fault("second_taken_in_2018_02_30", f2(t2(), but(NO_DAY, ("<PresaInCarico", "@<PresaInCarico"))))
+at_fault("second_visit_2018_02_30_crlf", ('<?xml version="1.0" encoding="UTF-8"?>\n<!-- second quarter -->\n'
+  + f2(t2(), but(t2([xv("2018-02-30")]), ("<Erogazione", "@<Erogazione")))).replace("\n", "\r\n"))
+at_fault("suspension_to_2018_05_32", f2(but(t2([xs("2018-05-03", "2018-05-32")]), ("<Sospensione", "@<Sospensione"))))
+at_fault("attribute_in_assistenza", f2(t2(), but(VISIT, ("<Assistenza>", '@<Assistenza anno="2018">'))))
+at_fault("attribute_missing", f2(but(VISIT, (TIPO, "@<Trasmissione/>"))))
+at_fault("attribute_unknown", f2(but(VISIT, ("<CodiceASL>", '@<CodiceASL anno="2018">'))))
+# leaves: their own place, also for a comment or a child in them
+at_fault("comment_in_a_leaf", f2(but(VISIT, (REGION, "@<CodiceRegione>010<!-- Piemonte --></CodiceRegione>"))))
+at_fault("comment_in_an_empty_leaf", f2(but(VISIT, (TIPO, '@<Trasmissione tipo="I"><!-- --></Trasmissione>'))))
+at_fault("child_in_a_leaf", f2(but(VISIT, (ASL, "@<CodiceASL>101<Nota/></CodiceASL>"))))
+at_fault("blank_in_a_leaf", f2(but(VISIT, (OPERATOR, "@<TipoOperatore> 2</TipoOperatore>"))))
+at_fault("leaf_without_text", f2(but(VISIT, (ASL, "@<CodiceASL/>"))))
+at_fault("operator_14", f2(t2(), but(VISIT, BAD_OPERATOR)))
+# children missing, extra or moved, and text between them: the place of their parent
+at_fault("last_child_missing", f2(but(VISIT, (ASL, ""), ("<Erogatore>", "@<Erogatore>"))))
+at_fault("no_child", f2(but(VISIT, (EROGATORE, "@<Erogatore/>"))))
+at_fault("no_eventi", f2(t2(), "@<Assistenza>\n" + TIPO + "\n" + EROGATORE + "\n</Assistenza>\n"))
+at_fault("child_moved", f2(but(VISIT, (EROGATORE, "@<Erogatore>" + ASL + REGION + "</Erogatore>"))))
+at_fault("visit_after_a_suspension", f2(but(t2([xs("2018-05-03"), xv("2018-05-02")]), ("<Eventi>", "@<Eventi>"))))
+at_fault("child_doubled", f2(but(VISIT, (EROGATORE, "@<Erogatore>" + REGION + ASL + ASL + "</Erogatore>"))))
+at_fault("erogatore_doubled", f2(but(VISIT, (EROGATORE, EROGATORE + EROGATORE), ("<Assistenza>", "@<Assistenza>"))))
+at_fault("child_unknown", f2(but(t2(['<Visita data="2018-02-30"/>']), ("<Eventi>", "@<Eventi>"))))
+at_fault("text_between_children", f2(but(VISIT, ("<Eventi>", "@<Eventi>\ntext"))))
+at_fault("text_behind_the_last_child", f2(but(VISIT, ("<PresaInCarico", "@<PresaInCarico"), ("</PresaInCarico>", "text</PresaInCarico>"))))
+# two faults: the first met in reading
+at_fault("region_then_text", f2(but(VISIT, (REGION, "@<CodiceRegione>999</CodiceRegione>"), ("<Eventi>", "<Eventi>text"))))
+at_fault("text_then_operator", f2(but(VISIT, ("<Erogatore>", "@<Erogatore>text"), (OPERATOR, "<TipoOperatore>14</TipoOperatore>"))))
+at_fault("child_then_its_parent", f2(but(VISIT, (REGION, "@<CodiceRegione>XXX</CodiceRegione>"), (ASL, ""))))
+at_fault("parent_then_its_child", f2(but(VISIT, ("<Erogatore>", "@<Erogatore>"), (REGION, ""), (ASL, "<CodiceASL>1</CodiceASL>"))))
+at_fault("attribute_then_leaf", f2(but(t2([xv("2018-02-30", 14)]), ("<Erogazione", "@<Erogazione"))))
+at_fault("leaf_then_attribute", f2(but(VISIT, BAD_OPERATOR, ("</Eventi>", xv("2018-02-30") + "\n</Eventi>"))))
+at_fault("two_bad_records", f2(but(VISIT, BAD_OPERATOR), NO_DAY))
+at_fault("events_129_then_operator_14", f2(t2(E128 + [xc("2018-06-30")]), but(VISIT, BAD_OPERATOR)))
+# Track 1
+at_fault("case_a_without_parenterale", f1(but(t1(), ("<Parenterale>2</Parenterale>", ""), ("<Alimentazione>", "@<Alimentazione>"))))
+at_fault("case_b_prevalente_25", f1(t1(), but(t1("B"), ("<Prevalente>250<", "@<Prevalente>25<"))))
+at_fault("case_a_without_disturbi", f1(but(t1(), ("<Disturbi/>\n", ""), ("<Valutazione", "@<Valutazione"))))
+# the same places, counted: a root and its line feed have 14 bytes, a record without events has 312, or 321 with carriage returns; in it Trasmissione stands at
+# 13, Erogatore at 38, Eventi at 122, PresaInCarico at 131 and the first event at 288 (295 with carriage returns)
+assert [PLACE[f] for f in ("no_record", "text_between_records", "no_record_but_a_comment", "other_root_after_a_comment", "root_attribute_after_a_declaration",
+  "child_of_root_after_a_comment", "fault_in_a_record_then_text", "text_then_fault_in_a_record")] == [0, 0, 3, 17, 22, 9, 9, 9]
+assert [PLACE[f] for f in ("second_taken_in_2018_02_30", "second_visit_2018_02_30_crlf", "suspension_to_2018_05_32", "attribute_in_assistenza",
+  "attribute_missing", "attribute_unknown")] == [14 + 312 + 131, 40 + 25 + 15 + 321 + 295, 14 + 288, 14 + 312, 14 + 13, 14 + 38 + 45]
+assert [PLACE[f] for f in ("comment_in_a_leaf", "comment_in_an_empty_leaf", "child_in_a_leaf", "blank_in_a_leaf", "leaf_without_text", "operator_14")] == [
+  14 + 38 + 11, 14 + 13, 14 + 38 + 45, 14 + 288 + 30, 14 + 38 + 45, 14 + 312 + 288 + 30]
+assert [PLACE[f] for f in ("last_child_missing", "no_child", "no_eventi", "child_moved", "visit_after_a_suspension", "child_doubled", "erogatore_doubled",
+  "child_unknown", "text_between_children", "text_behind_the_last_child")] == [
+  14 + 38, 14 + 38, 14 + 312, 14 + 38, 14 + 122, 14 + 38, 14, 14 + 122, 14 + 122, 14 + 131]
+assert [PLACE[f] for f in ("region_then_text", "text_then_operator", "child_then_its_parent", "parent_then_its_child", "attribute_then_leaf",
+  "leaf_then_attribute", "two_bad_records")] == [14 + 38 + 11, 14 + 38, 14 + 38 + 11, 14 + 38, 14 + 288, 14 + 288 + 30, 14 + 288 + 30]
 
 # ---- cancellation files (docs/CANCELLATION.md): the case's texts as they are lent, events in the register's order, 128 to a record
 def xr1(date, motivo=1): return f'<Rivalutazione data="{date}" motivo="{motivo}" confermaPrecedente="1"></Rivalutazione>'
@@ -291,6 +365,12 @@ REGS = {
 S = []
 def script(name, *steps): S.append((name, steps))
 def sub(track, f, exp, year=2018, quarter=2): return ("submit %d %d %d files/%s.xml" % (track, year, quarter, f), exp)
+# a file at fault in a record, or outside them all; and a report of so many numbers, of which the call tells the first five
+def fault(track, f, r, number=0): return sub(track, f, refused(6, r, number, PLACE[f]))
+def report(n, track, f, answer, told, r, year=2018, quarter=2):
+    assert len(told) == 5
+    numbers = (told[:n] + [77] * 8)[:8]
+    return ("report %d %d %d %d files/%s.xml" % (n, track, year, quarter, f), ans(answer) + ["report " + " ".join(map(str, numbers))] + standing(r))
 def note(t): return ("# " + t, [])
 def ans(n): return ["answer %d" % n]
 def at(n, p): return ["answer %d place %d" % (n, p)]

@@ -16,8 +16,11 @@ script("answers/03_not_sound", note("a register under 4 bytes is never sound, an
 script("answers/04_too_long", note("one byte too long; the longest is taken"), ("rows 1", []),
   ("padded 1048577 1 2018 2 files/case_a.xml", refused(4, rows(1))), ("padded 1048576 1 2018 2 files/case_a.xml", taken([0], rows(1, [A]))))
 script("answers/05_not_in_the_markup", note("the root's end tag is missing"), ("rows 1", []), sub(2, "not_closed", refused(5, rows(1))))
-script("answers/06_not_of_the_shape", note("no record; a text between the records, though one is bad; a second record with a date that is no day; the other track's root"), ("rows 1", []),
-  sub(2, "no_record", refused(6, rows(1))), sub(2, "text_between_records", refused(6, rows(1))), sub(2, "second_taken_in_2018_02_30", refused(6, rows(1), 2)), sub(2, "case_a", refused(6, rows(1))))
+script("answers/06_not_of_the_shape",
+  note("no record; a text between the records, though one is bad; the other track's root: the place is the root's"), ("rows 1", []),
+  fault(2, "no_record", rows(1)), fault(2, "text_between_records", rows(1)), sub(2, "case_a", refused(6, rows(1))),
+  fault(2, "other_root_after_a_comment", rows(1)),
+  note("a second record with a date that is no day: the place is that of its PresaInCarico"), fault(2, "second_taken_in_2018_02_30", rows(1), 2))
 script("answers/07_more_than_128_events", note("129 events in the first record"), ("rows 1", []), sub(2, "events_129", refused(7, rows(1), 1)))
 script("answers/08_answer_list_too_short", note("no byte for the one record; one byte is enough"), ("rows 1", []), ("list 0", []), sub(1, "case_a", refused(8, rows(1))),
   ("list 1", []), sub(1, "case_a", taken([0], rows(1, [A]))))
@@ -319,3 +322,54 @@ with_case("histories/undo_refused", note("years 2008 and 2100, quarters 0 and 5"
   note("the first that holds is given: 1 before 3, 3 before 30, 30 before 33, and 31 and 32 before it"), *writes_none(1, 0, year=2008), *writes_none(3, 0, texts="010 101 2018-05-01 B"),
   ("load registers/case_a", []), *writes_none(1, 0, quarter=5, texts="010 101 2018-05-01 B"), *writes_none(30, 0, texts="010 101 2018-05-01 B"), *writes_none(32, 0),
   sub(2, "revaluation_2_with", taken([0], rows(2, [A], [R12]))), *writes_none(31, 0))
+
+# ---- where the file goes wrong (E5)
+EMPTY = rows(1)
+script("histories/places_outside_the_records",
+  note("the place is the root's, whatever is wrong: 0 where the file begins with it, so that the answer tells a fault and never the place"), ("rows 1", []),
+  fault(2, "no_record", EMPTY), fault(2, "no_record_but_a_comment", EMPTY), fault(2, "root_attribute_after_a_declaration", EMPTY),
+  fault(2, "child_of_root_after_a_comment", EMPTY), note("a record is bad as well, before the text and behind it"),
+  fault(2, "fault_in_a_record_then_text", EMPTY), fault(2, "text_then_fault_in_a_record", EMPTY),
+  note("the other track's root after a comment; in its own track the file is taken"),
+  fault(2, "other_root_after_a_comment", EMPTY), sub(1, "other_root_after_a_comment", taken([0], rows(1, [A]))))
+script("histories/places_of_attributes",
+  note("the place is that of their element: a date in the second record, after a declaration and a comment, each line ended by two bytes"), ("rows 1", []),
+  fault(2, "second_visit_2018_02_30_crlf", EMPTY, 2), fault(2, "suspension_to_2018_05_32", EMPTY, 1),
+  note("one that is missing, one that the schema doesn't name, one in an Assistenza tag"),
+  fault(2, "attribute_missing", EMPTY, 1), fault(2, "attribute_unknown", EMPTY, 1), fault(2, "attribute_in_assistenza", EMPTY, 2))
+script("histories/places_of_leaves", note("their own: a code, a blank before one, no text; a comment and a child in a leaf too"), ("rows 1", []),
+  fault(2, "operator_14", EMPTY, 2), fault(2, "blank_in_a_leaf", EMPTY, 1), fault(2, "leaf_without_text", EMPTY, 1), fault(2, "comment_in_a_leaf", EMPTY, 1),
+  fault(2, "comment_in_an_empty_leaf", EMPTY, 1), fault(2, "child_in_a_leaf", EMPTY, 1),
+  note("Track 1: a Prevalente of two bytes in the second record"), fault(1, "case_b_prevalente_25", EMPTY, 2),
+  note("blanks behind the file move no place"), ("padded 1048576 2 2018 2 files/operator_14.xml", refused(6, EMPTY, 2, PLACE["operator_14"])))
+script("histories/places_of_parents", note("a last child is missing: of an Erogatore, of an Assistenza; an Erogatore has none"), ("rows 1", []),
+  fault(2, "last_child_missing", EMPTY, 1), fault(2, "no_eventi", EMPTY, 2), fault(2, "no_child", EMPTY, 1),
+  note("a child is moved; one is doubled; one is none of the schema, whatever its date"), fault(2, "child_moved", EMPTY, 1),
+  fault(2, "visit_after_a_suspension", EMPTY, 1), fault(2, "child_doubled", EMPTY, 1), fault(2, "erogatore_doubled", EMPTY, 1),
+  fault(2, "child_unknown", EMPTY, 1),
+  note("a text between children, and behind the last"), fault(2, "text_between_children", EMPTY, 1), fault(2, "text_behind_the_last_child", EMPTY, 1),
+  note("Track 1: Parenterale is missing in Alimentazione; Disturbi is missing in Valutazione when a later child comes"),
+  fault(1, "case_a_without_parenterale", EMPTY, 1), fault(1, "case_a_without_disturbi", EMPTY, 1))
+script("histories/places_of_the_first_fault",
+  note("of two faults in a record the first met in reading: a region, and a text behind it; a text, and an operator behind it"), ("rows 1", []),
+  fault(2, "region_then_text", EMPTY, 1), fault(2, "text_then_operator", EMPTY, 1),
+  note("a child is bad, and at the end another is missing: the child's place; one is missing when the next comes, which is bad: the parent's"),
+  fault(2, "child_then_its_parent", EMPTY, 1), fault(2, "parent_then_its_child", EMPTY, 1),
+  note("an attribute, and what stands in its element; a leaf, and a later attribute"),
+  fault(2, "attribute_then_leaf", EMPTY, 1), fault(2, "leaf_then_attribute", EMPTY, 1),
+  note("of two bad records the first; a bad record behind one with 129 events"),
+  fault(2, "two_bad_records", EMPTY, 1), fault(2, "events_129_then_operator_14", EMPTY, 2))
+NONE = [0, 0, 0, 0, 0]
+SECOND = [2, 0, 0, 0, PLACE["second_taken_in_2018_02_30"]]
+script("histories/no_place_but_with_6", note("a file at fault: with 1 to 4 no place is told"), ("rows 1", []), ("list 0", []),
+  report(5, 2, "second_taken_in_2018_02_30", 1, NONE, EMPTY, 2008), report(5, 3, "second_taken_in_2018_02_30", 2, NONE, EMPTY), ("bytes 3", []),
+  report(5, 2, "second_taken_in_2018_02_30", 3, NONE, bytes(3)), ("rows 1", []),
+  ("padded 1048577 2 2018 2 files/second_taken_in_2018_02_30.xml", refused(4, EMPTY)),
+  note("with 6 it is, and then with 5, 7, 8 and 0 not"), report(5, 2, "second_taken_in_2018_02_30", 6, SECOND, EMPTY),
+  report(5, 2, "not_closed", 5, NONE, EMPTY), report(5, 2, "events_129", 7, [1, 0, 0, 0, 0], EMPTY), report(5, 1, "case_a", 8, NONE, EMPTY),
+  ("list 1", []), report(5, 1, "case_a", 0, [0, 1, 1, 0, 0], rows(1, [A])))
+script("histories/reports_of_0_to_8_numbers",
+  note("of eight numbers 77 so many are lent: as many as fit are written, and those past the fifth stay"), ("rows 1", []),
+  *[report(n, 2, "second_taken_in_2018_02_30", 6, SECOND, EMPTY) for n in range(9)],
+  note("of a file that is taken, three cases of which the second is discarded, too: what stands doesn't depend on the report"),
+  *[step for n in range(9) for step in (("rows 4", []), report(n, 1, "cases_a_000_b", 0, [0, 3, 2, 1, 0], rows(4, [A, B])))])

@@ -1,4 +1,4 @@
-// The calls for a host in C, one body each, over numbers and byte slices: no caller is trusted, and every lent byte is stated (host/siad.h declares them).
+// The calls for a host in C, one body each, over numbers and slices: no caller is trusted, and every lent byte is stated (host/siad.h declares them).
 ghost use mathlib.Core.Path.{_≡_};
 ghost use Rattle.register.specs.RoomAndEmptying.{emptied};
 ghost use Rattle.soundness.specs.Sound.{soundness};
@@ -6,10 +6,24 @@ ghost use Rattle.soundness.specs.Finding.{found};
 ghost use Rattle.intake.specs.FileAnswers.{callOf, submitted};
 ghost use Rattle.cancellation.specs.FileText.{caseTexts};
 ghost use Rattle.cancellation.specs.CancelFile.{cancelFile, CancelTold};
-ghost use Rattle.exports.specs.Told.{Told};
+ghost use Rattle.exports.specs.Told.{laidOver, Told};
 use soundness::find::Lookup;
 
-// Takes a submission: its answer, and in the report the record number, the records, the accepted and the discarded.
+// As many of the numbers as fit a report, from its first entry on.
+fn report_on(report: &mut [u64], numbers: &[u64])
+    ensures { λ r. ⌜ now (report .exit) ≡ laidOver (now (report .entry)) (now (numbers .entry)) ⌝ }
+{
+    let mut i = 0;
+    while i < report.len() {
+        if numbers.len() <= i {
+            return;
+        }
+        report[i] = numbers[i];
+        i += 1;
+    }
+}
+
+// Takes a submission: its answer, and in the report the record number, the records, the accepted, the discarded and the place.
 #[no_mangle]
 pub extern "C" fn siad_submit(
     sub: &[u8],
@@ -18,12 +32,19 @@ pub extern "C" fn siad_submit(
     quarter: u64,
     reg: &mut [u8],
     answers: &mut [u8],
-    report: &mut [u64; 4],
+    report: &mut [u64],
 ) -> u64
-    ensures { λ r. ⌜ Told (submitted (callOf (now (sub .entry)) track year quarter (now (answers .entry))) (now (reg .entry))) r (now (report .exit)) (now (reg .exit)) (now (answers .exit)) ⌝ }
+    ensures { λ r. ⌜ Told (submitted (callOf (now (sub .entry)) track year quarter (now (answers .entry))) (now (reg .entry))) (now (report .entry)) r (now (report .exit)) (now (reg .exit)) (now (answers .exit)) ⌝ }
 {
     let said = intake::submit::submit(sub, track, year, quarter, reg, answers);
-    *report = [said.number, said.records, said.accepted, said.discarded];
+    let numbers = [
+        said.number,
+        said.records,
+        said.accepted,
+        said.discarded,
+        said.place,
+    ];
+    report_on(report, &numbers);
     said.answer
 }
 

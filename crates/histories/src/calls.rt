@@ -48,11 +48,11 @@ fn is_blank(s: &[u8], from: usize) -> bool {
     true
 }
 
-// The answer list has as many bytes as the script lends of the buffer.
+// The answer list has as many bytes as the script lends of the buffer. No number of the report is 0 before, so that the call must have said it.
 fn submit(sub: &[u8], track: u64, year: u64, quarter: u64, list: usize, reg: &mut [u8]) {
     let mut buffer = io::buffer();
     let answers: &mut [u8] = &mut buffer;
-    let mut report = [0u64; 4];
+    let mut report = [77u64; 5];
     if answers.len() < list {
         shown::put(b"no list so long\n");
         return;
@@ -67,6 +67,63 @@ fn submit(sub: &[u8], track: u64, year: u64, quarter: u64, list: usize, reg: &mu
         &mut report,
     );
     shown::submitted(answer, &report, answers, reg);
+}
+
+// The same, with so many of eight numbers as the report.
+fn submit_lending(sub: &[u8], line: &[u8], list: usize, reg: &mut [u8], lent: usize) {
+    let mut buffer = io::buffer();
+    let answers: &mut [u8] = &mut buffer;
+    let mut eight = [77u64; 8];
+    let numbers: &mut [u64] = &mut eight;
+    if answers.len() < list {
+        shown::put(b"no list so long\n");
+        return;
+    }
+    if numbers.len() < lent {
+        shown::put(b"no report so long\n");
+        return;
+    }
+    let answer = exports::siad_submit(
+        sub,
+        number(line, 2),
+        number(line, 3),
+        number(line, 4),
+        reg,
+        &mut answers[..list],
+        &mut numbers[..lent],
+    );
+    shown::reported(answer, numbers, reg);
+}
+
+fn submit_file(line: &[u8], list: usize, reg: &mut [u8], sub: &mut [u8]) {
+    let n = read(word(line, 4), sub);
+    submit(
+        part(sub, 0, n),
+        number(line, 1),
+        number(line, 2),
+        number(line, 3),
+        list,
+        reg,
+    );
+}
+
+// With blanks behind the file, up to so many bytes.
+fn submit_padded(line: &[u8], list: usize, reg: &mut [u8], sub: &mut [u8]) {
+    let n = read(word(line, 5), sub);
+    blank(sub, n);
+    submit(
+        part(sub, 0, size(line, 1)),
+        number(line, 2),
+        number(line, 3),
+        number(line, 4),
+        list,
+        reg,
+    );
+}
+
+fn report(line: &[u8], list: usize, reg: &mut [u8], sub: &mut [u8]) {
+    let n = read(word(line, 5), sub);
+    submit_lending(part(sub, 0, n), line, list, reg, size(line, 1));
 }
 
 // The case of the line's texts and this Id_Rec: answer and place.
@@ -152,26 +209,11 @@ fn call(line: &[u8], held: Held, reg: &mut [u8], sub: &mut [u8], out: &[u8]) {
     let name = word(line, 0);
     let list = held.list;
     if same(name, b"submit") {
-        let n = read(word(line, 4), sub);
-        submit(
-            part(sub, 0, n),
-            number(line, 1),
-            number(line, 2),
-            number(line, 3),
-            list,
-            reg,
-        );
+        submit_file(line, list, reg, sub);
     } else if same(name, b"padded") {
-        let n = read(word(line, 5), sub);
-        blank(sub, n);
-        submit(
-            part(sub, 0, size(line, 1)),
-            number(line, 2),
-            number(line, 3),
-            number(line, 4),
-            list,
-            reg,
-        );
+        submit_padded(line, list, reg, sub);
+    } else if same(name, b"report") {
+        report(line, list, reg, sub);
     } else if same(name, b"undo") {
         submit(
             part(out, 0, held.file),

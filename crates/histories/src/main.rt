@@ -3,8 +3,9 @@
 //   rows N, bytes N                        a register for N rows, of N bytes, all zero (at first: 4 bytes)
 //   load FILE                              a register of the file's bytes
 //   list N                                 an answer list of N bytes from here on (at first: 512)
-//   submit TRACK YEAR QUARTER FILE         submits the file; the lines that the program prints, then `sum`
+//   submit TRACK YEAR QUARTER FILE         submits the file; the lines that the program prints, with 6 the place behind the first, then `sum`
 //   padded N TRACK YEAR QUARTER FILE       the same, with blanks behind the file up to N bytes
+//   report N TRACK YEAR QUARTER FILE       submits the file with the first N of eight numbers 77 as the report; the answer, all eight, and what stands
 //   sound, empty, find REGION ASL DATE ID  the other calls; an ID of one character is that character 88 times
 //   cancel N REGION ASL DATE ID YEAR QUARTER   writes a cancellation file into an output of N blanks; answer and length
 //   text FILE                              whether that output is now the file's bytes and the blanks that were behind them: `same` or `differs`

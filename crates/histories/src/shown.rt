@@ -72,7 +72,7 @@ pub fn standing(reg: &[u8]) {
     put(b"\n");
 }
 
-fn file_line(answer: u64, report: &[u64; 4]) {
+fn file_line(answer: u64, report: &[u64; 5]) {
     put(b"file ");
     number(answer);
     put(b" ");
@@ -84,6 +84,15 @@ fn file_line(answer: u64, report: &[u64; 4]) {
     put(b" discarded ");
     number(report[3]);
     put(b"\n");
+}
+
+// With 6 a place of 0 is one too; with another answer there is none, and one that was told would show.
+fn place_line(answer: u64, at: u64) {
+    if (answer == 6) | (at != 0) {
+        put(b"place ");
+        number(at);
+        put(b"\n");
+    }
 }
 
 fn record_line(record: u64, answer: u64) {
@@ -106,9 +115,32 @@ fn record_lines(answers: &[u8], records: u64) {
     }
 }
 
-// The lines that the program prints, and the sum.
-pub fn submitted(answer: u64, report: &[u64; 4], answers: &[u8], reg: &[u8]) {
+fn next_number(n: u64) {
+    put(b" ");
+    number(n);
+}
+
+fn each(numbers: &[u64]) {
+    let mut i = 0;
+    while i < numbers.len() {
+        next_number(numbers[i]);
+        i += 1;
+    }
+}
+
+// The answer, all the numbers, and what stands.
+pub fn reported(n: u64, numbers: &[u64], reg: &[u8]) {
+    answer(n);
+    put(b"report");
+    each(numbers);
+    put(b"\n");
+    standing(reg);
+}
+
+// The lines that the program prints, with the place behind the first, and the sum.
+pub fn submitted(answer: u64, report: &[u64; 5], answers: &[u8], reg: &[u8]) {
     file_line(answer, report);
+    place_line(answer, report[4]);
     record_lines(answers, report[1]);
     standing(reg);
 }

@@ -26,7 +26,7 @@ use Rattle.checks.proofs.Valid.{Sound, parts-of}
 use Rattle.intake.specs.FileAnswers.{Call, Submitted, takenFile, submitted}
 use Rattle.intake.specs.RecordsIn.{recordsIn}
 use Rattle.intake.specs.Demands.{Refused, Answered, context, leftBy, left}
-use Rattle.intake.proofs.Outcome.{Passed, Outcome, stopped, passed, outcome, taken-passed}
+use Rattle.intake.proofs.Outcome.{Passed, Why, fault, other, Outcome, stopped, passed, outcome, taken-passed}
 use Rattle.intake.proofs.SoundBytes.{sound-long, state-back, state-sound}
 use Rattle.intake.proofs.Sound.{left-sound}
 
@@ -38,6 +38,7 @@ pub record Alike (a b : Submitted) : Type 0 where
   pub discarded : a .discarded ≡ b .discarded
   pub register : a .register ≡ b .register
   pub number : a .number ≡ b .number
+  pub place : a .place ≡ b .place
 
 -- any record, where a list has none
 abbrev blank : Record
@@ -57,17 +58,26 @@ module _ (x : Call) (reg : List ℕ) where
   pub refused-keeps : call .answer ≢ 0 → Refused x reg call
   refused-keeps z = go (outcome x reg)
     where
+      -- which refusals tell a record number, and which a place
+      number-why : {a n p : ℕ} → Why x reg a n p → a ≢ 6 → a ≢ 7 → n ≡ 0
+      number-why (fault e f) u v = absurd (u e)
+      number-why (other w k q) u v = k v
+
+      place-why : {a n p : ℕ} → Why x reg a n p → a ≢ 6 → p ≡ 0
+      place-why (fault e f) u = absurd (u e)
+      place-why (other w k q) u = q
+
       go : Outcome x reg → Refused x reg call
-      go (stopped a n e _ k) =
+      go (stopped a n p e _ k) =
+          let a-is : call .answer ≡ a = ap (λ (r : Submitted). r .answer) e in
           record {
             register = ap (λ (r : Submitted). r .register) e;
             answers = ap (λ (r : Submitted). r .answers) e;
             records = ap (λ (r : Submitted). r .records) e;
             accepted = ap (λ (r : Submitted). r .accepted) e;
             discarded = ap (λ (r : Submitted). r .discarded) e;
-            number = λ u v.
-                let a-is : call .answer ≡ a = ap (λ (r : Submitted). r .answer) e in
-                ap (λ (r : Submitted). r .number) e ∙ k (λ q. u (a-is ∙ q)) (λ q. v (a-is ∙ q));
+            number = λ u v. ap (λ (r : Submitted). r .number) e ∙ number-why k (λ q. u (a-is ∙ q)) (λ q. v (a-is ∙ q));
+            place = λ u. ap (λ (r : Submitted). r .place) e ∙ place-why k (λ q. u (a-is ∙ q));
           }
       go (passed p) = absurd (z (ap (λ (r : Submitted). r .answer) (p .gives)))
 
@@ -110,6 +120,7 @@ module _ (x : Call) (reg : List ℕ) where
             rw (take-at ns (drop (length rs) (x .answerList)) (length rs) ns-length)
             (record { as-many = ns-length; together = zeros-others ns ∙ ns-length; zeros-are = refl });
         number = refl;
+        place = refl;
         register = refl;
         stands = state-back n long (left x reg) kept;
         cases-once = asc-once 0 (left x reg .cases) (good .0);
@@ -157,7 +168,7 @@ module _ (x : Call) (reg : List ℕ) where
     answers-same : a .answers ≡ b .answers
     answers-same = ext-getD 0 (a .answers) (b .answers) (h .long ∙ sym (g .long)) (λ i _. each-same i (ltb i (a .records)) refl)
 
-    -- what a taken file is given is one, in every answer, count and byte
+    -- what a taken file is given is one, in every answer, number, place and byte
     pub answered-once : Alike a b
     answered-once =
         let k : Counted (take (a .records) (a .answers)) (b .records) (b .accepted) (b .discarded) = rw (records-same, answers-same) (g .counts) in
@@ -169,4 +180,5 @@ module _ (x : Call) (reg : List ℕ) where
           discarded = c .2;
           register = h .register ∙ sym (g .register);
           number = h .number ∙ sym (g .number);
+          place = h .place ∙ sym (g .place);
         }

@@ -147,7 +147,7 @@ module _ (track : ℕ) {s : List ℕ} {root records long : ℕ} {t : Tree} (w : 
     no-more = omega (arith, u .counted, together)
 
     pub taken-says : (x : Call) → c ≡ contextOf x (length reg) →
-        Says (takenFile (callWith x s track list) reg rs) (record { answer = 0; number = 0; records = records; accepted = k; discarded = records - k }) later told
+        Says (takenFile (callWith x s track list) reg rs) (record { answer = 0; number = 0; records = records; accepted = k; discarded = records - k; place = 0 }) later told
     taken-says x e =
         let j : length (recordsOf (schemaOf track) t) ≡ length rs = sym (length-map (recordsOf (schemaOf track) t) (recordOf track)) in
         let left : records - k ≡ others ns = omega (arith, u .counted, together) in
@@ -157,6 +157,7 @@ module _ (track : ℕ) {s : List ℕ} {root records long : ℕ} {t : Tree} (w : 
           records = sym as-many;
           accepted = u .counted ∙ ap (λ (c : Context). zeros (answers (siadMachine c) (stateOf siad reg) rs)) e;
           discarded = left ∙ ap (λ (c : Context). others (answers (siadMachine c) (stateOf siad reg) rs)) e;
+          place = refl;
           register = u .register ∙ ap (λ (c : Context). encode siad (length reg) (run (siadMachine c) (stateOf siad reg) rs)) e;
           answers =
               u .list-after

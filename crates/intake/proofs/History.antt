@@ -95,7 +95,7 @@ module _ (n : ℕ) where
   entries-ok s x = go (outcome x (encode siad n s))
     where
       go : Outcome x (encode siad n s) → Every Ok (entriesFor n s x)
-      go (stopped a k e z _) = rw (ap (λ (r : Submitted). r .answer) e, ne-eqb a 0 z) tt
+      go (stopped a k _ e z _) = rw (ap (λ (r : Submitted). r .answer) e, ne-eqb a 0 z) tt
       go (passed p) =
           rw (ap (λ (r : Submitted). r .answer) (p .gives))
           (each-entry (contextOf x n) n refl (recordsIn x) (all-readable x (p .tree) (p .left) (p .records) (p .track-is) (p .markup) (p .shape)))
@@ -114,7 +114,7 @@ module _ (n : ℕ) where
 
         go : Outcome x (encode siad n s) →
             call (encode siad n s) x ≡ encode siad n (run entryMachine s (entriesFor n s x))
-        go (stopped a k e z _) =
+        go (stopped a k _ e z _) =
             let nil : entriesFor n s x ≡ [] = rw (ap (λ (r : Submitted). r .answer) e, ne-eqb a 0 z) in
             ap (λ (r : Submitted). r .register) e ∙ sym (ap (λ (es : List Entry). encode siad n (run entryMachine s es)) nil)
         go (passed p) =

@@ -1,6 +1,8 @@
 pub mod Outcome
 pub mod SoundBytes
 pub mod Files
+pub mod Placing
+pub mod FaultSample
 pub mod Sound
 pub mod History
 pub mod Shown

@@ -197,19 +197,19 @@ holding s = encode siad size s
 pub record Given : Type 0 where
   -- Track 1: accepted, 14, accepted; the case stands as the third record says it
   pub first : submitted admissions begun ≡
-      record { answer = 0; number = 0; records = 3; accepted = 2; discarded = 1; register = holding (held "0202"); answers = 0 ∷ 14 ∷ 0 ∷ 9 ∷ [] }
+      record { answer = 0; number = 0; records = 3; accepted = 2; discarded = 1; place = 0; register = holding (held "0202"); answers = 0 ∷ 14 ∷ 0 ∷ 9 ∷ [] }
   -- Track 2: accepted, 20; the accepted record's events stand
   pub second : submitted visits (holding (held "0202")) ≡
-      record { answer = 0; number = 0; records = 2; accepted = 1; discarded = 1; register = holding standing; answers = 0 ∷ 20 ∷ 9 ∷ 9 ∷ [] }
+      record { answer = 0; number = 0; records = 2; accepted = 1; discarded = 1; place = 0; register = holding standing; answers = 0 ∷ 20 ∷ 9 ∷ 9 ∷ [] }
   -- the events cancelled: accepted; every byte is as it was before they were inserted
   pub third : submitted cancellation (holding standing) ≡
-      record { answer = 0; number = 0; records = 1; accepted = 1; discarded = 0; register = holding (held "0202"); answers = 0 ∷ 9 ∷ 9 ∷ 9 ∷ [] }
+      record { answer = 0; number = 0; records = 1; accepted = 1; discarded = 0; place = 0; register = holding (held "0202"); answers = 0 ∷ 9 ∷ 9 ∷ 9 ∷ [] }
   -- the case cancelled while its events stand: accepted, and they go with it; inserted again it comes back without them; the last leaves nothing
   pub fourth : submitted withdrawal (holding standing) ≡
-      record { answer = 0; number = 0; records = 3; accepted = 3; discarded = 0; register = holding empty; answers = 0 ∷ 0 ∷ 0 ∷ 9 ∷ [] }
+      record { answer = 0; number = 0; records = 3; accepted = 3; discarded = 0; place = 0; register = holding empty; answers = 0 ∷ 0 ∷ 0 ∷ 9 ∷ [] }
   -- the other case inserted into the last row of room and cancelled: every byte is as before, those of the events too
   pub fifth : submitted mistake (holding standing) ≡
-      record { answer = 0; number = 0; records = 2; accepted = 2; discarded = 0; register = holding standing; answers = 0 ∷ 0 ∷ 9 ∷ 9 ∷ [] }
+      record { answer = 0; number = 0; records = 2; accepted = 2; discarded = 0; place = 0; register = holding standing; answers = 0 ∷ 0 ∷ 9 ∷ 9 ∷ [] }
 
 pub gives : Given
 unfolding all any same turns loop decimalAfter runLength skipWs byte name value comment dashed declared attribute attributesStep attributes differ tag endTag

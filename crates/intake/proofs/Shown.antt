@@ -52,7 +52,7 @@ module _ (n : ℕ) where
   entries-read s x = go (outcome x (encode siad n s))
     where
       go : Outcome x (encode siad n s) → Every Read (entriesFor n s x)
-      go (stopped a k e z _) = rw (ap (λ (r : Submitted). r .answer) e, ne-eqb a 0 z) tt
+      go (stopped a k _ e z _) = rw (ap (λ (r : Submitted). r .answer) e, ne-eqb a 0 z) tt
       go (passed p) =
           rw (ap (λ (r : Submitted). r .answer) (p .gives))
           (each-read (contextOf x n) (recordsIn x) (all-well x (p .tree) (p .left) (p .records) (p .track-is) (p .markup) (p .shape)))

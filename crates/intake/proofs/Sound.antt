@@ -149,21 +149,21 @@ module _ (x : Call) (reg : List ℕ) (f : Fit (each 8 reg)) where
   sound-kept h = go (outcome x reg)
     where
       go : Outcome x reg → isSound (call .register) ≡ true
-      go (stopped a n e _ _) = ap (λ (r : Submitted). isSound (r .register)) e ∙ h
+      go (stopped a n _ e _ _) = ap (λ (r : Submitted). isSound (r .register)) e ∙ h
       go (passed p) = ap isSound (register-is p) ∙ state-sound (length reg) (sound-long reg f h) t (left-sound p)
 
   pub length-kept : length (call .register) ≡ length reg
   length-kept = go (outcome x reg)
     where
       go : Outcome x reg → length (call .register) ≡ length reg
-      go (stopped a n e _ _) = ap (λ (r : Submitted). length (r .register)) e
+      go (stopped a n _ e _ _) = ap (λ (r : Submitted). length (r .register)) e
       go (passed p) = ap length (register-is p) ∙ state-long (length reg) (sound-long reg f (p .sound)) t (left-sound p)
 
   pub bytes-kept : Fit (each 8 (call .register))
   bytes-kept = go (outcome x reg)
     where
       go : Outcome x reg → Fit (each 8 (call .register))
-      go (stopped a n e _ _) = subst (λ (r : Submitted). Fit (each 8 (r .register))) (sym e) f
+      go (stopped a n _ e _ _) = subst (λ (r : Submitted). Fit (each 8 (r .register))) (sym e) f
       go (passed p) = subst (λ (b : List ℕ). Fit (each 8 b)) (sym (register-is p)) (encode-fit (length reg) t)
 
   -- K1 and K2, of each file

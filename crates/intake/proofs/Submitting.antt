@@ -1,5 +1,5 @@
 -- The ways out of a call, in the order of F1 to F8: what each test found, and what the call then gives.
-use Prim.Native.Nat.{ℕ, _≤_, _<_}
+use Prim.Native.Nat.{ℕ, _-_, _≤_, _<_}
 use mathlib.Core.Path.{_≡_, refl, sym, ap, _∙_}
 use mathlib.Core.Bool.{Bool, true, false, cond, _||_}
 use mathlib.Core.List.{List, []}
@@ -114,8 +114,8 @@ module _ (track : ℕ) {s : List ℕ} {root n : ℕ} (o : Rooted s root) (k : eq
 -- ---- what the call gives
 
 module _ (x : Call) (reg : List ℕ) where
-  abbrev refuse : ℕ → ℕ → Submitted
-  refuse a n = refusal x reg a n
+  abbrev refuse : ℕ → ℕ → ℕ → Submitted
+  refuse a n p = refusal x reg a n p
 
   abbrev call : Submitted
   call = submitted x reg
@@ -124,34 +124,35 @@ module _ (x : Call) (reg : List ℕ) where
   from5 = byMarkup x reg (document (x .file))
 
   -- a refusal, as the code reports it
-  says : {v : Submitted} {r : Report} (a n : ℕ) → v ≡ refuse a n → r ≡ uncounted a n → Says v r reg (x .answerList)
-  says a n e f = rw (e, f) (record { answer = refl; number = refl; records = refl; accepted = refl; discarded = refl; register = refl; answers = refl })
+  says : {v : Submitted} {r : Report} (a n p : ℕ) → v ≡ refuse a n p → r ≡ uncounted a n p → Says v r reg (x .answerList)
+  says a n p e f =
+      rw (e, f) (record { answer = refl; number = refl; records = refl; accepted = refl; discarded = refl; place = refl; register = refl; answers = refl })
 
-  pub says-1 : {r : Report} → isPeriod (x .year) (x .quarter) ≡ false → r ≡ uncounted 1 0 → Says call r reg (x .answerList)
+  pub says-1 : {r : Report} → isPeriod (x .year) (x .quarter) ≡ false → r ≡ uncounted 1 0 0 → Says call r reg (x .answerList)
   unfolding submitted
-  says-1 p e = says 1 0 (rw p) e
+  says-1 p e = says 1 0 0 (rw p) e
 
   module _ (p : isPeriod (x .year) (x .quarter) ≡ true) where
-    pub says-2 : {r : Report} → eqb (x .track) 1 || eqb (x .track) 2 ≡ false → r ≡ uncounted 2 0 → Says call r reg (x .answerList)
+    pub says-2 : {r : Report} → eqb (x .track) 1 || eqb (x .track) 2 ≡ false → r ≡ uncounted 2 0 0 → Says call r reg (x .answerList)
     unfolding submitted
-    says-2 k e = says 2 0 (rw (p, k)) e
+    says-2 k e = says 2 0 0 (rw (p, k)) e
 
     module _ (k : eqb (x .track) 1 || eqb (x .track) 2 ≡ true) where
-      pub says-3 : {r : Report} → isSound reg ≡ false → r ≡ uncounted 3 0 → Says call r reg (x .answerList)
+      pub says-3 : {r : Report} → isSound reg ≡ false → r ≡ uncounted 3 0 0 → Says call r reg (x .answerList)
       unfolding submitted
-      says-3 s e = says 3 0 (rw (p, k, s)) e
+      says-3 s e = says 3 0 0 (rw (p, k, s)) e
 
       module _ (s : isSound reg ≡ true) where
-        pub says-4 : {r : Report} → longest < length (x .file) → r ≡ uncounted 4 0 → Says call r reg (x .answerList)
+        pub says-4 : {r : Report} → longest < length (x .file) → r ≡ uncounted 4 0 0 → Says call r reg (x .answerList)
         unfolding submitted
-        says-4 h e = says 4 0 (rw (p, k, s, lt-ltb longest (length (x .file)) h)) e
+        says-4 h e = says 4 0 0 (rw (p, k, s, lt-ltb longest (length (x .file)) h)) e
 
         pub says-on : {r : Report} {later told : List ℕ} → length (x .file) ≤ longest → Says from5 r later told → Says call r later told
         unfolding submitted
         says-on h e = rw (p, k, s, le-ltb longest (length (x .file)) h) e
 
-  pub says-5 : {r : Report} → refused ≡ document (x .file) → r ≡ uncounted 5 0 → Says from5 r reg (x .answerList)
-  says-5 d e = says 5 0 (rw (← d)) e
+  pub says-5 : {r : Report} → refused ≡ document (x .file) → r ≡ uncounted 5 0 0 → Says from5 r reg (x .answerList)
+  says-5 d e = says 5 0 0 (rw (← d)) e
 
   module _ {root : ℕ} (o : Rooted (x .file) root) where
     abbrev t : Tree
@@ -163,14 +164,14 @@ module _ (x : Call) (reg : List ℕ) where
     shape-is : from5 ≡ byShape x reg t f
     shape-is = ap (byMarkup x reg) (o .whole)
 
-    pub says-6 : {i z : ℕ} {r : Report} → bad i z ≡ heldBy f (crowdedIn (x .track) t) → r ≡ uncounted 6 i → Says from5 r reg (x .answerList)
-    says-6 {i} h e = says 6 i (shape-is ∙ ap (byShape x reg t) (held-bad f (crowdedIn (x .track) t) h)) e
+    pub says-6 : {i z p : ℕ} {r : Report} → bad i z ≡ heldBy f (crowdedIn (x .track) t) → p ≡ length (x .file) - z → r ≡ uncounted 6 i p → Says from5 r reg (x .answerList)
+    says-6 {i} {z} {p} h w e = says 6 i p (shape-is ∙ ap (byShape x reg t) (held-bad f (crowdedIn (x .track) t) h) ∙ ap (refuse 6 i) (sym w)) e
 
-    pub says-7 : {k : ℕ} {r : Report} → over k ≡ heldBy f (crowdedIn (x .track) t) → r ≡ uncounted 7 k → Says from5 r reg (x .answerList)
+    pub says-7 : {k : ℕ} {r : Report} → over k ≡ heldBy f (crowdedIn (x .track) t) → r ≡ uncounted 7 k 0 → Says from5 r reg (x .answerList)
     says-7 {k} h e =
         let w = held-over f (crowdedIn (x .track) t) h in
-        let g : ofShape x reg t ≡ refuse 7 k = rw (w .2, w .3) in
-        says 7 k (shape-is ∙ ap (byShape x reg t) (w .1) ∙ g) e
+        let g : ofShape x reg t ≡ refuse 7 k 0 = rw (w .2, w .3) in
+        says 7 k 0 (shape-is ∙ ap (byShape x reg t) (w .1) ∙ g) e
 
     module _ {n : ℕ} (k : eqb (x .track) 1 || eqb (x .track) 2 ≡ true) (h : good n ≡ heldBy f (crowdedIn (x .track) t)) where
       fine-is : from5 ≡ ofShape x reg t
@@ -179,8 +180,8 @@ module _ (x : Call) (reg : List ℕ) where
       few : crowdedIn (x .track) t ≡ 0
       few = fine-few (x .track) o k h .1
 
-      pub says-8 : {r : Report} → length (x .answerList) < n → r ≡ uncounted 8 0 → Says from5 r reg (x .answerList)
-      says-8 q e = says 8 0 (fine-is ∙ rw (few, lt-ltb (length (x .answerList)) (length (entriesOf (x .track) t)) (rw (as-many (x .track) o k h) q))) e
+      pub says-8 : {r : Report} → length (x .answerList) < n → r ≡ uncounted 8 0 0 → Says from5 r reg (x .answerList)
+      says-8 q e = says 8 0 0 (fine-is ∙ rw (few, lt-ltb (length (x .answerList)) (length (entriesOf (x .track) t)) (rw (as-many (x .track) o k h) q))) e
 
       pub says-0 : {r : Report} {later told : List ℕ} → n ≤ length (x .answerList) → Says (takenFile x reg (entriesOf (x .track) t)) r later told → Says from5 r later told
       says-0 q e = rw (fine-is, few, le-ltb (length (x .answerList)) (length (entriesOf (x .track) t)) (rw (as-many (x .track) o k h) q)) e

@@ -1,10 +1,18 @@
 -- What is demanded of one call (RULES.md, 6 Answers for a file, 9 What is conserved).
 use Prim.Native.Nat.{ℕ, _+_, _<_}
+use Prim.Native.Char.{code}
 use mathlib.Core.Path.{_≡_}
 use mathlib.Core.Logic.{_↔_, _≢_}
 use mathlib.Core.Bool.{true}
 use mathlib.Core.List.{List}
 use lib.ListN.{length, take, drop, getD}
+use Rattle.markup.specs.NamesAndValues.Read.{read}
+use Rattle.markup.specs.Elements.{Tree}
+use Rattle.markup.specs.Document.{document}
+use Rattle.reading.specs.Places.{placeIn}
+use Rattle.reading.specs.Everywhere.{ReadAt}
+use Rattle.schema.specs.AtFault.{FileFault}
+use Rattle.schemas.specs.Schemas.{schemaOf}
 use Rattle.model.specs.Map.{Once}
 use Rattle.model.specs.Checks.{NoneHolds, FirstIs}
 use Rattle.model.specs.Log as machine
@@ -23,7 +31,8 @@ use Rattle.checks.specs.CheckOrder.{checksOf, siadMachine}
 use Rattle.intake.specs.FileAnswers.{Call, Submitted, contextOf}
 use Rattle.intake.specs.RecordsIn.{recordsIn}
 
--- Demand 1, G4: "With 1 to 8 all three counts are 0, and no byte of register or answer list changes"; G3: "The record number is 0 but as F6 and F7 say"
+-- Demand 1, G4: "With 1 to 8 all three counts are 0, and no byte of register or answer list changes"; G3: "The record number is 0 but as F6 and F7 say"; of
+-- the place G8: "with every other answer it is 0"
 pub record Refused (x : Call) (reg : List ℕ) (r : Submitted) : Type 0 where
   pub register : r .register ≡ reg
   pub answers : r .answers ≡ x .answerList
@@ -31,6 +40,19 @@ pub record Refused (x : Call) (reg : List ℕ) (r : Submitted) : Type 0 where
   pub accepted : r .accepted ≡ 0
   pub discarded : r .discarded ≡ 0
   pub number : r .answer ≢ 6 → r .answer ≢ 7 → r .number ≡ 0
+  pub place : r .answer ≢ 6 → r .place ≡ 0
+
+-- G8, of a file that is answered 6: an element of the record named, or that record, or the root; it is read at the place, and `<` stands there
+pub record Placed (x : Call) (r : Submitted) : Type 0 where
+  pub root : Tree
+  pub after : List ℕ
+  pub markup : document (x .file) ≡ read root after
+  pub at : Tree
+  pub fault : FileFault (schemaOf (x .track)) root (r .number) at
+  pub place : r .place ≡ placeIn (x .file) at
+  pub reads : ReadAt (x .file) at
+  pub within : r .place < length (x .file)
+  pub opens : getD (x .file) (r .place) 0 ≡ code "<"
 
 module _ (x : Call) (reg : List ℕ) where
   -- the quarter and the room that the file's records are judged in
@@ -64,6 +86,7 @@ module _ (x : Call) (reg : List ℕ) where
     -- K3: "accepted + discarded = records, and accepted is the zeros of the answer list"
     pub counts : Counted (take (r .records) (r .answers)) (r .records) (r .accepted) (r .discarded)
     pub number : r .number ≡ 0
+    pub place : r .place ≡ 0
     -- the register's rows are the packed fields of what stands, each key once (R30); nothing else is in its bytes
     pub register : r .register ≡ encode siad (length reg) left
     pub stands : stateOf siad (r .register) ≡ left

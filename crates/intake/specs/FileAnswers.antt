@@ -1,5 +1,5 @@
--- The whole call (RULES.md, 6 Answers for a file): one definition that fixes every answer, count and byte.
-use Prim.Native.Nat.{ℕ}
+-- The whole call (RULES.md, 6 Answers for a file): one definition that fixes every answer, number, place and byte.
+use Prim.Native.Nat.{ℕ, _-_}
 use mathlib.Core.Bool.{cond, not, _||_}
 use mathlib.Core.List.{List, _++_, map}
 use lib.Dec.{eqb, ltb}
@@ -35,13 +35,14 @@ abbrev pub callOf : List ℕ → ℕ → ℕ → ℕ → List ℕ → Call
 callOf file track year quarter answerList =
     record { file = file; track = track; year = year; quarter = quarter; answerList = answerList }
 
--- what a call gives: the file's answer, the record number, the counts, and the lent bytes afterwards
+-- what a call gives: the file's answer, the record number, the counts, the place, and the lent bytes afterwards
 pub record Submitted : Type 0 where
   pub answer : ℕ
   pub number : ℕ
   pub records : ℕ
   pub accepted : ℕ
   pub discarded : ℕ
+  pub place : ℕ
   pub register : List ℕ
   pub answers : List ℕ
 
@@ -60,9 +61,18 @@ contextOf x n = record { first = firstDay (x .year) (x .quarter); last = lastDay
 -- of a call x, and the register before it
 module _ (x : Call) (reg : List ℕ) where
   -- G4: "With 1 to 8 all three counts are 0, and no byte of register or answer list changes"
-  abbrev pub refusal : ℕ → ℕ → Submitted
-  refusal answer number =
-      record { answer = answer; number = number; records = 0; accepted = 0; discarded = 0; register = reg; answers = x .answerList }
+  abbrev pub refusal : ℕ → ℕ → ℕ → Submitted
+  refusal answer number place =
+      record {
+        answer = answer;
+        number = number;
+        records = 0;
+        accepted = 0;
+        discarded = 0;
+        place = place;
+        register = reg;
+        answers = x .answerList;
+      }
 
   -- G7: "Records are taken in file order, each judged against the register that the earlier ones left"; G6: "byte i - 1 of the answer list is record i's
   -- answer, and later bytes stay"
@@ -76,6 +86,7 @@ module _ (x : Call) (reg : List ℕ) where
         records = length rs;
         accepted = zeros ns;
         discarded = others ns;
+        place = 0;
         register = encode siad (length reg) (run m (stateOf siad reg) rs);
         answers = ns ++ drop (length rs) (x .answerList);
       }
@@ -83,23 +94,24 @@ module _ (x : Call) (reg : List ℕ) where
   -- 7, 8, 0
   abbrev pub ofShape : Tree → Submitted
   ofShape t =
-      cond (not (eqb (crowdedIn (x .track) t) 0)) (refusal 7 (crowdedIn (x .track) t))
-      (cond (ltb (length (x .answerList)) (length (entriesOf (x .track) t))) (refusal 8 0) (takenFile (entriesOf (x .track) t)))
+      cond (not (eqb (crowdedIn (x .track) t) 0)) (refusal 7 (crowdedIn (x .track) t) 0)
+      (cond (ltb (length (x .answerList)) (length (entriesOf (x .track) t))) (refusal 8 0 0) (takenFile (entriesOf (x .track) t)))
 
-  -- 6
+  -- 6; G8: "the place is that of the first fault (S25, S26) of the record named", which the shape tells by the bytes left there; "with every other answer it
+  -- is 0"
   abbrev pub byShape : Tree → Shape → Submitted
-  byShape t (faulty number place) = refusal 6 number
+  byShape t (faulty number left) = refusal 6 number (length (x .file) - left)
   byShape t (fine records) = ofShape t
 
   -- 5
   abbrev pub byMarkup : Read Tree → Submitted
-  byMarkup refused = refusal 5 0
+  byMarkup refused = refusal 5 0 0
   byMarkup (read t l) = byShape t (shapeOf (schemaOf (x .track)) t)
 
   unfoldable pub submitted : Submitted
   submitted =
-      cond (not (isPeriod (x .year) (x .quarter))) (refusal 1 0)
-      (cond (not (eqb (x .track) 1 || eqb (x .track) 2)) (refusal 2 0)
-      (cond (not (isSound reg)) (refusal 3 0)
-      (cond (ltb longest (length (x .file))) (refusal 4 0)
+      cond (not (isPeriod (x .year) (x .quarter))) (refusal 1 0 0)
+      (cond (not (eqb (x .track) 1 || eqb (x .track) 2)) (refusal 2 0 0)
+      (cond (not (isSound reg)) (refusal 3 0 0)
+      (cond (ltb longest (length (x .file))) (refusal 4 0 0)
       (byMarkup (document (x .file))))))

@@ -38,5 +38,5 @@ callWith x file track answerList =
     record { file = file; track = track; year = x .year; quarter = x .quarter; answerList = answerList }
 
 -- G4: "With 1 to 8 all three counts are 0"
-abbrev pub uncounted : ℕ → ℕ → Report
-uncounted answer number = record { answer = answer; number = number; records = 0; accepted = 0; discarded = 0 }
+abbrev pub uncounted : ℕ → ℕ → ℕ → Report
+uncounted answer number place = record { answer = answer; number = number; records = 0; accepted = 0; discarded = 0; place = place }

@@ -11,5 +11,6 @@ pub record Says (v : Submitted) (r : Report) (reg list : List ℕ) : Type 0 wher
   pub records : r .records ≡ v .records
   pub accepted : r .accepted ≡ v .accepted
   pub discarded : r .discarded ≡ v .discarded
+  pub place : r .place ≡ v .place
   pub register : reg ≡ v .register
   pub answers : list ≡ v .answers

@@ -22,15 +22,16 @@ use markup::Document;
 use markup::file::document;
 use register::room::room_of;
 use schema::file::ShapeAnswer;
+use schema::file::place_of;
 use soundness::sound::is_sound;
 use tracks::shapes::shape_of;
 
 // The longest submission.
 const LONGEST: usize = 1048576;
 
-// A refused file, with the record number that its answer tells.
-fn refused(answer: u64, number: u64) -> Report
-    ensures { λ r. ⌜ r ≡ uncounted answer number ⌝ }
+// A refused file, with the record number and the place that its answer tells.
+fn refused(answer: u64, number: u64, place: u64) -> Report
+    ensures { λ r. ⌜ r ≡ uncounted answer number place ⌝ }
 {
     Report {
         answer,
@@ -38,6 +39,7 @@ fn refused(answer: u64, number: u64) -> Report
         records: 0,
         accepted: 0,
         discarded: 0,
+        place,
     }
 }
 
@@ -61,6 +63,7 @@ fn taken(
         records: records as u64,
         accepted: accepted as u64,
         discarded: (records - accepted) as u64,
+        place: 0,
     }
 }
 
@@ -70,15 +73,17 @@ fn by_markup(l: Limits, track: u64, sub: &[u8], reg: &mut [u8], answers: &mut [u
     ensures { λ r. ⌜ ((x : Call) → contextIn l ≡ contextOf x (length (now (reg .entry))) → Says (byMarkup (callWith x (now (sub .entry)) track (now (answers .entry))) (now (reg .entry)) (document (now (sub .entry)))) r (now (reg .exit)) (now (answers .exit))) ⌝ }
 {
     let Document::Root(c) = document(sub) else {
-        return refused(5, 0);
+        return refused(5, 0, 0);
     };
     let root = c.at;
     match shape_of(track, sub, root) {
-        ShapeAnswer::Faulty { number, .. } => refused(6, number as u64),
-        ShapeAnswer::Crowded(number) => refused(7, number as u64),
+        ShapeAnswer::Faulty { number, from } => {
+            refused(6, number as u64, place_of(sub.len(), from) as u64)
+        }
+        ShapeAnswer::Crowded(number) => refused(7, number as u64, 0),
         ShapeAnswer::Fine(records) => {
             if answers.len() < records {
-                refused(8, 0)
+                refused(8, 0, 0)
             } else {
                 taken(l, track, sub, root, records, reg, answers)
             }
@@ -98,16 +103,16 @@ pub fn submit(
     ensures { λ r. ⌜ Says (submitted (callOf (now (sub .entry)) track year quarter (now (answers .entry))) (now (reg .entry))) r (now (reg .exit)) (now (answers .exit)) ⌝ }
 {
     let Quarter::Days { first, last } = quarter_days(year, quarter) else {
-        return refused(1, 0);
+        return refused(1, 0, 0);
     };
     if !((track == 1) | (track == 2)) {
-        return refused(2, 0);
+        return refused(2, 0, 0);
     }
     if !is_sound(reg) {
-        return refused(3, 0);
+        return refused(3, 0, 0);
     }
     if LONGEST < sub.len() {
-        return refused(4, 0);
+        return refused(4, 0, 0);
     }
     let room = room_of(ROW, reg.len());
     let l = Limits {

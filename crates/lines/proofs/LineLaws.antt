@@ -72,10 +72,10 @@ pub lines-none : (at : ℕ) (l x : List ℕ) → PutUpTo (mostRecord * 0) at (re
 unfolding recordLines
 lines-none at l x = record { put = put-none at x; short = omega arith }
 
--- the lines of what a call told, over an emptied register
+-- the lines of what a call told, over an emptied register, in a report of four numbers
 pub told-lines : (sub : List ℕ) (track year quarter n : ℕ) (list₀ reg₀ : List ℕ) {list reg report x y z w : List ℕ} {answer a b r : ℕ}
     → n ≡ registerBytes → list₀ ≡ replicate answerBytes 0 → reg₀ ≡ emptied (replicate n 0) .register
-    → Told (submitted (callOf sub track year quarter list₀) reg₀) answer report reg list
+    → Told (submitted (callOf sub track year quarter list₀) reg₀) (replicate 4 0) answer report reg list
     → PutUpTo mostFile 0 (fileLine answer (getD report 0 0) (getD report 1 0) (getD report 2 0) (getD report 3 0)) x y a
     → PutUpTo (mostRecord * answerBytes) a (recordLines 1 (take (getD report 1 0) list)) y z b
     → PutUpTo mostStanding b (standingLine (casesHeld reg) (eventsHeld reg)) z w r

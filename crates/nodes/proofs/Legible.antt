@@ -11,13 +11,13 @@ use Rattle.laws.proofs.Truth.{and-left, and-right}
 use Rattle.laws.proofs.Lists.{all-left, all-right}
 use Rattle.markup.specs.Bytes.{inFile, isText, runLength, front, after}
 use Rattle.markup.specs.NamesAndValues.Read.{read}
-use Rattle.markup.specs.Elements.{Inside, Tree, tagPiece, piece, content, element, alone, kids}
+use Rattle.markup.specs.Elements.{Inside, Tree, tagPiece, piece, content, element, alone}
 use Rattle.markup.specs.Elements.Inside.{end}
 use Rattle.markup.specs.Elements.Piece.{words}
 use Rattle.markup.specs.Document.{document}
 use Rattle.reading.proofs.Elements.{tag-no-text}
 use Rattle.reading.specs.Places.{placeIn}
-use Rattle.reading.specs.Everywhere.{Every, Deeply, ReadAt}
+use Rattle.reading.specs.Everywhere.{Deeply, ReadAt}
 use Rattle.reading.proofs.Cut.{never, read-in}
 use Rattle.reading.proofs.Leaves.{front-all}
 use Rattle.reading.proofs.Steps.{Built, built, Pieces, pieces}
@@ -86,9 +86,3 @@ document-legible l t m e =
     deeply-map (ReadAt l) Legible
     (λ c r. record { placed = r .some; prose = element-prose (r .levels) (drop (placeIn l c) l) c (r .after) (r .reads) (all-drop inFile (placeIn l c) l a) })
     (alone t) (place-reads l t m e)
-
-pub kids-known : (p : Tree → Type 0) (i : Inside) → Deeply p i → Every (λ c. Deeply p (alone c)) (kids i)
-kids-known p end h = tt
-kids-known p (Inside.says t k) h = kids-known p k h
-kids-known p (Inside.note k) h = kids-known p k h
-kids-known p (Inside.elem z n ps i k) h = ((h .0, h .1, tt), kids-known p k (h .2))

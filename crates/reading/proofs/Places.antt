@@ -39,6 +39,18 @@ deeply-kids p (says t k) h = deeply-kids p k h
 deeply-kids p (note k) h = deeply-kids p k h
 deeply-kids p (elem z n ps i k) h = (h .0 .0, h .0 .1, deeply-kids p k (h .1))
 
+-- and back: of each child, and of every element in it
+pub kids-known : (p : Tree → Type 0) (i : Inside) → Deeply p i → Every (λ c. Deeply p (alone c)) (kids i)
+kids-known p end h = tt
+kids-known p (says t k) h = kids-known p k h
+kids-known p (note k) h = kids-known p k h
+kids-known p (elem z n ps i k) h = ((h .0, h .1, tt), kids-known p k (h .2))
+
+pub every-get : (p : Tree → Type 0) (ts : List Tree) (k : ℕ) (d : Tree) → Every p ts → k < length ts → p (getD ts k d)
+every-get p [] k d h l = absurd (omega arith)
+every-get p (t ∷ ts) zero d h l = h .0
+every-get p (t ∷ ts) (suc k) d h l = every-get p ts k d (h .1) (omega arith)
+
 -- c was read with d levels somewhere in l
 pub record StandsIn (d : ℕ) (l : List ℕ) (c : Tree) : Type 0 where
   pub before : List ℕ

@@ -21,7 +21,7 @@ Deeply p (says t k) = Deeply p k
 Deeply p (note k) = Deeply p k
 Deeply p (elem z n ps i k) = p (mk z n ps i) × Deeply p i × Deeply p k
 
--- c was read at its place in l, and `<` stands there (request E5, "the byte place of the `<` opening the element")
+-- c was read at its place in l, and `<` stands there
 pub record ReadAt (l : List ℕ) (c : Tree) : Type 0 where
   pub levels : ℕ
   pub after : List ℕ

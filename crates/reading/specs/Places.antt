@@ -32,6 +32,6 @@ abbrev pub own : Read Tree → Read Tree
 own refused = refused
 own (read t m) = read (downTree (length m) t) m
 
--- an element's place in the file l, counted from its start as request E5 does
+-- an element's place in the file l; RULES.md: "Places count bytes from 0"
 abbrev pub placeIn : List ℕ → Tree → ℕ
 placeIn l t = length l - t .from

@@ -11,3 +11,7 @@ pub mod Group
 pub mod Counts
 pub mod Faults
 pub mod Whole
+pub mod Named
+pub mod FaultIn
+pub mod AtFault
+pub mod Right

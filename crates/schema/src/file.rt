@@ -1,5 +1,6 @@
 // The shape of a whole file.
-ghost use Prim.Native.Nat.{_<_};
+ghost use Prim.Native.Nat.{_-_, _<_};
+ghost use mathlib.Core.Path.{_≡_};
 ghost use Rattle.markup.specs.View.{ahead};
 ghost use Rattle.schema.specs.View.{okSeen, Answers, HasName, Takes, JudgedPast, HeldWithin, HeldFile};
 use crate::Outcome;
@@ -29,6 +30,16 @@ pub enum ShapeAnswer {
     Fine(usize),
     Faulty { number: usize, from: usize },
     Crowded(usize),
+}
+
+// The place, counted from 0, that has so many bytes left of all. No contract bounds what is left by the whole: so the other way has a result too.
+pub fn place_of(all: usize, left: usize) -> usize
+    ensures { λ r. ⌜ r ≡ all - left ⌝ }
+{
+    if all < left {
+        return 0;
+    }
+    all - left
 }
 
 // What is known after some records: how many there were, and the first with too many counted elements (0: none); or the first at fault.

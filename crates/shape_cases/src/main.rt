@@ -4,15 +4,8 @@ use markup::Document;
 use markup::bytes::peek;
 use markup::file::document;
 use schema::file::ShapeAnswer;
+use schema::file::place_of;
 use tracks::shapes::shape_of;
-
-// The place from the file's start, by the bytes left there.
-fn place(long: usize, left: usize) -> u64 {
-    if left <= long {
-        return (long - left) as u64;
-    }
-    0
-}
 
 fn say(s: &[u8], shape: ShapeAnswer) {
     match shape {
@@ -25,7 +18,7 @@ fn say(s: &[u8], shape: ShapeAnswer) {
             io::write_all(STDOUT_FILENO, b": at fault, record ");
             io::print_decimal(STDOUT_FILENO, number as u64);
             io::write_all(STDOUT_FILENO, b", place ");
-            io::print_decimal(STDOUT_FILENO, place(s.len(), from));
+            io::print_decimal(STDOUT_FILENO, place_of(s.len(), from) as u64);
             io::write_all(STDOUT_FILENO, b"\n");
         }
         ShapeAnswer::Crowded(number) => {

@@ -98,7 +98,7 @@ gives =
 
 -- the file taken, with an answer list of two bytes 9: its one record is accepted, and the register is as it was before the events
 pub taken-back : submitted (callOf file 2 2018 2 (9 ∷ 9 ∷ [])) reg ≡
-    record { answer = 0; number = 0; records = 1; accepted = 1; discarded = 0; register = holding (held "0202"); answers = 0 ∷ 9 ∷ [] }
+    record { answer = 0; number = 0; records = 1; accepted = 1; discarded = 0; place = 0; register = holding (held "0202"); answers = 0 ∷ 9 ∷ [] }
 unfolding all any same decimalAfter firstOf yearsTo isDate dayOf somePair find keep packs rowIn from rowsBytes encode ascending isSound found those
 taken-back =
     let q : fileIn reg x 2018 2 out ≡ file = ap (λ (w : Written). take (w .long) (w .output)) gives in

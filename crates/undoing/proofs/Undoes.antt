@@ -142,7 +142,7 @@ module _ (reg : List ℕ) (f : Fit (each 8 reg)) (x : CaseTexts) (year quarter :
         takes call reg (treeRead x events) (length (shares events)) (recordsSaid x events) (t .period) refl (t .sound)
         (rw file-is (omega (arith, b .short))) (ap document file-is ∙ b .reads) (b .shaped) (b .few) (b .says) (omega (arith, many))
 
-    -- of a file that is read back as what it says: the call's every answer, count and byte
+    -- of a file that is read back as what it says: the call's every answer, number, place and byte
     pub undoes-read : submitted call reg ≡ takenBack reg x year quarter list
     undoes-read =
         let rs : List Record = recordsSaid x events in
@@ -154,4 +154,4 @@ module _ (reg : List ℕ) (f : Fit (each 8 reg)) (x : CaseTexts) (year quarter :
         let left : encode siad (length reg) (run (siadMachine (contextOf call (length reg))) (stateOf siad reg) rs) ≡ takenBack reg x year quarter list .register
         = ap (encode siad (length reg)) (all-taken reg f x year quarter t .1) in
         let said : ns ++ drop (length rs) list ≡ replicate k 0 ++ drop k list = ap₂ (λ (l : List ℕ) (n : ℕ). l ++ drop n list) a many in
-        taken ∙ (λ i. record { answer = 0; number = 0; records = many i; accepted = yes i; discarded = no i; register = left i; answers = said i })
+        taken ∙ (λ i. record { answer = 0; number = 0; records = many i; accepted = yes i; discarded = no i; place = 0; register = left i; answers = said i })

@@ -40,6 +40,7 @@ module _ (reg : List ℕ) (x : CaseTexts) (year quarter : ℕ) where
         records = recordsWritten;
         accepted = recordsWritten;
         discarded = 0;
+        place = 0;
         register = encode siad (length reg) (lessChosen (caseTold x) (firstDay year quarter) (lastDay year quarter) (stateOf siad reg));
         answers = replicate recordsWritten 0 ++ drop recordsWritten list;
       }

@@ -17,6 +17,9 @@ slice-aggregate-siad-submit c = search needs
 slice-aggregate-siad-submit-2 : tie.Need-slice-aggregate-siad-submit-2
 slice-aggregate-siad-submit-2 c = search needs
 
+slice-aggregate-siad-submit-3 : tie.Need-slice-aggregate-siad-submit-3
+slice-aggregate-siad-submit-3 c = search needs
+
 siad-submit-requires : tie.Need-siad-submit-requires
 siad-submit-requires c κs = search needs
 
@@ -58,7 +61,7 @@ returns c =
     let s = c .before .before in
     let l = s .before .before .before .before .before in
     let f = l .before .before .before .before .before in
-    let u = f .before .before .before .before in
+    let u = f .before .before .before .before .before in
     let e = u .before .before .before .before .before in
     let a = e .before .before .before .before .args in
     told-lines (a .sub .now) (a .track) (a .year) (a .quarter) 14564 (replicate 512 0) (e .siad-empty .last .0) register-size refl
@@ -72,6 +75,7 @@ submit-spec =
     siad-empty-requires
     slice-aggregate-siad-submit
     slice-aggregate-siad-submit-2
+    slice-aggregate-siad-submit-3
     siad-submit-requires
     array-read-file-line
     array-read-file-line-2

@@ -26,6 +26,9 @@ slice-relend-prefix-siad-submit c = search needs
 slice-aggregate-siad-submit : tie.Need-slice-aggregate-siad-submit
 slice-aggregate-siad-submit c = sym (length-take-le _ _ (omega arith))
 
+slice-aggregate-siad-submit-2 : tie.Need-slice-aggregate-siad-submit-2
+slice-aggregate-siad-submit-2 c = search needs
+
 siad-submit-requires : tie.Need-siad-submit-requires
 siad-submit-requires c κs = search needs
 
@@ -49,6 +52,7 @@ submit-spec =
     returns
     slice-relend-prefix-siad-submit
     slice-aggregate-siad-submit
+    slice-aggregate-siad-submit-2
     siad-submit-requires
     submitted-requires
     same-length

@@ -47,6 +47,9 @@ shape-of-requires c κs = search needs
 enum-known-number : tie.Need-enum-known-number
 enum-known-number c = search needs
 
+place-of-requires : tie.Need-place-of-requires
+place-of-requires c κs = search needs
+
 refused-requires-2 : tie.Need-refused-requires-2
 refused-requires-2 c κs = search needs
 
@@ -74,11 +77,12 @@ taken-requires c κs =
 
 returns-2 : tie.Need-returns-2
 returns-2 c =
-    let p = c .before .before .before .before in
+    let w = c .before in
+    let p = w .before .before .before .before in
     let q = p .before .before in
     let o = root q in
-    let k = rw (c .before .before .number .given .1) at (p .shape-of .ensures) in
-    λ x _. says-6 (called (begun q) x) (now (begun q .args .reg)) o (k .0 (o .tree) (o .after) (o .reads) .0) (c .refused2 .ensures)
+    let k = rw (w .before .before .number .given .1) at (p .shape-of .ensures) in
+    λ x _. says-6 (called (begun q) x) (now (begun q .args .reg)) o (k .0 (o .tree) (o .after) (o .reads) .0) (w .place-of .ensures) (c .refused2 .ensures)
 
 returns-3 : tie.Need-returns-3
 returns-3 c =
@@ -125,6 +129,7 @@ by-markup-spec =
     returns
     shape-of-requires
     enum-known-number
+    place-of-requires
     refused-requires-2
     enum-known-number-2
     refused-requires-3
