@@ -2,7 +2,8 @@
    processor. Numbers are 8 bytes, least significant first. Asked: the call's number (0 empty, 1 sound, 2 find,
    3 submit, 4 cancel_file), for a submission track, year and quarter, for a cancellation file year and quarter, then
    each buffer: the bytes lent, the bytes kept on either side, and all of them. In place of the second, AT_END has the
-   buffer end, and AT_START begin, at a page that no one may touch. Told: the answer, and all bytes of each buffer. */
+   buffer end, and AT_START begin, at a page that no one may touch. A submission's last buffer is its report, of as many
+   numbers as its bytes hold. Told: the answer, and all bytes of each buffer. */
 #define _GNU_SOURCE
 #include "../siad.h"
 #include <stdio.h>
@@ -61,7 +62,7 @@ static uint64_t call(uint64_t which, const uint64_t *n, const struct buffer *b) 
                          b[4].len, (uint64_t *)(void *)b[5].lent);
     case 3:
         return siad_submit(b[0].lent, b[0].len, n[0], n[1], n[2], b[1].lent, b[1].len, b[2].lent, b[2].len,
-                           (uint64_t *)(void *)b[3].lent);
+                           (uint64_t *)(void *)b[3].lent, b[3].len / sizeof(uint64_t));
     default:
         return siad_cancel_file(b[0].lent, b[0].len, b[1].lent, b[1].len, b[2].lent, b[2].len, b[3].lent, b[3].len,
                                 b[4].lent, b[4].len, n[0], n[1], b[5].lent, b[5].len, (uint64_t *)(void *)b[6].lent);

@@ -112,7 +112,7 @@ class Held:
         for answers in (rng.randbytes(records), rng.randbytes(records + rng.choice([1, 7, 600]))):
             told = K.check_submit(out[:n], 2, *quarter, before, answers)
             C["files submitted"] += 1
-            if told != (0, 0, records, records, 0, self.reg, bytes(records) + answers[records:]):
+            if told != (0, 0, records, records, 0, self.reg, bytes(records) + answers[records:], 0):
                 K.diff("undone", (out[:n], 2, *quarter, before, answers), (records, self.reg), told)
         if told[0] == 0:                                     # what the file says: the rows, in their order
             said = [(O.case_key(r), [e for e, _ in O.events_of(r)]) for r in O.parse(out[:n]).items]

@@ -1,7 +1,7 @@
 """Calls the oracle and the library on the same bytes and compares everything. The library's calls are made by caller.c;
    CALLER has the words that start it.
    usage: compare.py GENERATOR SEED COUNT   (prints counts as JSON on the last line; every difference goes to target/oracle_diffs/)"""
-import json, os, pickle, random, struct, subprocess, sys, time
+import json, os, pickle, random, struct, subprocess, sys, time, zlib
 from collections import Counter
 from datetime import date
 import oracle as O
@@ -52,12 +52,21 @@ def diff(kind, case, mine, theirs):
               "library", [x if not isinstance(x, bytes) else x[:40] for x in theirs], flush=True)
 
 
+UNTOLD = tuple(0xA5A5A5A5A5A5A500 + i for i in range(8))     # what stands in a report before the call
+LENGTHS = (0, 1, 2, 3, 4) + (5,) * 12 + (6, 7, 8) * 5        # of reports, in numbers
+
+
+def numbers_lent(sub):
+    """C5: "a shorter report gets as many as fit, and entries past the fifth stay": how many are lent goes by the submission, so that a run can be repeated"""
+    return LENGTHS[zlib.crc32(sub) % len(LENGTHS)]
+
+
 def lib_submit(sub, track, year, quarter, reg, answers):
-    s, r, a, rep = Buf(sub, b"></a>" * 4), Buf(reg), Buf(answers), Buf(b"\xA5" * 32)
+    n = numbers_lent(sub)
+    s, r, a, rep = Buf(sub, b"></a>" * 4), Buf(reg), Buf(answers), Buf(struct.pack("<%dQ" % n, *UNTOLD[:n]))
     got = call(SUBMIT, (s, r, a, rep), (track, year, quarter))
     (s1, g1), (r1, g2), (a1, g3), (p1, g4) = s.get(), r.get(), a.get(), rep.get()
-    nums = tuple(int.from_bytes(p1[i:i + 8], "little") for i in (0, 8, 16, 24))
-    return (got, *nums, r1, a1), s1 == sub and g1 and g2 and g3 and g4
+    return (got, struct.unpack("<%dQ" % n, p1), r1, a1), s1 == sub and g1 and g2 and g3 and g4
 
 
 EVENTS = {b"Rivalutazione": (0, b"data"), b"Erogazione": (1, b"data"), b"Sospensione": (2, b"dataInizio"), b"Conclusione": (3, b"dataAD")}
@@ -146,22 +155,26 @@ def count_operators(records, reg, answers):
 
 def check_submit(sub, track, year, quarter, reg, answers):
     mine = O.submit(sub, track, year, quarter, reg, answers)
+    n = numbers_lent(sub)
+    said = mine[0], (mine[1:5] + mine[7:] + UNTOLD[5:])[:n], mine[5], mine[6]
     theirs, kept = lib_submit(sub, track, year, quarter, reg, answers)
     C["submit"] += 1
     C["answer %d" % mine[0]] += 1
+    C["reports of %d numbers" % n] += 1
     if mine[0] == 6:
         C["6 record 0" if mine[1] == 0 else "6 record n"] += 1
+        C["places compared"] += n >= 5
     if mine[0] == 0:
         for x in mine[6][:mine[2]]:
             C["t%d %d" % (track, x)] += 1
         C["register changed"] += mine[5] != reg
-    if mine != theirs or not kept:
-        diff("submit", (sub, track, year, quarter, reg, answers), mine, theirs + (kept,))
+    if said != theirs or not kept:
+        diff("submit", (sub, track, year, quarter, reg, answers), said, theirs + (kept,))
     if theirs[0] == mine[0] == 0:
-        records = told(sub)
-        if not conserved(records, track, reg, theirs[5], theirs[6]):
-            diff("total", (sub, track, year, quarter, reg, answers), mine, theirs)
-        (count_carried if track == 1 else count_operators)(records, reg, theirs[6])
+        records, after, answered = told(sub), *theirs[2:]
+        if not conserved(records, track, reg, after, answered):
+            diff("total", (sub, track, year, quarter, reg, answers), said, theirs)
+        (count_carried if track == 1 else count_operators)(records, reg, answered)
     return mine
 
 

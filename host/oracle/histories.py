@@ -14,10 +14,15 @@ def standing(reg):
     out.append("sum %d"%(int.from_bytes(reg,'big')%P))
 def submit(sub,track,year,quarter):
     global reg
-    a,num,r,acc,dis,reg,ans=oracle.submit(sub,int(track),int(year),int(quarter),reg,bytes(lst))
+    a,num,r,acc,dis,reg,ans,place=oracle.submit(sub,int(track),int(year),int(quarter),reg,bytes(lst))
     out.append("file %d %d records %d accepted %d discarded %d"%(a,num,r,acc,dis))
+    if a==6 or place: out.append("place %d"%place)
     for i in range(r): out.append("%d %d"%(i+1,ans[i]))
     standing(reg)
+def report(sub,lent,track,year,quarter):                     # C5: as many as fit, and the others stay
+    global reg
+    a,*counts,reg,_,place=oracle.submit(sub,int(track),int(year),int(quarter),reg,bytes(lst))
+    told=(counts+[place])[:int(lent)]; out.append("answer %d"%a); out.append("report "+" ".join(map(str,told+[77]*(8-len(told))))); standing(reg)
 def key(region,asl,when,ident): return region.encode(),asl.encode(),when.encode(),(ident*88 if len(ident)==1 else ident).encode()
 for name in open(ROOT+'/args').read().split():
     out.append(name+":"); reg=bytes(4); lst=512; before=after=b""; length=0      # before, after: the output of the last `cancel`
@@ -33,6 +38,7 @@ for name in open(ROOT+'/args').read().split():
             sub=open(D+w[4],'rb').read()
             if n: sub=sub.ljust(n)
             submit(sub,*w[1:4])
+        elif w[0]=='report': report(open(D+w[5],'rb').read(),*w[1:5])
         elif w[0]=='sound': out.append("answer %d"%oracle.sound(reg))
         elif w[0]=='empty':
             a,reg=oracle.empty(reg); out.append("answer %d"%a); standing(reg)

@@ -18,10 +18,11 @@ class Refused(Exception):
 
 
 class Elem:
-    __slots__ = ("name", "attrs", "items")
+    __slots__ = ("name", "attrs", "items", "place")
 
-    def __init__(self, name, attrs, items):
+    def __init__(self, name, attrs, items, place):
         self.name, self.attrs, self.items = name, attrs, items   # items: bytes (text), None (comment), Elem
+        self.place = place                                       # of its `<`; "Places count bytes from 0"
 
 
 class Parser:
@@ -90,6 +91,7 @@ class Parser:
         # an element's children are read by the same rule, with one level less left (M16)
         if left == 0:
             raise Refused
+        place = self.p
         self.expect(b"<")
         name = self.name()
         attrs = {}
@@ -97,7 +99,7 @@ class Parser:
             spaced = self.space()
             if self.at(b"/>"):
                 self.p += 2
-                return Elem(name, attrs, [])                 # M17: "`<X/>` and `<X></X>` mean the same"
+                return Elem(name, attrs, [], place)          # M17: "`<X/>` and `<X></X>` mean the same"
             if self.at(b">"):
                 self.p += 1
                 break
@@ -134,7 +136,7 @@ class Parser:
                     raise Refused
                 self.space()                                 # M14: "white space or none"
                 self.expect(b">")
-                return Elem(name, attrs, items)
+                return Elem(name, attrs, items, place)
             if self.at(b"<!--"):
                 self.comment()
                 items.append(None)
@@ -331,46 +333,66 @@ def children(e):
     return kids
 
 
-def fits(e, t):
-    for a, v in e.attrs.items():
-        if a not in t.attrs or not t.attrs[a][1](v):
-            return False
-    for a, (required, _) in t.attrs.items():
-        if required and a not in e.attrs:
-            return False
+def tag_fault(e, t):
+    """S6: "each attribute that the schema requires and none that it doesn't name", each with a text that it takes"""
+    return (any(a not in t.attrs or not t.attrs[a][1](v) for a, v in e.attrs.items())
+            or any(required and a not in e.attrs for a, (required, _) in t.attrs.items()))
+
+
+def come(t, i, n, name):
+    """(which of the group's children a child of this name is, how many of it then stand there), where the last one was the n-th of child i, or None.
+       S5: "Children come in the schema's order, each as often as the schema says" """
+    while i < len(t.children):
+        next_name, low, high, _ = t.children[i]
+        if name == next_name and (high is None or n < high):
+            return i, n + 1
+        if n < low:
+            return None
+        i, n = i + 1, 0
+    return None
+
+
+def fault(e, t):
+    """The place of the first fault in an element, or None. S25: "the first met in reading: an element's attributes, what stands in it, what is missing at its
+       end". E5: "the `<` opening the element they refused in (for an attribute, its own element)", "Missing, extra or misordered children and text between
+       them report the parent's opening" """
+    if tag_fault(e, t):
+        return e.place
     if isinstance(t, Leaf):
         text = leaf_text(e)
-        return text is not None and t.test(text)
-    kids = children(e)
-    if kids is None:
-        return False
-    i = 0
-    for name, low, high, ct in t.children:                   # S5: "Children come in the schema's order"
-        n = 0
-        while i < len(kids) and kids[i].name == name and (high is None or n < high):
-            if not fits(kids[i], ct):
-                return False
-            i += 1
-            n += 1
-        if n < low:
-            return False
-    return i == len(kids)
+        return None if text is not None and t.test(text) else e.place
+    i = n = 0
+    for item in e.items:
+        if isinstance(item, Elem):
+            next_one = come(t, i, n, item.name)              # S25: "its parent's fault before anything of it is looked at"
+            if next_one is None:
+                return e.place
+            i, n = next_one
+            inner = fault(item, t.children[i][3])
+            if inner is not None:
+                return inner
+        elif item is not None and not only(item, WS):
+            return e.place
+    lows = [low for _, low, _, _ in t.children]
+    return e.place if n < lows[i] or any(lows[i + 1:]) else None
 
 
 def shape(root, track):
-    """(fault, number of the first bad record, records)"""
+    """(the first bad record's number, or 0 for a fault outside every record, and the place), or None; and the records"""
+    outside = (0, root.place), []                            # E5: "record number 0 goes with the place of the root"
     if root.name != b"FlsAssDom_%d" % track:
-        return True, 0, []
+        return outside
     for a in root.attrs:                                     # S7: "begins with the bytes `xmlns` or `xsi:`"
         if not (a.startswith(b"xmlns") or a.startswith(b"xsi:")):
-            return True, 0, []
+            return outside
     records = children(root)
     if not records or any(r.name != b"Assistenza" for r in records):   # F6: "which is looked for first"; S24
-        return True, 0, []
-    for n, r in enumerate(records, 1):
-        if not fits(r, RECORD1 if track == 1 else RECORD2):
-            return True, n, []
-    return False, 0, records
+        return outside
+    for number, r in enumerate(records, 1):
+        place = fault(r, RECORD1 if track == 1 else RECORD2)
+        if place is not None:
+            return (number, place), []
+    return None, records
 
 
 # ------------------------------------------------------------------ a record's fields
@@ -715,8 +737,9 @@ def apply2(r, rec, in_quarter):
 
 
 def submit(sub, track, year, quarter, reg, answers):
-    """-> (answer, record number, records, accepted, discarded, register after, answer list after)"""
-    refuse = lambda a, n=0: (a, n, 0, 0, 0, reg, answers)    # G4: "With 1 to 8 all three counts are 0, and no byte of register or answer list changes"
+    """-> (answer, record number, records, accepted, discarded, register after, answer list after, place)"""
+    # G4: "With 1 to 8 all three counts are 0, and no byte of register or answer list changes"; E5: "Other answers report place 0"
+    refuse = lambda a, n=0, place=0: (a, n, 0, 0, 0, reg, answers, place)
     if not is_period(year, quarter):
         return refuse(1)
     if track not in (1, 2):
@@ -730,9 +753,9 @@ def submit(sub, track, year, quarter, reg, answers):
         root = parse(sub)
     except Refused:
         return refuse(5)
-    fault, n, records = shape(root, track)
-    if fault:
-        return refuse(6, n)
+    bad, records = shape(root, track)
+    if bad:
+        return refuse(6, *bad)
     if track == 2:
         for n, rec in enumerate(records, 1):
             if len(events_of(rec)) > 128:
@@ -743,7 +766,7 @@ def submit(sub, track, year, quarter, reg, answers):
     judge = apply1 if track == 1 else apply2
     got = bytes(judge(r, rec, in_quarter) for rec in records)   # G7: "Records are taken in file order"
     accepted = got.count(0)
-    return 0, 0, len(records), accepted, len(records) - accepted, store(r, len(reg)), got + answers[len(got):]
+    return 0, 0, len(records), accepted, len(records) - accepted, store(r, len(reg)), got + answers[len(got):], 0
 
 
 # ------------------------------------------------------------------ E3: "A cancellation file written from the register"
@@ -827,7 +850,14 @@ if __name__ == "__main__":                                   # P1, P5 and P6; E2
             b'<Conclusione dataAD="2018-05-31"><Motivazione>97</Motivazione></Conclusione></Eventi></Assistenza></FlsAssDom_2>')
     assert cancel_file(reg, *key, 2018, 2, bytes(len(file)) + b"past") == (0, len(file), file + b"past")
     assert len(file) == 27 + 317 + 83 + 90 + 76 + 92 + 101 + 79 + 76
-    assert submit(file, 2, 2018, 2, reg, b"??") == (0, 0, 1, 1, 0, held(), b"\0?")
+    assert submit(file, 2, 2018, 2, reg, b"??") == (0, 0, 1, 1, 0, held(), b"\0?", 0)
+    # E5's places in that file, counted by hand
+    told = lambda old, new: [submit(file.replace(old, new, 1), 2, 2018, 2, reg, b"??")[i] for i in (0, 1, 7)]
+    assert told(b"010<", b"XXX<") == told(b"010</CodiceRegione><CodiceASL>101</CodiceASL>", b"XXX</CodiceRegione>") == [6, 1, 74]
+    assert told(b"<CodiceASL>101</CodiceASL>", b"") == told(b"</Erogatore>", b"x</Erogatore>") == [6, 1, 63] and told(b"101<", b"10<!----><") == [6, 1, 108]
+    assert told(b"<Assistenza>", b"<Assistenza a=''>") == told(b"<Erogatore>", b"<Erogator/><Erogatore>") == [6, 1, 13]
+    assert told(b'data="2018-05-01"', b"") == [6, 1, 154] and told(b"<Eventi>", b"<Eventi><X/>") == [6, 1, 146] and told(b">9<", b"> 9<") == [6, 1, 708]
+    assert told(b"<FlsAssDom_2>", b"<?xml ?> <FlsAssDom_2 a=''>") == [6, 0, 9] and told(b"</Fls", b"x</Fls") == [6, 0, 0]
     answer = lambda reg, quarter, out=bytes(900), texts=key: cancel_file(reg, *texts, 2018, quarter, out)[0]
     over = held((RIV, may(2), 1, NO_END, 0, 2), (SOS, day(b"2018-06-30"), 3, day(b"2018-07-01"), 0, 0))     # conferma 2; and over the quarter's end
     assert [answer(over, q) for q in (2, 3, 4)] == [31, 0, 32] and cancel_file(reg, *key, 2018, 2, file[1:]) == (33, 0, file[1:])
