@@ -1,6 +1,7 @@
 /* A cancellation file: cancel EVENTS REPEATS packs a register with one case and so many visits in quarter 2 of 2018, 14
    operators a day, and has the file written REPEATS times. It prints the answer, the length and the stack of a call. */
 #include "../host/siad.h"
+#include "bits.h"
 #include "painted.h"
 #include <inttypes.h>
 #include <stdio.h>
@@ -13,10 +14,9 @@ static uint8_t reg[SIAD_REGISTER_BYTES(ROWS)], out[SIAD_MOST_CANCEL_BYTES], id[S
 static uint64_t answer, length;
 static size_t bit;
 
-/* The next field of the rows: its bits, most significant first. */
+/* The next field of the rows. */
 static void field(uint64_t value, int bits) {
-    for (int i = bits - 1; i >= 0; i--, bit++)
-        if (value >> i & 1) reg[bit / 8] |= (uint8_t)(0x80 >> bit % 8);
+    bit = put_bits(reg, bit, bits, value);
 }
 
 static void row(size_t i) {

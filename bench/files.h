@@ -5,7 +5,7 @@
 #include <stddef.h>
 #include <stdint.h>
 
-enum { MOST = 1 << 20, ROOM = 4 + 91 * 4096 };
+enum { MOST = 1 << 20, ROOM = 4 + 96 * 4096 };
 
 /* siad_submit, or NULL for a program that only parses: such a one needs no register, and then none is prepared. */
 typedef uint64_t submitter(const uint8_t *, size_t, uint64_t, uint64_t, uint64_t, uint8_t *, size_t, uint8_t *, size_t,

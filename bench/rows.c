@@ -1,25 +1,12 @@
 /* The main function of the programs that store rows: see rows.h. */
 #include "rows.h"
+#include "bits.h"
 #include <inttypes.h>
 #include <stdio.h>
 #include <stdlib.h>
 #include <string.h>
 
 enum { REGION = 10, TAKEN_IN = 43220, EROGAZIONE = 1, NO_END = 131071, CODE = 1, ACCESSES = 1, FAR = 10000 };
-
-/* Writes v's last `wide` bits behind the row's first `at`; answers the next place. */
-static size_t put_bits(uint8_t row[ROW], size_t at, int wide, uint64_t v) {
-    while (wide-- > 0) {
-        if (v >> wide & 1) row[at / 8] = (uint8_t)(row[at / 8] | 128 >> at % 8);
-        at++;
-    }
-    return at;
-}
-
-static size_t put_text(uint8_t row[ROW], size_t at, const char *text) {
-    for (; *text; text++) at = put_bits(row, at, 7, (uint8_t)*text);
-    return at;
-}
 
 static size_t put_key(uint8_t row[ROW], int number) {
     char id[89];

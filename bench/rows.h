@@ -8,7 +8,7 @@
 #include <stddef.h>
 #include <stdint.h>
 
-enum { ROW = 91, KEY = 86, EVENTS = 3570 }; /* an Erogazione's key is its row's first 688 bits */
+enum { ROW = 96, KEY = 86, EVENTS = 3570 }; /* an Erogazione's key is its row's first 688 bits */
 
 struct record {
     uint8_t probe[ROW]; /* the case's key, then zeros */

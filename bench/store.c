@@ -8,12 +8,15 @@
 enum { ROOM = 4 + ROW * 4096 };
 
 bool bench_store_events(uint8_t *reg, size_t n, uint8_t type, const uint8_t *probe, size_t row, const uint64_t *events,
-                        size_t count);
+                        size_t count, const uint64_t *kept, size_t kept_count);
 
 static uint8_t reg[ROOM];
 
+/* No event keeps an evaluation. */
+static const uint64_t kept[128];
+
 void store(const struct record *r) {
-    if (!bench_store_events(reg, ROOM, 'I', r->probe, ROW, r->events, r->n)) exit(2);
+    if (!bench_store_events(reg, ROOM, 'I', r->probe, ROW, r->events, r->n, kept, r->n)) exit(2);
 }
 
 void prepare(const struct record *standing, size_t n) {

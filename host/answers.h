@@ -1,5 +1,6 @@
 /* What the answers say, in words: docs/RULES.md, F and A, shortened, with the schemas' Italian terms. 0 has no words
-   of its own: a file is taken, a record accepted, a register sound, a case found, a cancellation file written. */
+   of its own: a file is taken, a record accepted, a register sound or converted, a case found, a cancellation file
+   written, an evaluation told. */
 #ifndef ANSWERS_H
 #define ANSWERS_H
 #include "siad.h"
@@ -38,15 +39,21 @@ static const struct answer_words {
     {SIAD_SUSPENSIONS_MEET, "two suspensions (Sospensione) share a day; one without dataFine runs on"},
     {SIAD_TWO_CONCLUSIONS, "two conclusions (Conclusione)"},
     {SIAD_AFTER_CONCLUSION, "an event's date or end date is after the conclusion (Conclusione)"},
-    /* of finding, and of a cancellation file */
+    /* of finding, of a cancellation file and of an evaluation */
     {SIAD_NOT_FOUND, "a text is not allowed, or the case does not stand"},
     /* of a cancellation file */
-    {SIAD_REPLACES, "a reassessment (Rivalutazione) of the quarter replaced the assessment (confermaPrecedente 2): the "
-                    "Valutazione that its cancellation must have is not kept"},
+    {SIAD_REPLACES, "a reassessment (Rivalutazione) of the quarter replaced the assessment (confermaPrecedente 2): of "
+                    "the Valutazione that its cancellation must have the register keeps a part only"},
     {SIAD_NOTHING_IN_QUARTER, "the case has no event in this quarter; a suspension (Sospensione) counts in that of "
                               "dataFine, or without one of dataInizio"},
     {SIAD_SHORT_OUTPUT, "the cancellation file is longer than the output"},
 };
+
+/* What the two last calls mean by a number that others answer too. */
+#define NO_EVALUATION \
+    "a text is not allowed, or the case does not stand, or the day is before its taking in (presa in carico)"
+#define NOT_OLD "it is not a sound register in rows of 91 bytes"
+#define WIDE_ALREADY "it is a sound register in rows of 96 bytes already: there is nothing to convert"
 
 /* The words of an answer; `zero` for 0, and NULL for a number that no call answers. */
 static inline const char *words_of(uint64_t answer, const char *zero) {

@@ -137,7 +137,8 @@ static int locked(int fd, void (*waiting)(void)) {
 int lock_file(const char *name, void (*waiting)(void)) {
     char *lock = beside(name, ".lock");
     int fd = open(lock, O_RDWR | O_CREAT | O_CLOEXEC | O_NOFOLLOW, 0666);
-    if (fd < 0 && errno == EACCES) fd = open(lock, O_RDONLY | O_CLOEXEC | O_NOFOLLOW); /* another user made it */
+    /* another user made it, or nothing can be written there */
+    if (fd < 0 && (errno == EACCES || errno == EROFS)) fd = open(lock, O_RDONLY | O_CLOEXEC | O_NOFOLLOW);
     free(lock);
     return locked(fd, waiting);
 }

@@ -23,11 +23,11 @@ static int failed(const char *what, const char *name) {
     return FAILED;
 }
 
-/* The bytes take a file's name. `undone` is what did not happen where they can't, `what` is what the file is. Gives
-   replace_file's 0, 1 or -1, and has told the reason for the last two. */
-static int write_whole(const char *name, const char *said, const struct bytes *b, const char *undone,
+/* The bytes take a file's name, to be used by those who use the file `like`. `undone` is what did not happen where they
+   can't, `what` is what the file is. Gives replace_file's 0, 1 or -1, and has told the reason for the last two. */
+static int write_whole(const char *name, const char *like, const char *said, const struct bytes *b, const char *undone,
                        const char *what) {
-    int done = replace_file(name, name, b);
+    int done = replace_file(name, like, b);
     if (done < 0) fprintf(stderr, "gateway: %s: cannot write %s %s: %s\n", undone, what, said, strerror(errno));
     else if (done > 0) failed("done, but a power failure may undo it: cannot sync the folder of", said);
     return done;
@@ -74,13 +74,15 @@ static int open_register(struct reg *r, const char *said, int writer, int missin
     return read_file(r->name, SIZE_MAX, &r->bytes) == 0 ? GOOD : failed("cannot read the register", said);
 }
 
-/* The new bytes take the register's name; with --backup the old ones first go to REGISTER.bak. `undone` is what did not
-   happen where they can't. Gives and tells what write_whole does. */
-static int write_register(const struct reg *r, const struct bytes *now, const struct options *o, const char *undone) {
+/* The new bytes take the register's name; with --backup the old ones first go to REGISTER.bak. A register that is not
+   there yet is used as the file `like` is, where that is one. `undone` is what did not happen where they can't. Gives
+   and tells what write_whole does. */
+static int write_register(const struct reg *r, const char *like, const struct bytes *now, const struct options *o,
+                          const char *undone) {
     char *bak = beside(r->name, ".bak");
     int done = o->backup && r->bytes.at != NULL ? replace_file(bak, r->name, &r->bytes) : 0;
     if (done < 0) fprintf(stderr, "gateway: %s: cannot write the backup %s: %s\n", undone, bak, strerror(errno));
-    else done = write_whole(r->name, r->said, now, undone, "the register");
+    else done = write_whole(r->name, r->bytes.at != NULL ? r->name : like, r->said, now, undone, "the register");
     free(bak);
     return done;
 }
@@ -94,6 +96,12 @@ static unsigned events_of(const struct bytes *b) {
     return 256u * b->at[2] + b->at[3];
 }
 
+/* Whether it is a sound register of before, in rows of 91 bytes: only then a new one without a byte is too short. */
+static int is_old(const struct bytes *b) {
+    uint8_t none;
+    return siad_convert(b->at, b->len, &none, 0) == SIAD_SHORT_OUTPUT;
+}
+
 /* ---- what is printed: the program's words, a tab, the answer in words */
 
 static const char *in_words(uint64_t answer, const char *zero) {
@@ -105,6 +113,20 @@ static const char *in_words(uint64_t answer, const char *zero) {
 static int printed(int status, const char *done) {
     if (fflush(stdout) == 0 && !ferror(stdout)) return status;
     return failed(done, "cannot be printed");
+}
+
+/* With answer 3, what to do about a register of before. */
+static void tell_old(const struct reg *r, uint64_t answer) {
+    if (answer != SIAD_UNSOUND || !is_old(&r->bytes)) return;
+    fprintf(stderr, "gateway: %s is a register of before, in rows of %d bytes: gateway convert makes rows of %d\n",
+            r->said, SIAD_OLD_ROW_BYTES, SIAD_ROW_BYTES);
+}
+
+/* The status of an answer about a register, once that is out. */
+static int answered(const struct reg *r, uint64_t answer) {
+    int status = printed(answer == 0 ? GOOD : NOT_SO, "the answer");
+    if (status == NOT_SO) tell_old(r, answer);
+    return status;
 }
 
 static void print_file(uint64_t answer, const uint64_t *report) {
@@ -152,6 +174,13 @@ static int number(const char *what, const char *text, uint64_t *n) {
     return FAILED;
 }
 
+static int rows_of(const char *text, uint64_t *rows) {
+    if (number("ROWS", text, rows) != GOOD) return FAILED;
+    if (*rows >= 1 && *rows <= SIAD_MOST_ROWS) return GOOD;
+    fprintf(stderr, "gateway: ROWS is a number from 1 to %d, not %s\n", SIAD_MOST_ROWS, text);
+    return FAILED;
+}
+
 /* The texts that name a case: region, ASL, date, Id_Rec. */
 struct key {
     const uint8_t *text[4];
@@ -169,17 +198,18 @@ static struct key key_of(char **w) {
 
 /* ---- the commands, each over its words */
 
-/* 0 where the file is not there or an emptied register: nothing is lost with it. */
-static int holds_something(const struct reg *r) {
+/* 0 where the file is not there or an emptied register: nothing is lost with it. `forced` is what --force does. */
+static int holds_something(const struct reg *r, const char *forced) {
     if (r->bytes.at == NULL) return 0;
-    if (siad_sound(r->bytes.at, r->bytes.len) != 0) {
+    int before = siad_sound(r->bytes.at, r->bytes.len) != 0;
+    if (before && !is_old(&r->bytes)) {
         fprintf(stderr, "gateway: %s is not a sound register and is left as it is; --force overwrites it\n", r->said);
         return 1;
     }
     unsigned cases = cases_of(&r->bytes), events = events_of(&r->bytes);
     if (cases + events == 0) return 0;
-    fprintf(stderr, "gateway: %s holds something (cases %u events %u) and is left as it is; --force empties it\n",
-            r->said, cases, events);
+    fprintf(stderr, "gateway: %s holds something (cases %u events %u%s) and is left as it is; --force %s it\n", r->said,
+            cases, events, before ? ", in rows of before: gateway convert keeps them" : "", forced);
     return 1;
 }
 
@@ -187,7 +217,7 @@ static int holds_something(const struct reg *r) {
 static int write_empty(const struct reg *r, const struct options *o, size_t len) {
     struct bytes now = {room(len), len};
     uint64_t answer = siad_empty(now.at, now.len);
-    int wrote = write_register(r, &now, o, "NOT emptied"), status = wrote == 0 ? GOOD : FAILED;
+    int wrote = write_register(r, r->name, &now, o, "NOT emptied"), status = wrote == 0 ? GOOD : FAILED;
     if (wrote >= 0) {
         printf("empty %" PRIu64 "\t%s\n", answer, in_words(answer, "an emptied register"));
         print_counts(&now);
@@ -200,13 +230,9 @@ static int write_empty(const struct reg *r, const struct options *o, size_t len)
 static int empty(char **w, const struct options *o) {
     uint64_t rows;
     struct reg r;
-    if (number("ROWS", w[1], &rows) != GOOD) return FAILED;
-    if (rows < 1 || rows > SIAD_MOST_ROWS) {
-        fprintf(stderr, "gateway: ROWS is a number from 1 to %d, not %s\n", SIAD_MOST_ROWS, w[1]);
-        return FAILED;
-    }
+    if (rows_of(w[1], &rows) != GOOD) return FAILED;
     int status = open_register(&r, w[0], 1, 1);
-    if (status == GOOD && !o->force && holds_something(&r)) status = NOT_SO;
+    if (status == GOOD && !o->force && holds_something(&r, "empties")) status = NOT_SO;
     if (status == GOOD) status = write_empty(&r, o, SIAD_REGISTER_BYTES(rows));
     close_register(&r);
     return status;
@@ -233,10 +259,11 @@ static int take(const struct reg *r, const char *said, const struct bytes *sub, 
     uint64_t answer = siad_submit(sub->at, sub->len, period[0], period[1], period[2], now.at, now.len, answers,
                                   sub->len, report, SIAD_REPORT);
     int changed = memcmp(now.at, r->bytes.at, now.len) != 0;
-    int wrote = changed ? write_register(r, &now, o, "the submission is NOT taken") : 0;
+    int wrote = changed ? write_register(r, r->name, &now, o, "the submission is NOT taken") : 0;
     int status = wrote != 0 ? FAILED : answer == SIAD_TAKEN ? GOOD : NOT_SO;
     if (wrote >= 0) status = print_report(status, answer, report, answers, &now);
     if (answer == SIAD_NOT_SHAPE && status == NOT_SO) tell_place(said, sub, report);
+    if (status == NOT_SO) tell_old(r, answer);
     free(now.at);
     free(answers);
     return status;
@@ -268,7 +295,7 @@ static int sound(char **w, const struct options *o) {
     if (status == GOOD) {
         uint64_t answer = siad_sound(r.bytes.at, r.bytes.len);
         printf("sound %" PRIu64 "\t%s\n", answer, in_words(answer, "the register is sound"));
-        status = printed(answer == 0 ? GOOD : NOT_SO, "the answer");
+        status = answered(&r, answer);
     }
     close_register(&r);
     return status;
@@ -285,7 +312,7 @@ static int find(char **w, const struct options *o) {
                                     k.len[2], k.text[3], k.len[3], &place);
         printf("find %" PRIu64 " %" PRIu64 "\t%s\n", answer, place,
                in_words(answer, "the case stands; its row begins at this place of the register, counted from 0"));
-        status = printed(answer == 0 ? GOOD : NOT_SO, "the answer");
+        status = answered(&r, answer);
     }
     close_register(&r);
     return status;
@@ -299,7 +326,7 @@ static int count(char **w, const struct options *o) {
         uint64_t answer = siad_sound(r.bytes.at, r.bytes.len);
         if (answer == 0) print_counts(&r.bytes);
         else printf("count %" PRIu64 "\t%s\n", answer, in_words(answer, ""));
-        status = printed(answer == 0 ? GOOD : NOT_SO, "the answer");
+        status = answered(&r, answer);
     }
     close_register(&r);
     return status;
@@ -317,18 +344,17 @@ static int left(const char *name, const char *why, const char *unless) {
 }
 
 /* Not so where the name is the register's, or that of a file which a gateway makes beside it: what is written there
-   would be lost with the next submission, or be taken for a lock or a backup. */
-static int not_its_own(const struct reg *r, const char *said, const char *name) {
-    static const char *const own[][2] = {{"", "is the register"},
-                                         {".new", "is for the register's new bytes"},
-                                         {".lock", "is for the register's lock"},
-                                         {".bak", "is for the register's backup"},
-                                         {".bak.new", "is for the backup's new bytes"}};
+   would be lost with the next submission, or be taken for a lock or a backup. `which` register it is, is told. */
+static int not_its_own(const struct reg *r, const char *which, const char *said, const char *name) {
+    static const char *const own[][2] = {
+        {"", ""}, {".new", "'s new bytes"}, {".lock", "'s lock"}, {".bak", "'s backup"}, {".bak.new", "'s new backup"}};
     for (size_t i = 0; i < sizeof own / sizeof *own; i++) {
         char *kept = beside(r->name, own[i][0]);
         int same = same_file(name, kept);
         free(kept);
-        if (same) return left(said, own[i][1], "");
+        if (!same) continue;
+        fprintf(stderr, "gateway: %s is %s%s%s and is left as it is\n", said, i > 0 ? "for " : "", which, own[i][1]);
+        return NOT_SO;
     }
     return GOOD;
 }
@@ -336,7 +362,8 @@ static int not_its_own(const struct reg *r, const char *said, const char *name) 
 /* Whether a file may be written by way of `fresh`, which replace_file removes before: neither is the register's, and
    nothing stands there but what --force gives up. A name that is still a link leads to nothing (named). */
 static int may_write_by(const char *fresh, const struct reg *r, const char *said, const char *name, int force) {
-    if (not_its_own(r, said, name) != GOOD || not_its_own(r, fresh, fresh) != GOOD) return NOT_SO;
+    if (not_its_own(r, "the register", said, name) != GOOD) return NOT_SO;
+    if (not_its_own(r, "the register", fresh, fresh) != GOOD) return NOT_SO;
     enum kind kind = kind_of(name);
     if (kind == NOTHING && taken(name)) return left(said, "is a link to nothing", "");
     if (force) return GOOD;
@@ -369,11 +396,12 @@ static int write_cancel(const struct reg *r, const char *name, char **w, const u
         siad_cancel_file(r->bytes.at, r->bytes.len, k.text[0], k.len[0], k.text[1], k.len[1], k.text[2], k.len[2],
                          k.text[3], k.len[3], period[0], period[1], out.at, SIAD_MOST_CANCEL_BYTES, &length);
     out.len = length;
-    int wrote = answer == 0 ? write_whole(name, w[1], &out, "NOT written", "the cancellation file") : 0;
+    int wrote = answer == 0 ? write_whole(name, name, w[1], &out, "NOT written", "the cancellation file") : 0;
     int status = wrote != 0 ? FAILED : answer == 0 ? GOOD : NOT_SO;
     if (wrote >= 0) {
         print_cancel(answer, length, w + 2);
         status = printed(status, answer == 0 ? "the cancellation file is written, but that" : "the answer");
+        if (status == NOT_SO) tell_old(r, answer);
     }
     free(out.at);
     return status;
@@ -399,6 +427,144 @@ static int cancel_file(char **w, const struct options *o) {
     return status;
 }
 
+/* ---- an evaluation */
+
+/* Its prevalente, which may have blanks and line ends (S15): each of them, and a backslash, as \x and two digits. */
+enum { SPELLED = 4 * (SIAD_FIELDS - SIAD_PREVALENTE) + 1 };
+
+static void spell(const uint8_t *fields, char text[SPELLED]) {
+    text[0] = '\0';
+    for (int i = SIAD_PREVALENTE; i < SIAD_FIELDS && fields[i] != 0; i++) {
+        int seen = fields[i] > ' ' && fields[i] <= '~' && fields[i] != '\\';
+        text += sprintf(text, seen ? "%c" : "\\x%02X", (unsigned)fields[i]);
+    }
+}
+
+static void print_evaluation(const uint8_t *fields) {
+    static const char *const names[SIAD_PREVALENTE] = {
+        "autonomy (Autonomia)",
+        "mobility (GradoMobilita)",
+        "cognitive disorders (Cognitivi)",
+        "behavioural disorders (Comportamentali)",
+        "social support (SupportoSociale)",
+        "risk of infection (RischioInfettivo)",
+    };
+    char prevalente[SPELLED];
+    spell(fields, prevalente);
+    fputs("evaluation 0", stdout);
+    for (int i = 0; i < SIAD_PREVALENTE; i++) printf(" %u", fields[i]);
+    printf(" %s\t", prevalente);
+    for (int i = 0; i < SIAD_PREVALENTE; i++)
+        if (fields[i] == 0) printf("%s missing, ", names[i]);
+        else printf("%s %u, ", names[i], fields[i]);
+    printf("main diagnosis (Prevalente) %s\n", prevalente);
+}
+
+static int evaluation(char **w, const struct options *o) {
+    struct reg r;
+    (void)o;
+    int status = open_register(&r, w[0], 0, 0);
+    if (status == GOOD) {
+        uint8_t fields[SIAD_FIELDS];
+        struct key k = key_of(w + 1);
+        uint64_t answer = siad_evaluation(r.bytes.at, r.bytes.len, k.text[0], k.len[0], k.text[1], k.len[1], k.text[2],
+                                          k.len[2], k.text[3], k.len[3], (const uint8_t *)w[5], strlen(w[5]), fields);
+        if (answer == 0) print_evaluation(fields);
+        else
+            printf("evaluation %" PRIu64 "\t%s\n", answer,
+                   answer == SIAD_NOT_FOUND ? NO_EVALUATION : in_words(answer, ""));
+        status = answered(&r, answer);
+    }
+    close_register(&r);
+    return status;
+}
+
+/* ---- a register converted */
+
+/* Reads the old register; where gateways have written it, its lock stands, and one that is writing it is waited for. */
+static int open_old(struct reg *r, const char *said) {
+    int status = open_register(r, said, 0, 0);
+    if (status != GOOD) return status;
+    char *lock = beside(r->name, ".lock");
+    if (taken(lock)) {
+        close_register(r);
+        status = open_register(r, said, 1, 0);
+        if (r->lock >= 0) unlock_file(r->lock);
+        r->lock = -1;
+    }
+    free(lock);
+    return status;
+}
+
+/* Not so where one of the two registers is the other, or a file that a gateway makes beside it, and, without --force,
+   where the new one is not there but what it is written by way of is. Asked before the new one is locked, so that no
+   lock is made beside the old one. */
+static int apart(const struct reg *old, const char *said, const struct options *o) {
+    struct reg fresh = {said, NULL, {NULL, 0}, -1};
+    int status = named(said, 1, "cannot write the register", &fresh.name);
+    if (status == GOOD) status = not_its_own(old, "the old register", said, fresh.name);
+    if (status == GOOD) status = not_its_own(&fresh, "the new register", old->said, old->name);
+    if (status == GOOD && kind_of(fresh.name) == NOTHING && taken(fresh.name))
+        status = left(said, "is a link to nothing", "");
+    if (status == GOOD && !o->force && kind_of(fresh.name) == NOTHING) {
+        char *way = beside(fresh.name, ".new");
+        if (taken(way)) status = left(way, "is in the way", "; --force removes it");
+        free(way);
+    }
+    close_register(&fresh);
+    return status;
+}
+
+/* The new register's file, where nothing is lost with what stands there, and what stands in it then. A file that was
+   not there is used as the old register's is. */
+static int write_converted(const struct reg *old, const char *said, const struct bytes *now, const struct options *o) {
+    struct reg fresh;
+    int wrote = -1, status = open_register(&fresh, said, 1, 1);
+    if (status == GOOD) status = not_its_own(old, "the old register", said, fresh.name); /* as it is named now */
+    if (status == GOOD && !o->force && holds_something(&fresh, "replaces")) status = NOT_SO;
+    if (status == GOOD) {
+        wrote = write_register(&fresh, old->name, now, o, "NOT converted");
+        status = wrote == 0 ? GOOD : FAILED;
+    }
+    if (wrote >= 0) {
+        puts("convert 0\tall stands as before; a reassessment (Rivalutazione) keeps no Valutazione until it is varied");
+        print_counts(now);
+        status = printed(status, "the register is converted, but that");
+    }
+    close_register(&fresh);
+    return status;
+}
+
+/* Why not. Of a register that is too large for the new one the counts are known: it is sound. */
+static int print_not_converted(uint64_t answer, const struct reg *old, uint64_t rows) {
+    printf("convert %" PRIu64 "\t", answer);
+    if (answer == SIAD_SHORT_OUTPUT) {
+        unsigned cases = cases_of(&old->bytes), events = events_of(&old->bytes);
+        printf("%u rows stand (cases %u events %u), too many for %" PRIu64 "\n", cases + events, cases, events, rows);
+    } else if (answer == SIAD_UNSOUND) {
+        puts(siad_sound(old->bytes.at, old->bytes.len) == 0 ? WIDE_ALREADY : NOT_OLD);
+    } else {
+        puts(in_words(answer, ""));
+    }
+    return printed(NOT_SO, "the answer");
+}
+
+static int convert(char **w, const struct options *o) {
+    uint64_t rows;
+    struct reg old;
+    if (rows_of(w[2], &rows) != GOOD) return FAILED;
+    int status = open_old(&old, w[0]);
+    if (status == GOOD) status = apart(&old, w[1], o);
+    if (status == GOOD) {
+        struct bytes now = {room(SIAD_REGISTER_BYTES(rows)), SIAD_REGISTER_BYTES(rows)};
+        uint64_t answer = siad_convert(old.bytes.at, old.bytes.len, now.at, now.len);
+        status = answer == 0 ? write_converted(&old, w[1], &now, o) : print_not_converted(answer, &old, rows);
+        free(now.at);
+    }
+    close_register(&old);
+    return status;
+}
+
 static const char help[] =
     "gateway empty [--force] [--backup] REGISTER ROWS\n"
     "    makes an emptied register for ROWS cases and events, 1 to 4096; a file that holds something is\n"
@@ -418,7 +584,15 @@ static const char help[] =
     "gateway cancel-file [--force] REGISTER FILE REGION ASL DATE ID YEAR QUARTER\n"
     "    writes FILE, a submission of Track 2 that cancels every event of a case in a quarter; the register is\n"
     "    only read, until FILE is submitted; a FILE that exists is left as it is, unless --force\n"
-    "--backup keeps the register as it was before, as REGISTER.bak.\n"
+    "gateway evaluation REGISTER REGION ASL DATE ID DAY\n"
+    "    tells the assessment (Valutazione) of a case that is in force on DAY, as AAAA-MM-GG: six numbers, 0 for\n"
+    "    one that is missing (Autonomia, GradoMobilita, Cognitivi, Comportamentali, SupportoSociale,\n"
+    "    RischioInfettivo), and the main diagnosis (Prevalente), in which \\x and two digits stand for a blank, a\n"
+    "    tab, a line end or a backslash\n"
+    "gateway convert [--force] [--backup] OLD NEW ROWS\n"
+    "    makes NEW, a register for ROWS cases and events, 1 to 4096, of OLD, a register of before, in rows of 91\n"
+    "    bytes; OLD is only read; a NEW that holds something is left as it is, unless --force\n"
+    "--backup keeps the register as it was before, as REGISTER.bak (of convert: NEW.bak).\n"
     "After a tab each line has its answer in words. Exit status: 0 taken, or so; 1 refused, or not so;\n"
     "2 the gateway failed, with the reason on standard error. REGISTER.lock keeps two gateways from writing\n"
     "one register at the same time: the second waits.\n";
@@ -436,6 +610,8 @@ static const struct command {
     {"find", 5, "REGISTER REGION ASL DATE ID", 0, 0, find},
     {"count", 1, "REGISTER", 0, 0, count},
     {"cancel-file", 8, "REGISTER FILE REGION ASL DATE ID YEAR QUARTER", 1, 0, cancel_file},
+    {"evaluation", 6, "REGISTER REGION ASL DATE ID DAY", 0, 0, evaluation},
+    {"convert", 3, "OLD NEW ROWS", 1, 1, convert},
 };
 
 /* Takes the options out of a command's words: how many words are left, or -1. */
@@ -474,6 +650,6 @@ int main(int argc, char **argv) {
         if (strcmp(argv[1], commands[i].name) == 0) return run(&commands[i], argv + 2);
     if (argc < 2) fputs("gateway: no command", stderr);
     else fprintf(stderr, "gateway: no command %s", argv[1]);
-    fputs("; there are empty, submit, sound, find, count, cancel-file and --help\n", stderr);
+    fputs("; there are empty, submit, sound, find, count, cancel-file, evaluation, convert and --help\n", stderr);
     return FAILED;
 }

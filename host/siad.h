@@ -8,7 +8,8 @@
    over buffers of their own may run at the same time.
    Stack: measured, not proved: siad_submit at most 15,752 bytes on the files that bench/stack makes, hostile ones among
    them; siad_sound 9,932 and siad_find 10,188, each on a register for 4,096 rows that bench's two ordinary files
-   filled; siad_cancel_file 11,286, for 1 to 1,274 events (bench/cancel). Keep 16 KB free. */
+   filled; siad_cancel_file 11,286, for 1 to 1,274 events (bench/cancel); siad_evaluation XXX and siad_convert XXX, for
+   1 to 4,095 events (bench/evaluation). Keep 16 KB free. */
 #ifndef SIAD_H
 #define SIAD_H
 #include <stddef.h>
@@ -16,9 +17,13 @@
 
 /* A register for n rows: its header, then rows of cases and of events. More than SIAD_MOST_ROWS are never used. */
 #define SIAD_HEADER_BYTES 4
-#define SIAD_ROW_BYTES 91
+#define SIAD_ROW_BYTES 96
 #define SIAD_MOST_ROWS 4096
 #define SIAD_REGISTER_BYTES(n) (SIAD_HEADER_BYTES + (size_t)SIAD_ROW_BYTES * (n))
+
+/* The same before a Rivalutazione's evaluation was kept (E6), when rows were shorter: what siad_convert reads. */
+#define SIAD_OLD_ROW_BYTES 91
+#define SIAD_OLD_REGISTER_BYTES(n) (SIAD_HEADER_BYTES + (size_t)SIAD_OLD_ROW_BYTES * (n))
 
 /* The longest submission, and the events that a record may have. */
 #define SIAD_MOST_BYTES 1048576
@@ -28,8 +33,8 @@
    bytes each, 317 for each of 32 records, 27 for the root. */
 #define SIAD_MOST_CANCEL_BYTES 423766
 
-/* The texts that siad_find and siad_cancel_file take: their lengths, the date as AAAA-MM-GG. Any other length is
-   answered 30. */
+/* The texts that siad_find, siad_cancel_file and siad_evaluation take: their lengths, a date and a day as AAAA-MM-GG.
+   Any other length is answered 30. */
 #define SIAD_REGION_BYTES 3
 #define SIAD_ASL_BYTES 3
 #define SIAD_DATE_BYTES 10
@@ -71,15 +76,18 @@ enum siad_record_answer {
     SIAD_AFTER_CONCLUSION = 28  /* an event or its end after the conclusion */
 };
 
-/* siad_find beside 0 and SIAD_UNSOUND: a text isn't allowed, or the case doesn't stand. */
+/* siad_find and siad_evaluation beside 0 and SIAD_UNSOUND: a text isn't allowed, or the case doesn't stand; or the day,
+   which siad_evaluation alone is told, is before the taking in. */
 enum siad_find_answer { SIAD_NOT_FOUND = 30 };
 
-/* siad_cancel_file beside 0, SIAD_BAD_PERIOD, SIAD_UNSOUND and SIAD_NOT_FOUND, and after them. */
+/* siad_cancel_file beside 0, SIAD_BAD_PERIOD, SIAD_UNSOUND and SIAD_NOT_FOUND, and after them; siad_convert has the
+   last of these alone beside 0 and SIAD_UNSOUND. */
 enum siad_cancel_answer {
-    SIAD_REPLACES = 31,           /* a Rivalutazione in the quarter has confermaPrecedente 2: the Valutazione that its
-                                     cancellation must have is not kept */
+    SIAD_REPLACES = 31,           /* a Rivalutazione in the quarter has confermaPrecedente 2: its cancellation must have
+                                     the Valutazione, of which the register keeps a part only */
     SIAD_NOTHING_IN_QUARTER = 32, /* the case has no event in the quarter */
-    SIAD_SHORT_OUTPUT = 33        /* the file is longer than the output */
+    SIAD_SHORT_OUTPUT = 33        /* the file is longer than the output; of siad_convert: the new register has fewer
+                                     than 4 bytes, or too little room for the rows that stand */
 };
 
 /* Where a report's numbers stand, and how many they are. */
@@ -90,6 +98,19 @@ enum siad_report {
     SIAD_RECORDS_DISCARDED,
     SIAD_PLACE,             /* with SIAD_NOT_SHAPE, counted from the submission's byte 0; else 0 */
     SIAD_REPORT
+};
+
+/* Where the fields of an evaluation stand, and how many bytes they are: six numbers, 0 for one that is missing, else 1
+   to 3, RischioInfettivo 1 or 2; then the Prevalente's 3 to 5 characters, unused last ones 0. */
+enum siad_field {
+    SIAD_AUTONOMIA,
+    SIAD_GRADO_MOBILITA,
+    SIAD_COGNITIVI,
+    SIAD_COMPORTAMENTI,
+    SIAD_SUPPORTO_SOCIALE,
+    SIAD_RISCHIO_INFETTIVO,
+    SIAD_PREVALENTE,
+    SIAD_FIELDS = 11
 };
 
 #ifdef __cplusplus
@@ -118,6 +139,25 @@ uint64_t siad_cancel_file(const uint8_t *reg, size_t reg_len, const uint8_t *reg
                           const uint8_t *asl, size_t asl_len, const uint8_t *date, size_t date_len, const uint8_t *id,
                           size_t id_len, uint64_t year, uint64_t quarter, uint8_t *out, size_t out_len,
                           uint64_t *length);
+
+/* Tells the evaluation that is in force for a case on a day: that of its latest Rivalutazione which is dated on the day
+   or before it, has confermaPrecedente 2 and keeps an evaluation; where there is none, the case's own. The case is
+   named as for siad_find; a day after its conclusion is answered too. `fields` are SIAD_FIELDS bytes, lent without a
+   length, and all of them are written: with 0 the fields; with SIAD_UNSOUND or SIAD_NOT_FOUND zeros, which no
+   evaluation is. */
+uint64_t siad_evaluation(const uint8_t *reg, size_t reg_len, const uint8_t *region, size_t region_len,
+                         const uint8_t *asl, size_t asl_len, const uint8_t *date, size_t date_len, const uint8_t *id,
+                         size_t id_len, const uint8_t *day, size_t day_len, uint8_t fields[SIAD_FIELDS]);
+
+/* Converts a register that is sound in rows of SIAD_OLD_ROW_BYTES. With 0 every byte of `fresh` is written, whatever it
+   held: it is a sound register, in which the same cases and events stand, with the same fields; its header is the old
+   one's, each row is the old one and five zero bytes, and all behind them is zero. A Rivalutazione keeps no evaluation
+   then, and siad_evaluation passes it over until a submission varies it. With SIAD_UNSOUND, for any other old register,
+   and with SIAD_SHORT_OUTPUT no byte of `fresh` changes. The old one is only read. So a `fresh` of length 0 asks
+   whether a register is an old one: SIAD_SHORT_OUTPUT, or SIAD_UNSOUND.
+   To the calls that ask for a sound register an old one is SIAD_UNSOUND; but one without rows, or with a single case
+   and room for a row of SIAD_ROW_BYTES, is sound in both and means the same. */
+uint64_t siad_convert(const uint8_t *old, size_t old_len, uint8_t *fresh, size_t fresh_len);
 
 /* Takes a submission of a track, a year and a quarter into a register. With SIAD_TAKEN byte i - 1 of `answers` is
    record i's answer, later bytes stay, and the register holds what the accepted records say. With any other answer all

@@ -230,7 +230,7 @@ static uint8_t *events_of_case(char type, const char *events, size_t *n) {
         "<FlsAssDom_2><Assistenza><Trasmissione tipo=\"%c\"></Trasmissione><Erogatore>"
         "<CodiceRegione>%s</CodiceRegione><CodiceASL>%s</CodiceASL></Erogatore><Eventi>"
         "<PresaInCarico data=\"%s\"><Id_Rec>%s</Id_Rec></PresaInCarico>%s</Eventi></Assistenza></FlsAssDom_2>";
-    char text[1024];
+    char text[4096];
     *n = (size_t)snprintf(text, sizeof text, record, type, region, asl, date, id, events);
     if (*n >= sizeof text) exit(2);
     uint8_t *p = filled(*n, 0);
@@ -268,26 +268,27 @@ static void sends(uint8_t *reg, char type, const char *events, unsigned answer) 
     free(sub);
 }
 
-/* Behind the case's row stand these events' rows: what is not the case's in them, bytes 82 to 90 (R13, R23 to R29). */
-static void rows_are(const uint8_t *reg, const uint8_t wanted[][9], size_t n) {
-    enum { KEY = SIAD_ROW_BYTES - 9 };
+/* Behind the case's row stand these events' rows: what is not the case's in them, bytes 82 to 95 (R13, R23 to R33). */
+enum { REST = 14, KEY = SIAD_ROW_BYTES - REST };
+
+static void rows_are(const uint8_t *reg, const uint8_t wanted[][REST], size_t n) {
     const uint8_t *case_row = reg + SIAD_HEADER_BYTES, *row = case_row;
     IS(reg[0] * 256u + reg[1], 1);
     IS(reg[2] * 256u + reg[3], n);
     for (size_t i = 0; i < n; i++) {
         row += SIAD_ROW_BYTES;
         IS(memcmp(row, case_row, KEY) == 0, 1);
-        IS(memcmp(row + KEY, wanted[i], SIAD_ROW_BYTES - KEY) == 0, 1);
+        IS(memcmp(row + KEY, wanted[i], REST) == 0, 1);
     }
     IS(all(row + SIAD_ROW_BYTES, SIAD_ROW_BYTES * (3 - n), 0), 1);
 }
 
 /* Two operators on one day and a suspension: their rows, worked out by hand. Then the visits by their keys. */
 static void two_operators(const char *folder) {
-    static const uint8_t rows[][9] = {
-        {0x05, 0x54, 0x6A, 0x01, 0xFF, 0xFF, 0x80, 0x00, 0x00}, /* 2018-05-02, operator 1 */
-        {0x05, 0x54, 0x6A, 0x02, 0xFF, 0xFF, 0x83, 0x00, 0x00}, /* 2018-05-02, operator 2, three accesses */
-        {0x06, 0x54, 0x6A, 0x89, 0x54, 0x6B, 0x80, 0x00, 0x00}, /* 2018-05-03 to 2018-05-05, Motivazione 9 */
+    static const uint8_t rows[][REST] = {
+        {0x05, 0x54, 0x6A, 0x01, 0xFF, 0xFF, 0x80}, /* 2018-05-02, operator 1; then zeros, as in the others */
+        {0x05, 0x54, 0x6A, 0x02, 0xFF, 0xFF, 0x83}, /* 2018-05-02, operator 2, three accesses */
+        {0x06, 0x54, 0x6A, 0x89, 0x54, 0x6B, 0x80}, /* 2018-05-03 to 2018-05-05, Motivazione 9 */
     };
     static const char one[] = VISIT("05-02", "1", ""), two[] = VISIT("05-02", "2", " numAccessi=\"3\"");
     static const char three[] = VISIT("05-02", "3", "");
@@ -388,6 +389,178 @@ static void undone(const char *folder) {
     free(reg);
     free(before);
     free(after);
+}
+
+/* What else a Valutazione of Track 2 must have. */
+#define NEEDS \
+    "<DrenaggioPosturale>2</DrenaggioPosturale><OssigenoTerapia>2</OssigenoTerapia>" \
+    "<Ventiloterapia>2</Ventiloterapia><Tracheostomia>2</Tracheostomia>" \
+    "<Alimentazione><Assistita>2</Assistita><Enterale>2</Enterale><Parenterale>2</Parenterale></Alimentazione>" \
+    "<GestioneStomia>2</GestioneStomia><ElimiUrinariaIntestinale>2</ElimiUrinariaIntestinale>" \
+    "<AlterRitmoSonnoVeglia>2</AlterRitmoSonnoVeglia><IntEduTerapeutica>2</IntEduTerapeutica>" \
+    "<CuraUlcereCutanee12Grado>2</CuraUlcereCutanee12Grado><CuraUlcereCutanee34Grado>2</CuraUlcereCutanee34Grado>" \
+    "<PrelieviVenosiNonOcc>2</PrelieviVenosiNonOcc><ECG>2</ECG><Telemetria>2</Telemetria>" \
+    "<TerSottocutIntraMuscInfus>2</TerSottocutIntraMuscInfus><GestioneCatetere>2</GestioneCatetere>" \
+    "<Trasfusioni>2</Trasfusioni><ControlloDolore>2</ControlloDolore>" \
+    "<AssistStatoTerminaleOnc>2</AssistStatoTerminaleOnc><AssistStatoTerminaleNonOnc>2</AssistStatoTerminaleNonOnc>"
+/* A Rivalutazione with confermaPrecedente 2: its day, its Prevalente, the fields that are kept beside it. */
+#define REPLACES(day, prevalente, fields) \
+    "<Rivalutazione data=\"2018-" day "\" motivo=\"1\" confermaPrecedente=\"2\"><Valutazione><Patologia><Prevalente>" \
+    prevalente "</Prevalente><Concomitante>000</Concomitante></Patologia>" fields NEEDS "</Valutazione></Rivalutazione>"
+#define CONFIRMS(day) "<Rivalutazione data=\"2018-" day "\" motivo=\"1\" confermaPrecedente=\"1\"></Rivalutazione>"
+
+/* The lengths that are lent of that case's texts and of a day. */
+enum { REGION, ASL, DATE, ID_REC, DAY, TEXTS };
+static const size_t whole[TEXTS] = {SIAD_REGION_BYTES, SIAD_ASL_BYTES, SIAD_DATE_BYTES, SIAD_ID_BYTES, SIAD_DATE_BYTES};
+
+/* The evaluation in force on a day has this answer and these fields; the bytes beside them stay. */
+static void in_force(const uint8_t *reg, size_t reg_len, const size_t *n, const char *day, uint64_t answer,
+                     const char *fields) {
+    enum { GUARD = 3 };
+    uint8_t *lent = filled(GUARD + SIAD_FIELDS + GUARD, 77), *text = filled(n[DAY], 0);
+    memcpy(text, day, n[DAY]);
+    uint64_t got = siad_evaluation(reg, reg_len, (const uint8_t *)region, n[REGION], (const uint8_t *)asl, n[ASL],
+                                   (const uint8_t *)date, n[DATE], (const uint8_t *)id, n[ID_REC], text, n[DAY],
+                                   lent + GUARD);
+    if (got != answer || memcmp(lent + GUARD, fields, SIAD_FIELDS) != 0) {
+        printf("evaluation on %s: answer %llu, fields", day, (unsigned long long)got);
+        for (int i = 0; i < SIAD_FIELDS; i++) printf(" %u", lent[GUARD + i]);
+        puts("");
+        bad = 1;
+    }
+    IS(all(lent, GUARD, 77), 1);
+    IS(all(lent + GUARD + SIAD_FIELDS, GUARD, 77), 1);
+    free(lent);
+    free(text);
+}
+
+/* The fields of case_twice's case; none, with an answer other than 0; those of two Rivalutazioni. */
+static const char own[] = "\1\3\1\2\3\2" "01010", none[SIAD_FIELDS] = "";
+static const char first_kept[] = "\1\2\3\0\1\2" "250\0", last_kept[] = "\0\0\0\3\0\0" "a b\t";
+
+/* Refused: each text a byte short, a day that is longer, missing, none or too early, a register of too few bytes. */
+static void evaluates_not(const uint8_t *reg, size_t len) {
+    static const char *const days[] = {"2018-04-30", "2018-06-31", "2018-6-001", "2100-01-01", "1899-12-31",
+                                       "2018/06/30", "0000000000"};
+    size_t cut[TEXTS];
+    memcpy(cut, whole, sizeof cut);
+    for (size_t i = 0; i < sizeof days / sizeof *days; i++) in_force(reg, len, whole, days[i], SIAD_NOT_FOUND, none);
+    for (int i = 0; i < TEXTS; i++) {
+        cut[i]--;
+        in_force(reg, len, cut, "2018-06-30", SIAD_NOT_FOUND, none);
+        cut[i]++;
+    }
+    cut[DAY]++;
+    in_force(reg, len, cut, "2018-06-30Z", SIAD_NOT_FOUND, none);
+    cut[DAY] = 0;
+    in_force(reg, len, cut, "", SIAD_NOT_FOUND, none);
+    in_force(reg, SIAD_HEADER_BYTES - 1, whole, "2018-06-30", SIAD_UNSOUND, none);
+    in_force(reg, SIAD_HEADER_BYTES - 1, cut, "", SIAD_UNSOUND, none);
+}
+
+/* Three Rivalutazioni, the second of which confirms: what is kept of them, and what holds on the days around. */
+static void evaluated(const char *folder) {
+    static const uint8_t rows[][REST] = {
+        {0x04, 0x54, 0x6E, 0x01, 0xFF, 0xFF, 0x80, 0x9B, 0x19, 0x93, 0x56}, /* 05-10, conferma 2: 1 2 3 0 1 2, 250 */
+        {0x04, 0x54, 0x73, 0x01, 0xFF, 0xFF, 0x80, 0x40},                   /* 05-20, conferma 1 */
+        /* 05-31, conferma 2: 0 0 0 3 0 0, "a b" and a tab */
+        {0x04, 0x54, 0x78, 0x81, 0xFF, 0xFF, 0x80, 0x80, 0xC3, 0x0A, 0x0C, 0x42, 0x40},
+    };
+    static const char scales[] = REPLACES("05-10", "250",
+        "<Autonomia>1</Autonomia><GradoMobilita>2</GradoMobilita><Disturbi><Cognitivi>3</Cognitivi></Disturbi>"
+        "<SupportoSociale>1</SupportoSociale><RischioInfettivo>2</RischioInfettivo>");
+    size_t n, len = SIAD_REGISTER_BYTES(4);
+    uint8_t *sub = submission(folder, "case_twice", &n), *reg = filled(len, 0);
+    in_force(reg, len, whole, "2018-05-01", SIAD_NOT_FOUND, none);
+    submits(sub, n, 1, reg, 4, 2, SIAD_ACCEPTED, SIAD_STANDS);
+    in_force(reg, len, whole, "2018-05-01", 0, own);
+    sends(reg, 'I', scales, SIAD_ACCEPTED);
+    sends(reg, 'I', CONFIRMS("05-20"), SIAD_ACCEPTED);
+    sends(reg, 'I', REPLACES("05-31", "a b\t", "<Disturbi><Comportamentali>3</Comportamentali></Disturbi>"),
+          SIAD_ACCEPTED);
+    rows_are(reg, rows, 3);
+    in_force(reg, len, whole, "2018-05-01", 0, own);
+    in_force(reg, len, whole, "2018-05-09", 0, own);
+    in_force(reg, len, whole, "2018-05-10", 0, first_kept);
+    in_force(reg, len, whole, "2018-05-30", 0, first_kept);
+    in_force(reg, len, whole, "2018-05-31", 0, last_kept);
+    in_force(reg, len, whole, "2099-12-31", 0, last_kept);
+    evaluates_not(reg, len);
+    sends(reg, 'V', CONFIRMS("05-31"), SIAD_ACCEPTED); /* it confirms now, and keeps nothing */
+    IS(all(reg + len - SIAD_ROW_BYTES + KEY + 8, REST - 8, 0), 1);
+    in_force(reg, len, whole, "2099-12-31", 0, first_kept);
+    free(sub);
+    free(reg);
+}
+
+/* The rows of a register, which keep no evaluation, as they were before: an old register for so many. */
+static uint8_t *narrowed(const uint8_t *reg, size_t rows) {
+    uint8_t *old = filled(SIAD_OLD_REGISTER_BYTES(rows), 0);
+    memcpy(old, reg, SIAD_HEADER_BYTES);
+    for (size_t i = 0; i < rows; i++)
+        memcpy(old + SIAD_OLD_REGISTER_BYTES(i), reg + SIAD_REGISTER_BYTES(i), SIAD_OLD_ROW_BYTES);
+    return old;
+}
+
+/* Not converted: no byte of either changes. */
+static void converts_not(const uint8_t *old, size_t old_len, size_t len, uint64_t answer) {
+    uint8_t *fresh = filled(len, 9), *was = filled(old_len, 0);
+    memcpy(was, old, old_len);
+    IS(siad_convert(old, old_len, fresh, len), answer);
+    IS(all(fresh, len, 9), 1);
+    IS(memcmp(old, was, old_len) == 0, 1);
+    free(fresh);
+    free(was);
+}
+
+/* Converted into a register of some length: this one, and zeros behind it. */
+static void converts(const uint8_t *old, size_t old_len, const uint8_t *reg, size_t reg_len, size_t len) {
+    uint8_t *fresh = filled(len, 9), *was = filled(old_len, 0);
+    size_t same = len < reg_len ? len : reg_len;
+    memcpy(was, old, old_len);
+    IS(siad_convert(old, old_len, fresh, len), 0);
+    IS(memcmp(fresh, reg, same) == 0, 1);
+    IS(all(fresh + same, len - same, 0), 1);
+    IS(memcmp(old, was, old_len) == 0, 1);
+    IS(siad_sound(fresh, len), 0);
+    free(fresh);
+    free(was);
+}
+
+/* A case and three events as they were before, into registers of each length that matters. */
+static void converted(const char *folder) {
+    static const char events[] = CONFIRMS("05-10") VISIT("05-02", "13", " numAccessi=\"3\"") VISIT("05-02", "99", "");
+    enum { OLD_CONFERMA = SIAD_OLD_REGISTER_BYTES(1) + 89, CONFERMA = SIAD_REGISTER_BYTES(1) + 89 };
+    size_t n, len = SIAD_REGISTER_BYTES(4), old_len = SIAD_OLD_REGISTER_BYTES(4);
+    uint8_t *sub = submission(folder, "case_twice", &n), *reg = filled(len, 0), *zeros = filled(len, 0);
+    submits(sub, n, 1, reg, 4, 2, SIAD_ACCEPTED, SIAD_STANDS);
+    sends(reg, 'I', events, SIAD_ACCEPTED);
+    uint8_t *old = narrowed(reg, 4);
+    old[OLD_CONFERMA] = reg[CONFERMA] = 0x80; /* confermaPrecedente 2, its Valutazione not kept */
+    IS(siad_sound(old, old_len), SIAD_UNSOUND);
+    converts(old, old_len, reg, len, len);
+    converts(old, old_len, reg, len, len + 1);
+    converts(old, old_len, reg, len, SIAD_REGISTER_BYTES(SIAD_MOST_ROWS) + 1);
+    converts_not(old, old_len, len - 1, SIAD_SHORT_OUTPUT);
+    converts_not(old, old_len, SIAD_HEADER_BYTES - 1, SIAD_SHORT_OUTPUT);
+    converts_not(old, old_len, 0, SIAD_SHORT_OUTPUT);
+    converts_not(old, old_len - 1, len, SIAD_UNSOUND);
+    converts_not(old, old_len - 1, 0, SIAD_UNSOUND);
+    converts_not(reg, len, len, SIAD_UNSOUND); /* it is none of before */
+    old[OLD_CONFERMA] |= 0x20; /* in the old row a zero bit, now a field's */
+    converts_not(old, old_len, len, SIAD_UNSOUND);
+    converts(zeros, SIAD_HEADER_BYTES, zeros, len, SIAD_HEADER_BYTES);
+    converts(zeros, len, zeros, len, len);
+    converts_not(zeros, len, SIAD_HEADER_BYTES - 1, SIAD_SHORT_OUTPUT);
+    converts_not(zeros, SIAD_HEADER_BYTES - 1, len, SIAD_UNSOUND);
+    in_force(reg, len, whole, "2018-06-30", 0, own); /* passed over, until it is varied */
+    sends(reg, 'V', REPLACES("05-10", "a b\t", "<Disturbi><Comportamentali>3</Comportamentali></Disturbi>"),
+          SIAD_ACCEPTED);
+    in_force(reg, len, whole, "2018-06-30", 0, last_kept);
+    free(sub);
+    free(reg);
+    free(old);
+    free(zeros);
 }
 
 /* A record's text is replaced, and then the element that begins so is at fault; a root's fault is outside every
@@ -537,7 +710,7 @@ static void lines(void) {
 /* NULL with length 0, as siad.h tells: answered as an empty buffer is. */
 static void nulls(const char *folder) {
     size_t n, len = SIAD_REGISTER_BYTES(1);
-    uint8_t *sub = submission(folder, "case_twice", &n), *reg = filled(len, 0);
+    uint8_t *sub = submission(folder, "case_twice", &n), *reg = filled(len, 0), fields[SIAD_FIELDS] = {77};
     uint64_t place = 77, length = 77;
     IS(siad_empty(NULL, 0), SIAD_UNSOUND);
     IS(siad_sound(NULL, 0), SIAD_UNSOUND);
@@ -547,6 +720,12 @@ static void nulls(const char *folder) {
     IS(siad_cancel_file(NULL, 0, NULL, 0, NULL, 0, NULL, 0, NULL, 0, 2018, 2, NULL, 0, &length), SIAD_UNSOUND);
     IS(siad_cancel_file(reg, len, NULL, 0, NULL, 0, NULL, 0, NULL, 0, 2018, 2, NULL, 0, &length), SIAD_NOT_FOUND);
     IS(length, 0);
+    IS(siad_evaluation(NULL, 0, NULL, 0, NULL, 0, NULL, 0, NULL, 0, NULL, 0, fields), SIAD_UNSOUND);
+    IS(siad_evaluation(reg, len, NULL, 0, NULL, 0, NULL, 0, NULL, 0, NULL, 0, fields), SIAD_NOT_FOUND);
+    IS(all(fields, SIAD_FIELDS, 0), 1);
+    IS(siad_convert(NULL, 0, NULL, 0), SIAD_UNSOUND);
+    IS(siad_convert(NULL, 0, reg, len), SIAD_UNSOUND);
+    IS(siad_convert(reg, len, NULL, 0), SIAD_SHORT_OUTPUT);
     IS(siad_submit(NULL, 0, 1, 2018, 2, NULL, 0, NULL, 0, NULL, 0), SIAD_UNSOUND);
     IS(siad_submit(NULL, 0, 1, 2018, 2, reg, len, NULL, 0, NULL, 0), SIAD_NOT_MARKUP);
     IS(siad_submit(sub, n, 2, 2018, 2, reg, len, NULL, 0, NULL, 0), SIAD_NOT_SHAPE);
@@ -565,7 +744,9 @@ static void words(void) {
         int answer = of_file || of_record || (n >= SIAD_NOT_FOUND && n <= SIAD_SHORT_OUTPUT);
         IS(words_of(n, NULL) != NULL, answer);
     }
-    IS(SIAD_REGISTER_BYTES(160), 14564);
+    IS(SIAD_REGISTER_BYTES(151), 14500);
+    IS(SIAD_REGISTER_BYTES(SIAD_MOST_ROWS), 393220);
+    IS(SIAD_OLD_REGISTER_BYTES(SIAD_MOST_ROWS), 372740);
 }
 
 int main(int argc, char **argv) {
@@ -578,10 +759,12 @@ int main(int argc, char **argv) {
     places(argv[1]);
     taken(argv[1], SIAD_REGISTER_BYTES(1) - 1, SIAD_NO_ROOM, SIAD_NO_ROOM);
     taken(argv[1], SIAD_REGISTER_BYTES(1), SIAD_ACCEPTED, SIAD_STANDS);
-    taken(argv[1], SIAD_REGISTER_BYTES(160), SIAD_ACCEPTED, SIAD_STANDS);
+    taken(argv[1], 14564, SIAD_ACCEPTED, SIAD_STANDS); /* the program's: 151 rows, and 64 bytes */
     carried_away(argv[1]);
     two_operators(argv[1]);
     undone(argv[1]);
+    evaluated(argv[1]);
+    converted(argv[1]);
     nulls(argv[1]);
     lines();
     words();

@@ -41,7 +41,7 @@ def placed(e):
 
 def size(e):
     """the bytes of an event's text"""
-    kind, _, code, end, accesses, _ = e
+    kind, _, code, end, accesses = e[:5]
     return [83, 75 + (code > 9) + (0 if not accesses else 15 + (accesses > 9)), 79 if end == O.NO_END else 101, 75 + (code > 9)][kind]
 
 
@@ -65,7 +65,7 @@ class Held:
     """what a register holds: cases {key: row}, events {key: [event]}"""
     def __init__(self, rng, cases, events, spare=0):
         self.rng, self.cases, self.events = rng, cases, events
-        self.length = 4 + 91 * (len(cases) + sum(map(len, events.values()))) + spare
+        self.length = 4 + O.ROW * (len(cases) + sum(map(len, events.values()))) + spare
         self.reg = self.bytes()
 
     def bytes(self):
@@ -115,8 +115,8 @@ class Held:
             if told != (0, 0, records, records, 0, self.reg, bytes(records) + answers[records:], 0):
                 K.diff("undone", (out[:n], 2, *quarter, before, answers), (records, self.reg), told)
         if told[0] == 0:                                     # what the file says: the rows, in their order
-            said = [(O.case_key(r), [e for e, _ in O.events_of(r)]) for r in O.parse(out[:n]).items]
-            rows, case = sorted(evs), (int(k[0]), *k[1:])
+            said = [(O.case_key(r), [e[:6] for e, _ in O.events_of(r)]) for r in O.parse(out[:n]).items]
+            rows, case = sorted(e[:6] for e in evs), (int(k[0]), *k[1:])
             if said != [(case, rows[i:i + 128]) for i in range(0, len(rows), 128)]:
                 K.diff("words", (out[:n], before), (rows,), (said,))
         if rng.random() < 0.1:                               # one answer too few; another quarter; the file once more
@@ -204,7 +204,13 @@ def suspensions(rng, first, last, days):
     return out
 
 
-def events(rng, k, quarters, sizes, conferma):
+def revaluation(rng, d, may, zeros):
+    """with conferma 2 it keeps an evaluation; `zeros`: the share of those that a conversion left with none"""
+    conferma = rng.choice(may)
+    return RIV, d, rng.choice([1, 2]), O.NO_END, 0, conferma, O.NO_VALUE if conferma == 1 or rng.random() < zeros else K.some_value(rng)
+
+
+def events(rng, k, quarters, sizes, conferma, zeros):
     """a case's events: of each quarter as many as `sizes` says, some before; conferma: those a Rivalutazione of each quarter may have"""
     spans = [span(*q) for q in quarters]
     borders = [d for a, b in spans for d in (a - 1, a, b, b + 1)]
@@ -222,13 +228,13 @@ def events(rng, k, quarters, sizes, conferma):
         chosen = set(rng.sample(edge, min(len(edge), n, rng.choice([0, 1, 2, 3]))))
         rest = [x for x in room if x not in chosen]
         for kind, d, code in sorted(chosen) + rng.sample(rest, min(len(rest), n - len(chosen))):
-            evs.append((RIV, d, rng.choice([1, 2]), O.NO_END, 0, rng.choice(may)) if kind == RIV else
+            evs.append(revaluation(rng, d, may, zeros) if kind == RIV else
                        (ERO, d, code, O.NO_END, rng.choice([0, 0, 1, 9, 10, 99, rng.randint(0, 99)]), 0))
     if ended:
         latest = max([d for e in evs for d in (e[1], e[3]) if d <= O.LAST_DAY] + [spans[-1][0], k[2]])
         evs.append((CON, rng.choice([latest, spans[-1][1]]), next(CONCLUSIONS), O.NO_END, 0, 0))
     if early < spans[0][0] and rng.random() < 0.7:           # of an earlier quarter, which may be one that can't be declared
-        evs.append((RIV, rng.randint(early, spans[0][0] - 1), 1, O.NO_END, 0, rng.choice([1, 1, 2])))
+        evs.append(revaluation(rng, rng.randint(early, spans[0][0] - 1), [1, 1, 2], zeros))
     return evs
 
 
@@ -249,11 +255,11 @@ def history(rng, i):
     if i <= len(SIZES) or not by_files and rng.random() < 0.25:
         sizes[middle][rng.randrange(len(quarters))] = SIZES[i - 1] if i <= len(SIZES) else rng.choice(SIZES[2:9] + [rng.randint(100, 700)])
     conferma = lambda k: rng.choice([[1]] if k is middle and i <= len(SIZES) else [[1], [1], [1, 1, 1, 2], [2, 1]])
-    held = {k: events(rng, k, quarters, sizes[k], [conferma(k) for _ in quarters]) for k in keys}
+    held = {k: events(rng, k, quarters, sizes[k], [conferma(k) for _ in quarters], 0 if by_files else 0.4) for k in keys}
     if by_files:
         h = made_by_files(rng, held)
     else:
-        h = Held(rng, {k: any_case(rng, k) for k in keys}, held, rng.choice([0, 0, 1, 90, 91, 1000]))
+        h = Held(rng, {k: any_case(rng, k) for k in keys}, held, rng.choice([0, 0, 1, O.ROW - 1, O.ROW, 1000]))
     return h, middle, quarters
 
 
@@ -261,10 +267,10 @@ def made_by_files(rng, held):
     """the cases and then their events, inserted quarter by quarter through the calls"""
     w, cases = K.World(rng), {}
     rows = len(held) + sum(map(len, held.values())) + rng.choice([0, 0, 3])
-    reg = bytes(4 + 91 * rows)
+    reg = bytes(4 + O.ROW * rows)
     for k in held:
         tree = K.rec1(w, b"I", k, True)
-        cases[k] = int(case_row(k, tree), 2).to_bytes(91, "big")
+        cases[k] = int(case_row(k, tree), 2).to_bytes(O.ROW, "big")
         reg = K.check_submit(ser(root(1, [tree])), 1, *quarter_of(k[2]), reg, b"?")[5]
     for quarter in sorted({placed(e) for evs in held.values() for e in evs}):
         records = []
@@ -275,7 +281,7 @@ def made_by_files(rng, held):
                 taking = N(b"PresaInCarico", [L(b"Id_Rec", k[3])], (b"data", text(k[2])))
                 records.append(N(b"Assistenza", head(b"I", 2, k) + [N(b"Eventi", [taking] + trees[j:j + 128])]))
         reg = K.check_submit(ser(root(2, records)), 2, *quarter, reg, bytes(len(records)))[5]
-    h = Held(rng, cases, held, len(reg) - 4 - 91 * (len(held) + sum(map(len, held.values()))))
+    h = Held(rng, cases, held, len(reg) - 4 - O.ROW * (len(held) + sum(map(len, held.values()))))
     if h.reg != reg:
         K.diff("made by files", (reg,), (h.reg,), (reg,))
     C["registers made by files"] += 1
@@ -291,13 +297,13 @@ def full_registers(rng):
     most += [(SOS, d, 9, d, 0, 0) for d in days] + [(CON, last, 99, O.NO_END, 0, 0)]
     if size_of(most) != 138503:
         K.diff("words", (), (138503,), (size_of(most),))
-    h = Held(rng, {k: any_case(rng, k)}, {k: most}, 91)
+    h = Held(rng, {k: any_case(rng, k)}, {k: most}, O.ROW)
     h.ask(k, (2018, 3), 2 ** 20)
     h.undo_all(k)
     for before, of, behind in ((0, 4093, 0), (1500, 1000, 1500), (4091, 1, 1)):
         keys = sorted([k, near(rng, k), (b"020", b"101", first, b"!" * 88)])
         held = {x: [(ERO, x[2] + j // 14, OPERATORS[j % 14], O.NO_END, j % 100, 0) for j in range(n)] for x, n in zip(keys, (before, of, behind))}
-        h = Held(rng, {x: any_case(rng, x) for x in keys}, held, rng.choice([0, 91]))
+        h = Held(rng, {x: any_case(rng, x) for x in keys}, held, rng.choice([0, O.ROW]))
         h.undo_all(keys[1])
 
 

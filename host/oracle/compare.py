@@ -7,7 +7,8 @@ from datetime import date
 import oracle as O
 
 CALLER = subprocess.Popen(os.environ["CALLER"].split(), stdin=subprocess.PIPE, stdout=subprocess.PIPE)
-EMPTY, SOUND, FIND, SUBMIT, CANCEL_FILE = range(5)
+EMPTY, SOUND, FIND, SUBMIT, CANCEL_FILE, EVALUATION, CONVERT = range(7)
+ROW = O.ROW
 GUARD = bytes((i * 37 + 11) & 255 for i in range(64))
 
 
@@ -90,11 +91,26 @@ def told(sub):
     return out
 
 
-def keys_in(reg):
+def at(i, row=ROW):
+    """where row i stands (R2)"""
+    return slice(4 + row * i, 4 + row * (i + 1))
+
+
+def first_bits(r, n, row=ROW):
+    """the number that a row's first n bits make"""
+    return r >> 8 * row - n
+
+
+def event_key(r, row=ROW):
+    """R9: of an Erogazione (kind 1) 688 bits, else 681 and zeros"""
+    return first_bits(r, 688, row) if first_bits(r, 664, row) & 3 == 1 else first_bits(r, 681, row) << 7
+
+
+def keys_in(reg, row=ROW):
     """the keys of the cases and of the events that stand, as numbers, read off the bytes (R1, R2, R9)"""
     cases, events = int.from_bytes(reg[:2], "big"), int.from_bytes(reg[2:4], "big")
-    rows = [int.from_bytes(reg[4 + 91 * i:95 + 91 * i], "big") for i in range(cases + events)]
-    return [r >> 66 for r in rows[:cases]], [r >> 40 if r >> 64 & 3 == 1 else r >> 47 << 7 for r in rows[cases:]]
+    rows = [int.from_bytes(reg[at(i, row)], "big") for i in range(cases + events)]
+    return [first_bits(r, 662, row) for r in rows[:cases]], [event_key(r, row) for r in rows[cases:]]
 
 
 def conserved(records, track, reg, after, answers):
@@ -197,6 +213,7 @@ def check_find(reg, texts):
     C["find %d" % mine[0]] += 1
     if mine != theirs or not g or b.get() != (reg, True) or any(t.get() != (x, True) for t, x in zip(ts, texts)):
         diff("find", (reg, *texts), mine, theirs)
+    return theirs
 
 
 def check_cancel_file(reg, texts, year, quarter, out):
@@ -210,6 +227,31 @@ def check_cancel_file(reg, texts, year, quarter, out):
     if mine != theirs or not (g1 and g2) or b.get() != (reg, True) or any(t.get() != (x, True) for t, x in zip(ts, texts)):
         diff("cancel_file", (reg, *texts, year, quarter, out), mine, theirs + (g1, g2))
     return mine
+
+
+def check_evaluation(reg, texts, on):
+    """on: the day's text; what stands in the eleven bytes before the call is no evaluation"""
+    mine = O.evaluation(reg, *texts, on)
+    b, ts, f = Buf(reg), [Buf(t) for t in (*texts, on)], Buf(b"\xA5" * 11)
+    got = call(EVALUATION, (b, *ts, f))
+    fields, g = f.get()
+    C["evaluation"] += 1
+    C["evaluation %d" % mine[0]] += 1
+    if mine != (got, fields) or not g or b.get() != (reg, True) or any(t.get() != (x, True) for t, x in zip(ts, (*texts, on))):
+        diff("evaluation", (reg, *texts, on), mine, (got, fields, g))
+    return got, fields
+
+
+def check_convert(old, new):
+    mine = O.convert(old, new)
+    o, n = Buf(old), Buf(new)
+    got = call(CONVERT, (o, n))
+    after, g = n.get()
+    C["convert"] += 1
+    C["convert %d" % mine[0]] += 1
+    if mine != (got, after) or not g or o.get() != (old, True):
+        diff("convert", (old, new), mine, (got, after, g))
+    return got, after
 
 
 def check_empty(reg):
@@ -631,13 +673,13 @@ def mutate_bytes(rng, b):
 def new_register(rng):
     x = rng.random()
     if x < 0.05:
-        n = rng.choice([4, 5, 94])
+        n = rng.choice([4, 5, 3 + ROW])
     elif x < 0.35:
-        n = 4 + 91 * rng.randint(1, 6) + rng.choice([0, 0, 1, 90])
+        n = 4 + ROW * rng.randint(1, 6) + rng.choice([0, 0, 1, ROW - 1])
     elif x < 0.97:
-        n = 4 + 91 * rng.randint(7, 45) + rng.choice([0, 0, 45])
+        n = 4 + ROW * rng.randint(7, 45) + rng.choice([0, 0, 45])
     else:
-        n = 4 + 91 * rng.randint(150, 300)
+        n = 4 + ROW * rng.randint(150, 300)
     return bytes(n)
 
 
@@ -702,6 +744,44 @@ def near_texts(rng, w, reg):
     return t
 
 
+def some_value(rng):
+    """an evaluation that a row may keep: its prevalente may stand alone"""
+    levels = (0,) * 6 if rng.random() < 0.1 else tuple(rng.randint(0, 3) for _ in range(5)) + (rng.randint(0, 2),)
+    return levels, rng.choice(PREV)
+
+
+def conferma_and_value(rng):
+    """what a Rivalutazione has last: with conferma 2 an evaluation, or the zeros that a conversion leaves"""
+    conferma = rng.choice([1, 2, 2])
+    return conferma, O.NO_VALUE if conferma == 1 or rng.random() < 0.3 else some_value(rng)
+
+
+def odd_values(rng):
+    """what may stand behind the kind, and as conferma and behind it: (name, kind, conferma, scales, five characters, zero bits, whether that is sound)"""
+    (scales, prevalente), none = some_value(rng), (0,) * 6
+    whole = prevalente.ljust(5, b"\0")
+    out = [("conferma 2 and zeros", 0, 2, none, bytes(5), 0, True), ("conferma 2 and an evaluation", 0, 2, scales, whole, 0, True),
+           ("conferma 2 and a prevalente alone", 0, 2, none, whole, 0, True), ("conferma 1 and zeros", 0, 1, none, bytes(5), 0, True),
+           ("conferma 1 and an evaluation", 0, 1, scales, whole, 0, False), ("conferma 1 and a prevalente alone", 0, 1, none, whole, 0, False)]
+    out += [("conferma %d and scale %d without a prevalente" % (c, i), 0, c, none[:i] + (v,) + none[i + 1:], bytes(5), 0, False)
+            for c in (1, 2) for i in range(6) for v in ((1, 2, 3) if i < 5 else (1, 2))]
+    out += [("RischioInfettivo 3", 0, 2, (*s[:5], 3), p, 0, False) for s in (scales, none) for p in (whole, bytes(5))]
+    out += [("scale %d is 3" % i, 0, 2, none[:i] + (3,) + none[i + 1:], whole, 0, True) for i in range(5)]
+    out += [("a prevalente of 3 to 5", 0, 2, scales, p, 0, True) for p in (b"V58.1", b"1234\0", b"123\0\0", b"0000\0", b"00000", b"\t\r\n\0\0", b"001\0\0", b"100\0\0")]
+    out += [("a prevalente that is none", 0, 2, s, p, 0, False) for s in (scales, none)
+            for p in (b"000\0\0", b"12\0\0\0", b"1\0\0\0\0", b"12\x003\0", b"\x00123\0", b"\0\x00123", b"123\x004", b"12<\0\0", b"1&2\0\0", b"12\x0b\0\0", b"12\x7f\0\0", b"000\x001")]
+    out += [("zero bit %d" % (767 - i), 0, c, s, p, 1 << i, False) for i in range(7) for c, s, p in ((2, scales, whole), (2, none, bytes(5)), (1, none, bytes(5)))]
+    out += [("kind %d and zeros" % kind, kind, 0, none, bytes(5), 0, True) for kind in (1, 2, 3)]
+    return out + [("kind %d and an evaluation" % kind, kind, c, s, p, z, False) for kind in (1, 2, 3)
+                  for c, s, p, z in ((0, scales, whole, 0), (2, scales, whole, 0), (0, none, whole, 0), (0, (1,) + none[1:], bytes(5), 0), (0, none, bytes(5), 1))]
+
+
+def odd_row(f, odd):
+    """an event's fields of that kind, with that put into them: the key and date of another, and what every kind may have between"""
+    _, kind, conferma, scales, chars, zeros, _ = odd
+    return f[:93] + [kind, f[94], 1, O.NO_END, 0, conferma, *scales, *chars, zeros]
+
+
 def raw_rows(rng, w, n_cases, n_events, wrong):
     """rows of mostly allowed values, `wrong` of them a field off; sorted"""
     cases, evs = {}, {}
@@ -721,7 +801,8 @@ def raw_rows(rng, w, n_cases, n_events, wrong):
             end = min(O.LAST_DAY, max(0, d + rng.choice([0, 0, 1, 1, 2, 5, -1 if rng.random() < 0.1 else 0])))
         for code in rng.sample(sorted(O.CODES[kind]), rng.choice([1, 1, 1, 2, 3]) if kind == 1 else 1):
             apart = kind == 1 or rng.random() < 0.03         # a second row of the day, with another code, is sound of kind 1 only
-            evs[k, kind, d, code if apart else 0] = (kind, d, code, end, rng.choice([0, 1, 99]) if kind == 1 else 0, rng.choice([1, 2]) if kind == 0 else 0)
+            behind = conferma_and_value(rng) if kind == 0 else (0, O.NO_VALUE)
+            evs[k, kind, d, code if apart else 0] = (kind, d, code, end, rng.choice([0, 1, 99]) if kind == 1 else 0, *behind)
     cf = [O.unpack(O.pack_case(k, cases[k]), O.CASE_WIDTHS) for k in sorted(cases)]
     ef = [O.unpack(O.pack_event(x[0], evs[x]), O.EVENT_WIDTHS) for x in sorted(evs)]
     for _ in range(wrong):
@@ -729,6 +810,9 @@ def raw_rows(rng, w, n_cases, n_events, wrong):
         if not fs:
             break
         f = rng.choice(fs)
+        if fs is ef and rng.random() < 0.25:
+            f[:] = odd_row(f, rng.choice(odd_values(rng)))
+            continue
         i = rng.choice([0, 1, 2, 3, 4, 5, 92, rng.randrange(5, 93)] + list(range(93, len(ws))) * 3)
         wd = ws[i]
         f[i] = rng.choice([0, 1, 2, 3, 9, 14, 13, 99, 100, 98, 127, f[i] + 1, f[i] - 1, f[i] ^ 1, rng.randrange(1 << wd), (1 << wd) - 1, (1 << wd) - 2, 73048, 73049, 1879, 1880, ord("0"), ord("&"), ord("<"), 9, 10, 11, 13, 32, 31, 126]) % (1 << wd)
@@ -742,58 +826,73 @@ def raw_rows(rng, w, n_cases, n_events, wrong):
 
 def old_layout(row):
     """an event's row as it was before E2: the end date in front of the code"""
-    n = int.from_bytes(row, "big")
-    return (((n >> 47 << 17 | n >> 23 & O.NO_END) << 7 | n >> 40 & 127) << 23 | n & (1 << 23) - 1).to_bytes(91, "big")
+    n, rest = int.from_bytes(row, "big"), 8 * len(row) - 705
+    code, end = n >> rest + 17 & 127, n >> rest & O.NO_END
+    return (((n >> rest + 24 << 17 | end) << 7 | code) << rest | n & (1 << rest) - 1).to_bytes(len(row), "big")
 
 
-def mutate_events(rng, b, first, n):
-    """rows `first` to n - 1 are events: one row's code changed, two that follow each other swapped, or the old layout"""
-    at = lambda i: slice(4 + 91 * i, 95 + 91 * i)
-    code = lambda i: int.from_bytes(b[at(i)], "big") >> 40 & 127
+def mutate_value(rng, row):
+    """an event's row with something else as conferma and behind it: of any kind an evaluation, or what is nearly one; its other fields stay"""
+    f = O.unpack(row, O.EVENT_WIDTHS)
+    odd = rng.choice(odd_values(rng))
+    if f[93] == odd[1] or rng.random() < 0.2:
+        f[98:] = [odd[2], *odd[3], *odd[4], odd[5]]
+    return O.pack(list(zip(f, O.EVENT_WIDTHS)))
+
+
+def mutate_events(rng, b, first, n, width=ROW):
+    """rows `first` to n - 1 are events: one row's code changed, two that follow each other swapped, an evaluation put in, or the old layout"""
+    at = lambda i: slice(4 + width * i, 4 + width * (i + 1))
+    shift = 8 * width - 688
+    code = lambda i: int.from_bytes(b[at(i)], "big") >> shift & 127
     i = rng.randrange(first, n)
     same = [j for j in range(first, n - 1) if b[at(j)][:85] == b[at(j + 1)][:85]]       # the same case, kind and day, but for a bit of it
     if same and rng.random() < 0.6:
         i = rng.choice(same)
     x = rng.random()
-    if x < 0.45:
+    if x < 0.3 and width == ROW:
+        riv = [j for j in range(first, n) if O.unpack(b[at(j)], O.EVENT_WIDTHS)[93] == 0] or [i]
+        i = rng.choice(riv)
+        b[at(i)] = mutate_value(rng, b[at(i)])
+    elif x < 0.55:
         new = rng.choice([code(min(i + 1, n - 1)), code(max(i - 1, first)), code(i) + 1, code(i) - 1, 1, 2, 9, 99, rng.randrange(128)]) & 127
         row = int.from_bytes(b[at(i)], "big")
-        b[at(i)] = (row ^ (code(i) ^ new) << 40).to_bytes(91, "big")
-    elif x < 0.75 and i + 1 < n:
+        b[at(i)] = (row ^ (code(i) ^ new) << shift).to_bytes(width, "big")
+    elif x < 0.8 and i + 1 < n:
         b[at(i)], b[at(i + 1)] = b[at(i + 1)], b[at(i)]
     else:
         for j in range(first, n) if rng.random() < 0.7 else [i]:
             b[at(j)] = old_layout(b[at(j)])
 
 
-def mutate_reg(rng, reg):
+def mutate_reg(rng, reg, width=ROW):
     b = bytearray(reg)
     n = int.from_bytes(b[0:2], "big") + int.from_bytes(b[2:4], "big") if len(b) >= 4 else 0
     op = rng.randint(0, 10)
-    if op >= 9 and len(b) >= 4 + 91 * n and int.from_bytes(b[0:2], "big") < n:
-        mutate_events(rng, b, int.from_bytes(b[0:2], "big"), n)
+    if op >= 9 and len(b) >= 4 + width * n and int.from_bytes(b[0:2], "big") < n:
+        mutate_events(rng, b, int.from_bytes(b[0:2], "big"), n, width)
     elif op == 0 and b:
-        i = rng.randrange(len(b) * 8 if rng.random() < 0.3 else max(1, min(len(b), 4 + 91 * n)) * 8)
+        i = rng.randrange(len(b) * 8 if rng.random() < 0.3 else max(1, min(len(b), 4 + width * n)) * 8)
         b[i // 8] ^= 128 >> i % 8
     elif op == 1 and len(b) >= 4:
         i = rng.randrange(4)
         b[i] = rng.choice([0, 1, 255, (b[i] + 1) & 255, (b[i] - 1) & 255, 16])
     elif op == 2 and n >= 2:
         i, j = rng.randrange(n), rng.randrange(n)
-        x, y = b[4 + 91 * i:95 + 91 * i], b[4 + 91 * j:95 + 91 * j]
-        b[4 + 91 * i:95 + 91 * i], b[4 + 91 * j:95 + 91 * j] = y, x
+        x, y = b[at(i, width)], b[at(j, width)]
+        b[at(i, width)], b[at(j, width)] = y, x
     elif op == 3:
-        b += rng.choice([b"\0", b"\1", bytes(91), bytes(90) + b"\x80"])
+        b += rng.choice([b"\0", b"\1", bytes(width), bytes(width - 1) + b"\x80"])
     elif op == 4:
-        b = b[:rng.randint(0, len(b))] if rng.random() < 0.5 else b[:4 + 91 * n - rng.choice([0, 0, 1, 91]) if n else rng.randint(0, 5)]
+        b = b[:rng.randint(0, len(b))] if rng.random() < 0.5 else b[:4 + width * n - rng.choice([0, 0, 1, width]) if n else rng.randint(0, 5)]
     elif op == 5 and n:
         i, j = rng.randrange(n), rng.randrange(n)
-        b[4 + 91 * i:95 + 91 * i] = b[4 + 91 * j:95 + 91 * j]
-    elif op == 6 and len(b) > 4 + 91 * n:
-        b[rng.choice([4 + 91 * n, len(b) - 1, rng.randrange(4 + 91 * n, len(b))])] = rng.choice([1, 128, 255])
+        b[at(i, width)] = b[at(j, width)]
+    elif op == 6 and len(b) > 4 + width * n:
+        b[rng.choice([4 + width * n, len(b) - 1, rng.randrange(4 + width * n, len(b))])] = rng.choice([1, 128, 255])
     elif op == 7 and n:
         i = rng.randrange(n)
-        j = 4 + 91 * i + rng.choice([0, 1, 2, 3, 4, 5, 81, 82, 83, 84, 85, 86, 87, 88, 89, 90])
+        j = 4 + width * i + rng.choice([0, 1, 2, 3, 4, 5, *range(81, width)])
         if j < len(b):
             b[j] ^= 1 << rng.randrange(8)
     elif n and len(b) >= 4:          # move the border between cases and events
@@ -841,7 +940,7 @@ def g_register(seed, count):
             base = reg
         else:
             cr, er = raw_rows(rng, w, rng.randint(0, 4), rng.randint(0, 8), rng.choice([0, 0, 1, 1, 2]))
-            base = len(cr).to_bytes(2, "big") + len(er).to_bytes(2, "big") + b"".join(cr + er) + bytes(rng.choice([0, 1, 90, 91, 300]))
+            base = len(cr).to_bytes(2, "big") + len(er).to_bytes(2, "big") + b"".join(cr + er) + bytes(rng.choice([0, 1, ROW - 1, ROW, 300]))
         for j in range(8):
             reg = base
             if j or rng.random() < 0.3:
@@ -866,7 +965,7 @@ def base_state(track):
     w.set_quarter()
     k1, k2 = (b"010", b"101", w.first, ID88), (b"120", b"aZ9", w.first + 1, b"A" * 88)
     w.keys = [k1, k2]
-    reg = bytes(4 + 91 * 20)
+    reg = bytes(4 + ROW * 20)
     out = O.submit(ser(root(1, [rec1(w, b"I", k1, True), rec1(w, b"I", k2, True)])), 1, 2018, 2, reg, bytes(2))
     assert out[:5] == (0, 0, 2, 2, 0)
     return rng, w, out[5], k1, k2
@@ -1108,8 +1207,8 @@ def g_big(seed, count):
     w.set_quarter()
     for i in range(60):
         parts = O.load(reg)
-        big = bytes(4 + 91 * rng.choice([60, 130, 131, 200, 300]))
-        big = reg[:4 + 91 * 2] + big[4 + 91 * 2:]
+        big = bytes(4 + ROW * rng.choice([60, 130, 131, 200, 300]))
+        big = reg[:4 + ROW * 2] + big[4 + ROW * 2:]
         parts = O.load(big)
         recs = [rec2(w, parts, b"I", rng.choice([1, 2, 126, 127, 128, 129, 130, 250])) for _ in range(rng.randint(1, 3))]
         t = root(2, recs)
@@ -1129,11 +1228,11 @@ def g_big(seed, count):
         kk = [(b"010", b"101", w.first, b"%088d" % rng.randrange(10**30)) for _ in range(n)]
         b = ser(root(1, [rec1(w, b"I", k, True) for k in kk]))
         for m in (n - 1, n):
-            for size in (4 + 91 * (n - 1), 4 + 91 * n, 4 + 91 * n + 50):
+            for size in (4 + ROW * (n - 1), 4 + ROW * n, 4 + ROW * n + 50):
                 check_submit(b, 1, 2018, 2, bytes(size), bytes(m))
     # 4,096 rows
     for rows in (4094, 4095, 4096, 4097):
-        for length in (4 + 91 * 4095, 4 + 91 * 4096, 4 + 91 * 4097, 4 + 91 * 4200):
+        for length in (4 + ROW * 4095, 4 + ROW * 4096, 4 + ROW * 4097, 4 + ROW * 4200):
             keys = sorted((10, b"101", O.day(b"2018-04-01"), b"%088d" % (i * 7)) for i in range(rows))
             rb = b"".join(O.pack_case(k, (1950, b"123", (1,) * 6)) for k in keys)
             r = (rows.to_bytes(2, "big") + bytes(2) + rb).ljust(length, b"\0")

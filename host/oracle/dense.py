@@ -16,13 +16,13 @@ def states(seed):
         w.year, w.quarter = rng.choice([(2018, 2), (2020, 1), (2023, 3), (2022, 4), (2009, 1), (2099, 4)])
         w.set_quarter()
         w.keys = [(rng.choice(w.regions), rng.choice(w.asls), w.first + rng.choice([0, 3, 20]), i) for i in w.ids]
-        reg = bytes(4 + 91 * 60)
+        reg = bytes(4 + O.ROW * 60)
         out0 = O.submit(ser(root(1, [K.rec1(w, b"I", k, True) for k in w.keys])), 1, w.year, w.quarter, reg, bytes(50))
         reg = out0[5]
         for _ in range(rng.randint(2, 25)):
             reg = O.submit(ser(root(2, [K.rec2(w, O.load(reg), b"I")])), 2, w.year, w.quarter, reg, bytes(5))[5]
         n = O.standing(O.load(reg))
-        reg = reg[:4 + 91 * (n + rng.choice([0, 0, 1, 2, 4, 12]))]
+        reg = reg[:4 + O.ROW * (n + rng.choice([0, 0, 1, 2, 4, 12]))]
         out.append((w, reg))
     return out
 
@@ -194,7 +194,7 @@ class History:
         if rng.random() < 0.4:                               # taken in a quarter later: in the first quarter's files 10
             self.keys.append((middle[0], middle[1], self.spans[1][2] + rng.randint(0, 9), ident))
         events = rng.choice([120, 200, 300]) if rng.random() < 0.04 else rng.randint(3, 25)
-        self.reg = bytes(4 + 91 * (len(self.keys) + events) + rng.choice([0, 0, 0, 1, 90]))
+        self.reg = bytes(4 + O.ROW * (len(self.keys) + events) + rng.choice([0, 0, 0, 1, O.ROW - 1]))
         self.accepted, self.old, self.ever = [], set(), {}   # old: keys carried away that don't stand; ever: what each case had
 
     def another(self):
@@ -345,7 +345,7 @@ def full_registers(rng):
         for k, n in zip(packed, (before, of, behind)):
             rows += [O.pack_event(k, (O.ERO, k[2] + i // 3, 1 + i % 3 * 5, O.NO_END, i % 100, 0)) for i in range(n)]
         reg = bytes([0, 3]) + len(rows).to_bytes(2, "big") + b"".join([O.pack_case(k, (1950, b"123", (0,) * 6)) for k in packed] + rows)
-        reg = reg.ljust(4 + 91 * 4096 + rng.choice([0, 0, 91]), b"\0")
+        reg = reg.ljust(4 + O.ROW * 4096 + rng.choice([0, 0, O.ROW]), b"\0")
         more = (b"010", b"zzz", w.first, b"Z" * 88)
         for types in ([b"C"], [b"C", b"I", b"C"], [b"C", b"I"]):
             records = [K.rec1(w, t, keys[1], True) for t in types] + [K.rec1(w, b"I", more, True)]

@@ -28,7 +28,7 @@ for name in open(ROOT+'/args').read().split():
     out.append(name+":"); reg=bytes(4); lst=512; before=after=b""; length=0      # before, after: the output of the last `cancel`
     for line in open(D+name).read().splitlines():
         out.append("> "+line); w=line.split(' ')
-        if w[0]=='rows': reg=bytes(4+91*int(w[1]))
+        if w[0]=='rows': reg=bytes(4+oracle.ROW*int(w[1]))
         elif w[0]=='bytes': reg=bytes(int(w[1]))
         elif w[0]=='load': reg=open(D+w[1],'rb').read()
         elif w[0]=='list': lst=int(w[1])
@@ -50,6 +50,13 @@ for name in open(ROOT+'/args').read().split():
         elif w[0]=='text':                                   # the file's bytes, and behind them what stood there
             text=open(D+w[1],'rb').read(); out.append("same" if after==text+before[len(text):] and length==len(text) else "differs")
         elif w[0]=='undo': submit(after[:length],2,*w[1:3])
+        elif w[0]=='evaluation':
+            a,fields=oracle.evaluation(reg,*key(*w[1:5]),w[5].encode()); out.append("evaluation "+" ".join(map(str,[a,*fields])))
+        elif w[0]=='convert':                                # a new register of bytes 77, held where it is made
+            a,new=oracle.convert(reg,bytes([77])*int(w[1]))
+            if a==0: reg=new; out.append("convert 0")
+            else: out.append("convert %d %s"%(a,"same" if new==bytes([77])*int(w[1]) else "differs"))
+        elif w[0]!='#': sys.exit("histories: no such command: "+line)
 said = "".join(l + "\n" for l in out)
 with open(ROOT + "/stdout") as f:
     same = f.read() == said

@@ -10,12 +10,14 @@ from dense import EdgeBuf, beside
 
 RIV, ERO, SOS, CON = range(4)
 OPERATORS, STOPS, ENDS = [*range(1, 14), 99], [1, 2, 3, 9], [*range(1, 13), 97, 98, 99]
+SCALES = [b"Autonomia", b"GradoMobilita", b"Cognitivi", b"Comportamentali", b"SupportoSociale", b"RischioInfettivo"]
+ROW = 96                                                     # a row's bytes (R2)
 NEEDED = ["I of a visit beside another operator's: 0", "C of a visit beside another operator's: 0", "V of a visit beside another operator's: 0",
           "visits of one day in one accepted record", "I of a visit that the same operator made: 14", "a visit by the same operator twice in a record: 22",
           "V of a visit that only another operator made: 15", "C of a visit that only another operator made: 15",
           "visits of several operators on one day carried away with their case", "a visit inserted again beside another operator's: 0",
           "I with another motivo or Motivazione: 14", "V with another motivo or Motivazione: 0", "C with another motivo or Motivazione: 0",
-          "a motivo or Motivazione twice in a record: 22", "rows with codes that ascend: 0", "rows with codes that don't ascend: 3",
+          "a motivo or Motivazione twice in a record: 22", "an evaluation kept, then varied: 0", "rows with codes that ascend: 0", "rows with codes that don't ascend: 3",
           "rows of one day with another motivo: 3", "rows of the old layout: 3"]
 
 
@@ -29,10 +31,16 @@ def case_bits(k):
     return bits((int(k[0]), 8), *[(c, 7) for c in k[1]], (k[2], 17), *[(c, 7) for c in k[3]])
 
 
+def value_bits(value):
+    """R32 and R33; value: six numbers and the prevalente"""
+    return bits(*[(v, 2) for v in value[0]], *[(c, 7) for c in value[1].ljust(5, b"\0")])
+
+
 def event_row(k, ev):
-    """R23 to R29"""
-    kind, when, code, end, accesses, conferma = ev
-    return case_bits(k) + bits((kind, 2), (when, 17), (code, 7), (2 ** 17 - 1 if end is None else end, 17), (accesses, 7), (conferma, 2), (0, 14))
+    """R23 to R29, R32 and R33; an event of six fields keeps no evaluation"""
+    kind, when, code, end, accesses, conferma = ev[:6]
+    row = case_bits(k) + bits((kind, 2), (when, 17), (code, 7), (2 ** 17 - 1 if end is None else end, 17), (accesses, 7), (conferma, 2))
+    return (row + value_bits(*ev[6:]) if len(ev) > 6 else row).ljust(8 * ROW, "0")
 
 
 def event_key(row):
@@ -46,13 +54,13 @@ kind_of, when_of, end_of = lambda row: row[662:664], lambda row: row[664:681], l
 def case_row(k, record):
     """R14 to R22, from the record's leaves; no two of a Track 1 record have one name"""
     leaf = {nd.n: b"".join(nd.k) for _, _, nd in K.walk(record) if nd.leaf}
-    level = [int(leaf.get(n, b"0")) for n in (b"Autonomia", b"GradoMobilita", b"Cognitivi", b"Comportamentali", b"SupportoSociale", b"RischioInfettivo")]
-    return case_bits(k) + bits((int(leaf[b"AnnoNascita"]), 12), *[(c, 7) for c in leaf[b"Prevalente"].ljust(5, b"\0")], *[(v, 2) for v in level], (0, 7))
+    level = [int(leaf.get(n, b"0")) for n in SCALES]
+    return case_bits(k) + bits((int(leaf[b"AnnoNascita"]), 12), *[(c, 7) for c in leaf[b"Prevalente"].ljust(5, b"\0")], *[(v, 2) for v in level], (0, 47))
 
 
 def register(cases, events, length=0):
     rows = cases + events
-    packed = b"".join(int(r, 2).to_bytes(91, "big") for r in rows)
+    packed = b"".join(int(r, 2).to_bytes(ROW, "big") for r in rows)
     return (len(cases).to_bytes(2, "big") + len(events).to_bytes(2, "big") + packed).ljust(length, b"\0")
 
 
@@ -61,11 +69,25 @@ def text(n):
     return date.fromordinal(n + date(1900, 1, 1).toordinal()).isoformat().encode()
 
 
+def evaluation_tree(rng, value):
+    """a Valutazione of Track 2 that says this"""
+    tree = K.val_tree(rng, 2, value[1], True)
+    for parent, i, leaf in reversed(K.walk(tree)):
+        level = value[0][SCALES.index(leaf.n)] if leaf.n in SCALES else None
+        if level:
+            leaf.k = [b"%d" % level]
+        elif level == 0 or leaf.n == b"Disturbi" and not leaf.k and rng.random() < 0.5:
+            del parent.k[i]
+    return tree
+
+
 def event_tree(rng, ev, fault=None):
-    kind, when, code, end, accesses, conferma = ev
+    """with conferma 2 the event has a value; faults: 13 a prevalente 000, 21 a Valutazione too many or too few"""
+    kind, when, code, end, accesses, conferma = ev[:6]
     code = b"%d" % code
     if kind == RIV:
-        inside = [K.val_tree(rng, 2, b"000" if fault == 13 else b"123")] if (conferma == 2) != (fault == 21) else []
+        value = ev[6] if conferma == 2 else K.some_value(rng)
+        inside = [evaluation_tree(rng, (value[0], b"000") if fault == 13 else value)] if (conferma == 2) != (fault == 21) else []
         return N(b"Rivalutazione", inside, (b"data", text(when)), (b"motivo", code), (b"confermaPrecedente", b"%d" % conferma))
     if kind == ERO:
         return N(b"Erogazione", [L(b"TipoOperatore", code)], (b"data", text(when)), *[(b"numAccessi", b"%d" % accesses)] * (accesses > 0))
@@ -93,7 +115,7 @@ class History:
         self.days = [at, at + 1, at + rng.randint(2, 9), w.last - 1][:rng.randint(1, 4)]
         self.operators = OPERATORS if rng.random() < 0.15 else rng.sample(OPERATORS, rng.randint(2, 4))
         rows = len(self.keys) + (rng.randint(2, 6) if rng.random() < 0.25 else rng.randint(10, 60))
-        self.reg = bytes(4 + 91 * rows + rng.choice([0, 0, 1, 90]))
+        self.reg = bytes(4 + ROW * rows + rng.choice([0, 0, 1, ROW - 1]))
         self.place, self.last, self.cancelled = 0, {}, {}    # last: each key's last accepted record; cancelled: each case's last cancellation
 
     # demand 3, from all that was accepted since the register was emptied
@@ -138,7 +160,7 @@ class History:
                 return 27
             if any(when_of(x) > when_of(c) or "0" in end_of(x) and end_of(x) > when_of(c) for c in ends for x in evs):
                 return 28
-        return 17 if r.tipo == b"I" and len(self.standing()) + len(r.rows) > (len(self.reg) - 4) // 91 else 0
+        return 17 if r.tipo == b"I" and len(self.standing()) + len(r.rows) > (len(self.reg) - 4) // ROW else 0
 
     def judge(self, r, a):
         """the record's answer against the words, where none in front of these was given; then it is logged"""
@@ -164,6 +186,8 @@ class History:
                 if self.stands(k) and self.last[k][2][681:688] != row[681:688]:
                     C["%s with another motivo or Motivazione: %d" % (tipo, a)] += 1
                 codes.setdefault(k, set()).add(row[681:688])
+                if tipo == "V" and a == 0 and "1" in self.last[k][2][714:] and self.last[k][2][714:] != row[714:]:
+                    C["an evaluation kept, then varied: 0"] += 1
             elif tipo == "I" and a == 0 and k in self.last and any(x[:681] == k[:681] and x != k for x in self.standing()):
                 C["a visit inserted again beside another operator's: 0"] += 1
         if any(len(of) > 1 for of in codes.values()):
@@ -207,7 +231,8 @@ class History:
         kind = rng.choice([RIV, RIV, SOS, SOS, CON]) if kind is None else kind
         d = d or (self.w.last if kind == CON and rng.random() < 0.8 else rng.choice(self.days))
         if kind == RIV:
-            return RIV, d, rng.choice([1, 2]), None, 0, rng.choice([1, 2])
+            conferma = rng.choice([1, 2])
+            return RIV, d, rng.choice([1, 2]), None, 0, conferma, *[K.some_value(rng)] * (conferma == 2)
         if kind == SOS:
             return SOS, d, rng.choice(STOPS), None if d == self.days[-1] and rng.random() < 0.3 else d + rng.choice([0, 0, 1]), 0, 0
         return CON, d, rng.choice(ENDS), None, 0, 0
@@ -320,12 +345,12 @@ def registers(h):
         rows = [event_row(k, h.visit(d + rng.randint(0, 1), rng.choice(OPERATORS))) for _ in range(rng.randint(2, 3))]
         order = [int(r[664:688], 2) for r in rows]
         up = all(a < b for a, b in zip(order, order[1:]))
-        said("rows with codes that ascend" if up else "rows with codes that don't ascend", register([case], rows, 4 + 91 * 5), 0 if up else 3, h)
+        said("rows with codes that ascend" if up else "rows with codes that don't ascend", register([case], rows, 4 + ROW * 5), 0 if up else 3, h)
     rows = [event_row(k, h.visit(d, x)) for x in sorted(rng.sample(OPERATORS, rng.randint(2, 14)))]
     said("rows with codes that ascend", register([case], rows), 0, h)
-    revaluations = [event_row(k, (RIV, d, motivo, None, 0, rng.choice([1, 2]))) for motivo in rng.choice([(1, 2), (2, 1), (1, 1)])]
-    said("rows of one day with another motivo", register([case], revaluations + rows, 4 + 91 * 20), 3, h)
-    said("rows that stand", register([case], revaluations[:1] + rows, 4 + 91 * 20), 0, h)
+    revaluations = [event_row(k, (RIV, d, motivo, None, 0, *K.conferma_and_value(rng))) for motivo in rng.choice([(1, 2), (2, 1), (1, 1)])]
+    said("rows of one day with another motivo", register([case], revaluations + rows, 4 + ROW * 20), 3, h)
+    said("rows that stand", register([case], revaluations[:1] + rows, 4 + ROW * 20), 0, h)
 
 
 def g_operators(seed, count):

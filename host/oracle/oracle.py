@@ -419,23 +419,37 @@ def case_key(r):
 
 
 RIV, ERO, SOS, CON = 0, 1, 2, 3                              # R23: "0 Rivalutazione, 1 Erogazione, 2 Sospensione, 3 Conclusione"
+SCALES = [(b"Autonomia",), (b"GradoMobilita",), (b"Disturbi", b"Cognitivi"), (b"Disturbi", b"Comportamentali"), (b"SupportoSociale",), (b"RischioInfettivo",)]
+NO_VALUE = (0,) * 6, b""                                     # E6: "With conferma 1, and for other kinds, they are zero"
+
+
+def value_of(v):
+    """(the six evaluation fields, the prevalente) of a Valutazione, in either track"""
+    return tuple(level(text_at(v, *path)) for path in SCALES), text_at(v, b"Patologia", b"Prevalente")
+
+
+def revaluation(e):
+    """a Rivalutazione's event; what it keeps of its Valutazione is asked for with conferma 2 alone, of which A21 wants one"""
+    conferma, v = int(e.attrs[b"confermaPrecedente"]), kid(e, b"Valutazione")
+    value = value_of(v) if conferma == 2 and v is not None else NO_VALUE
+    return (RIV, day(e.attrs[b"data"]), int(e.attrs[b"motivo"]), NO_END, 0, conferma, value), v
 
 
 def events_of(r):
-    """[(kind, date, code, end, accesses, conferma)], in the row's order (R23 to R28), with the Rivalutazione's Valutazione beside"""
+    """[(kind, date, code, end, accesses, conferma, value)], in the row's order (R23 to R33), with the Rivalutazione's Valutazione beside"""
     out = []
     for e in kid(r, b"Eventi").items:
         if not isinstance(e, Elem):
             continue
         if e.name == b"Rivalutazione":
-            out.append(((RIV, day(e.attrs[b"data"]), int(e.attrs[b"motivo"]), NO_END, 0, int(e.attrs[b"confermaPrecedente"])), kid(e, b"Valutazione")))
+            out.append(revaluation(e))
         elif e.name == b"Erogazione":
-            out.append(((ERO, day(e.attrs[b"data"]), int(text_at(e, b"TipoOperatore")), NO_END, int(e.attrs.get(b"numAccessi", b"0")), 0), None))
+            out.append(((ERO, day(e.attrs[b"data"]), int(text_at(e, b"TipoOperatore")), NO_END, int(e.attrs.get(b"numAccessi", b"0")), 0, NO_VALUE), None))
         elif e.name == b"Sospensione":
             end = day(e.attrs[b"dataFine"]) if b"dataFine" in e.attrs else NO_END
-            out.append(((SOS, day(e.attrs[b"dataInizio"]), int(text_at(e, b"Motivazione")), end, 0, 0), None))
+            out.append(((SOS, day(e.attrs[b"dataInizio"]), int(text_at(e, b"Motivazione")), end, 0, 0, NO_VALUE), None))
         elif e.name == b"Conclusione":
-            out.append(((CON, day(e.attrs[b"dataAD"]), int(text_at(e, b"Motivazione")), NO_END, 0, 0), None))
+            out.append(((CON, day(e.attrs[b"dataAD"]), int(text_at(e, b"Motivazione")), NO_END, 0, 0, NO_VALUE), None))
     return out
 
 
@@ -446,17 +460,18 @@ def event_key(e):
 
 
 # ------------------------------------------------------------------ the register
-ROW = 91
+# what follows is over the bytes of a row: those of R2, or those of before E6 (section 16), of which a conversion asks whether they are sound
+ROW, OLD_ROW = 96, 91
 
 
-def pack(fields):
+def pack(fields, row=ROW):
     """R6: "packed in the order of the table from its first bit on, the most significant bit first" """
     n = bits = 0
     for v, w in fields:
         assert 0 <= v < 1 << w
         n, bits = n << w | v, bits + w
-    assert bits == ROW * 8
-    return n.to_bytes(ROW, "big")
+    assert bits == row * 8
+    return n.to_bytes(row, "big")
 
 
 def key_fields(k):
@@ -464,19 +479,22 @@ def key_fields(k):
     return [(region, 8)] + [(c, 7) for c in asl] + [(taken, 17)] + [(c, 7) for c in ident]
 
 
-def pack_case(k, body):
+def pack_case(k, body, row=ROW):
     birth, prevalente, levels = body
-    return pack(key_fields(k) + [(birth, 12)] + [(c, 7) for c in prevalente.ljust(5, b"\0")] + [(v, 2) for v in levels] + [(0, 7)])
+    return pack(key_fields(k) + [(birth, 12)] + [(c, 7) for c in prevalente.ljust(5, b"\0")] + [(v, 2) for v in levels] + [(0, row * 8 - 721)], row)
 
 
-def pack_event(k, ev):
-    kind, when, code, end, accesses, conferma = ev
+def pack_event(k, ev, row=ROW):
+    """an event without its seventh field keeps no evaluation, and none does in a row of before E6"""
+    kind, when, code, end, accesses, conferma, (levels, prevalente) = ev if len(ev) > 6 else (*ev, NO_VALUE)
+    # E6: "after conferma: 12 and then 35 bits", "zero bits at the end"
+    behind = [(v, 2) for v in levels] + [(c, 7) for c in prevalente.ljust(5, b"\0")] + [(0, 7)] if row == ROW else [(0, 14)]
     # E2: "In event rows the code moves in front of the end date"
-    return pack(key_fields(k) + [(kind, 2), (when, 17), (code, 7), (end, 17), (accesses, 7), (conferma, 2), (0, 14)])
+    return pack(key_fields(k) + [(kind, 2), (when, 17), (code, 7), (end, 17), (accesses, 7), (conferma, 2)] + behind, row)
 
 
 def unpack(row, widths):
-    n, left, out = int.from_bytes(row, "big"), ROW * 8, []
+    n, left, out = int.from_bytes(row, "big"), len(row) * 8, []
     for w in widths:
         left -= w
         out.append(n >> left & (1 << w) - 1)
@@ -484,8 +502,9 @@ def unpack(row, widths):
 
 
 KEY_WIDTHS = [8, 7, 7, 7, 17] + [7] * 88
-CASE_WIDTHS = KEY_WIDTHS + [12] + [7] * 5 + [2] * 6 + [7]
-EVENT_WIDTHS = KEY_WIDTHS + [2, 17, 7, 17, 7, 2, 14]
+case_widths = lambda row: KEY_WIDTHS + [12] + [7] * 5 + [2] * 6 + [row * 8 - 721]
+event_widths = lambda row: KEY_WIDTHS + [2, 17, 7, 17, 7, 2] + ([2] * 6 + [7] * 5 + [7] if row == ROW else [14])
+CASE_WIDTHS, EVENT_WIDTHS = case_widths(ROW), event_widths(ROW)
 
 
 def read_key(f):
@@ -500,21 +519,27 @@ def anomaly11(birth, taken):
     return birth < 1880 or birth > year_of(taken)            # A11: "the birth year is before 1880 or after the year of taking in"
 
 
+def read_value(levels, raw):
+    """(the six fields, the prevalente) if they are allowed, else None"""
+    prevalente = bytes(raw).rstrip(b"\0")                    # R15: "unused last characters are 0"
+    if not (3 <= len(prevalente) <= 5 and only(prevalente, TEXT_SET)):
+        return None
+    if prevalente == b"000" or levels[5] > 2:                # V3: "and is not `000`", "RischioInfettivo is 0 to 2"
+        return None
+    return tuple(levels), prevalente
+
+
 @lru_cache(100000)
 def read_case(row):
     """(key, body) if the row is the packing of allowed values, else None"""
-    f = unpack(row, CASE_WIDTHS)
+    f = unpack(row, case_widths(len(row)))
     k = read_key(f)
     if k is None:
         return None
-    birth, raw, levels, rest = f[93], bytes(f[94:99]), tuple(f[99:105]), f[105]
-    prevalente = raw.rstrip(b"\0")                           # R15: "unused last characters are 0"
-    if not (3 <= len(prevalente) <= 5 and only(prevalente, TEXT_SET)):
+    birth, value, rest = f[93], read_value(f[99:105], f[94:99]), f[105]
+    if value is None or anomaly11(birth, k[2]) or rest != 0:   # V3: "the birth year is free of A11", "and the zero bits are zero"
         return None
-    if anomaly11(birth, k[2]) or prevalente == b"000":       # V3: "the birth year is free of A11", "and is not `000`"
-        return None
-    if levels[5] > 2 or rest != 0:                           # V3: "RischioInfettivo is 0 to 2", "and the zero bits are zero"
-        return None
+    levels, prevalente = value
     return k, (birth, prevalente, levels)
 
 
@@ -523,12 +548,12 @@ CODES = {RIV: MOTIVE_CODES, ERO: OPERATOR_CODES, SOS: STOP_CODES, CON: END_CODES
 
 @lru_cache(100000)
 def read_event(row):
-    f = unpack(row, EVENT_WIDTHS)
+    f = unpack(row, event_widths(len(row)))
     k = read_key(f)
     if k is None:
         return None
-    kind, when, code, end, accesses, conferma, rest = f[93:]
-    if when > LAST_DAY or rest != 0:                         # V4: "the date is a day", "and the zero bits are zero"
+    kind, when, code, end, accesses, conferma, *behind = f[93:]
+    if when > LAST_DAY:                                      # V4: "the date is a day"
         return None
     if not (end == NO_END or kind == SOS and end <= LAST_DAY):   # V4: "the end date a Sospensione's day or all ones"
         return None
@@ -538,7 +563,12 @@ def read_event(row):
         return None
     if conferma not in ((1, 2) if kind == RIV else (0,)):    # V4: "conferma 1 or 2 for a Rivalutazione and else 0"
         return None
-    return k, (kind, when, code, end, accesses, conferma)
+    value = NO_VALUE
+    if any(behind):                                          # V4: "all bits are zero or, of a Rivalutazione with conferma 2, a whole evaluation stands"
+        if len(row) == OLD_ROW or kind != RIV or conferma != 2 or behind[11] != 0:
+            return None
+        value = read_value(behind[:6], behind[6:11])         # V4: "its prevalente and its six fields as V3 allows them, and then zero bits"
+    return None if value is None else (k, (kind, when, code, end, accesses, conferma, value))
 
 
 def anomaly23(ev):
@@ -568,22 +598,28 @@ class Register:
     """A sound register taken apart: cases {key: body}, events {key: {event_key: event}}"""
 
 
-def room(reg):
-    return min(4096, (len(reg) - 4) // ROW)                  # R4: "the smaller of 4,096 and (length - 4) / 91 rounded down"
+def room(reg, row=ROW):
+    return min(4096, (len(reg) - 4) // row)                  # R4: "the smaller of 4,096 and (length - 4) / 96 rounded down"
 
 
-def load(reg):
+def rows_in(reg, row):
+    """the rows that the first four bytes count (R1, R2): cases, events"""
+    nc, ne = int.from_bytes(reg[0:2], "big"), int.from_bytes(reg[2:4], "big")
+    rows = [reg[4 + row * i:4 + row * (i + 1)] for i in range(nc + ne)]
+    return rows[:nc], rows[nc:]
+
+
+def load(reg, row=ROW):
     """The register taken apart, or None if it is not sound."""
     if len(reg) < 4:                                         # V1: "It has at least 4 bytes"
         return None
     nc, ne = int.from_bytes(reg[0:2], "big"), int.from_bytes(reg[2:4], "big")
-    if nc + ne > room(reg):                                  # V2: "are together at most R"
+    if nc + ne > room(reg, row):                             # V2: "are together at most R"
         return None
-    rows = [reg[4 + ROW * i:4 + ROW * (i + 1)] for i in range(nc + ne)]
-    if reg[4 + ROW * (nc + ne):].strip(b"\0"):               # V8: "Every byte past the last standing row is zero"
+    if reg[4 + row * (nc + ne):].strip(b"\0"):               # V8: "Every byte past the last standing row is zero"
         return None
-    cases = [read_case(r) for r in rows[:nc]]
-    events = [read_event(r) for r in rows[nc:]]
+    cases, events = rows_in(reg, row)
+    cases, events = list(map(read_case, cases)), list(map(read_event, events))
     if None in cases or None in events:                      # V3, V4
         return None
     ck = [k for k, _ in cases]
@@ -591,7 +627,7 @@ def load(reg):
     if any(a >= b for a, b in zip(ck, ck[1:])) or any(a >= b for a, b in zip(ek, ek[1:])):   # V5: "Keys ascend strictly"
         return None
     out = Register()
-    out.room = room(reg)
+    out.room = room(reg, row)
     out.cases = dict(cases)
     out.events = {k: {} for k in out.cases}
     for k, e in events:
@@ -605,11 +641,11 @@ def load(reg):
     return out
 
 
-def store(r, length):
+def store(r, length, row=ROW):
     evs = sorted(((k, e) for k, d in r.events.items() for e in d.values()), key=lambda x: (x[0], event_key(x[1])))
     out = len(r.cases).to_bytes(2, "big") + len(evs).to_bytes(2, "big")
-    out += b"".join(pack_case(k, r.cases[k]) for k in sorted(r.cases))
-    out += b"".join(pack_event(k, e) for k, e in evs)
+    out += b"".join(pack_case(k, r.cases[k], row) for k in sorted(r.cases))
+    out += b"".join(pack_event(k, e, row) for k, e in evs)
     return out.ljust(length, b"\0")                          # R5: "Every byte past the last standing row is zero"
 
 
@@ -617,8 +653,8 @@ def empty(reg):
     return (3, reg) if len(reg) < 4 else (0, bytes(len(reg)))
 
 
-def sound(reg):
-    return 3 if load(reg) is None else 0
+def sound(reg, row=ROW):
+    return 3 if load(reg, row) is None else 0
 
 
 def case_named(r, region, asl, when, ident):
@@ -665,10 +701,7 @@ def apply1(r, rec, in_quarter):
     k = case_key(rec)
     anag = kid(rec, b"Assistito", b"DatiAnagrafici")
     birth = int(text_at(anag, b"AnnoNascita"))
-    val = kid(rec, b"Eventi", b"Valutazione")
-    prevalente = text_at(val, b"Patologia", b"Prevalente")
-    levels = tuple(level(text_at(val, *p)) for p in [(b"Autonomia",), (b"GradoMobilita",), (b"Disturbi", b"Cognitivi"), (b"Disturbi", b"Comportamentali"),
-                                                     (b"SupportoSociale",), (b"RischioInfettivo",)])
+    levels, prevalente = value_of(kid(rec, b"Eventi", b"Valutazione"))
     if not in_quarter(k[2]):                                 # A10: "A date is outside the declared quarter (D6). Track 1: that of taking in, and no other"
         return 10
     if anomaly11(birth, k[2]):
@@ -736,7 +769,7 @@ def apply2(r, rec, in_quarter):
     return 0
 
 
-def submit(sub, track, year, quarter, reg, answers):
+def submit(sub, track, year, quarter, reg, answers, row=ROW):
     """-> (answer, record number, records, accepted, discarded, register after, answer list after, place)"""
     # G4: "With 1 to 8 all three counts are 0, and no byte of register or answer list changes"; E5: "Other answers report place 0"
     refuse = lambda a, n=0, place=0: (a, n, 0, 0, 0, reg, answers, place)
@@ -744,7 +777,7 @@ def submit(sub, track, year, quarter, reg, answers):
         return refuse(1)
     if track not in (1, 2):
         return refuse(2)
-    r = load(reg)
+    r = load(reg, row)
     if r is None:
         return refuse(3)
     if len(sub) > 1048576:
@@ -766,7 +799,7 @@ def submit(sub, track, year, quarter, reg, answers):
     judge = apply1 if track == 1 else apply2
     got = bytes(judge(r, rec, in_quarter) for rec in records)   # G7: "Records are taken in file order"
     accepted = got.count(0)
-    return 0, 0, len(records), accepted, len(records) - accepted, store(r, len(reg)), got + answers[len(got):], 0
+    return 0, 0, len(records), accepted, len(records) - accepted, store(r, len(reg), row), got + answers[len(got):], 0
 
 
 # ------------------------------------------------------------------ E3: "A cancellation file written from the register"
@@ -776,7 +809,7 @@ def written(n):
 
 def event_text(e):
     """E3: "the schema's spelling of codes"; numAccessi where the row has one, dataFine likewise, since A10 looks at it; never `<X/>`"""
-    kind, when, code, end, accesses, _ = e
+    kind, when, code, end, accesses = e[:5]
     when, code = written(when), b"%d" % code
     if kind == RIV:
         return b'<Rivalutazione data="%s" motivo="%s" confermaPrecedente="1"></Rivalutazione>' % (when, code)
@@ -808,7 +841,7 @@ def cancel_file(reg, region, asl, when, ident, year, quarter, out):
         return refuse(30)
     in_quarter = days_of(year, quarter)                      # E3: "every event of the case that check 10 places in the quarter", in the rows' order
     evs = [e for _, e in sorted(r.events[k].items()) if in_quarter(day_held(e))]
-    if any(e[0] == RIV and e[5] == 2 for e in evs):          # E3: "among those events": by A21 conferma 2 wants a Valutazione, which isn't kept (V9)
+    if any(e[0] == RIV and e[5] == 2 for e in evs):          # E3: "among those events": by A21 conferma 2 wants a Valutazione, of which a part only is kept (U4)
         return refuse(31)
     if not evs:                                              # there is none
         return refuse(32)
@@ -819,22 +852,68 @@ def cancel_file(reg, region, asl, when, ident, year, quarter, out):
     return 0, len(text), text + out[len(text):]              # E3: "bytes past it stay"
 
 
-if __name__ == "__main__":                                   # P1, P5 and P6; E2's rows and E3's file, worked out by hand
+# ------------------------------------------------------------------ E6: "Keep the new evaluation"
+def evaluation(reg, region, asl, when, ident, on):
+    """-> (answer, the eleven bytes); on: the day's text"""
+    refuse = lambda a: (a, bytes(11))                        # N6: "With 3 and with 30 all eleven are 0"
+    r = load(reg)
+    if r is None:                                            # E6: "the reader gives 3 for an unsound register"
+        return refuse(3)
+    k = case_named(r, region, asl, when, ident)
+    if k is None or not is_date(on) or day(on) < k[2]:       # E6: "else 30 for a case not standing or a day not allowed or before its taking in"
+        return refuse(30)
+    # E6: "those of the latest Rivalutazione with conferma 2 on or before it, else the case's own"; of one with zeros "the reader passes over it"
+    kept = [e for e in r.events[k].values() if e[0] == RIV and e[5] == 2 and e[1] <= day(on) and e[6] != NO_VALUE]
+    _, prevalente, levels = r.cases[k]
+    if kept:
+        levels, prevalente = max(kept, key=lambda e: e[1])[6]
+    return 0, bytes(levels) + prevalente.ljust(5, b"\0")     # N5: "the six numbers in the order of R16 to R21, then the prevalente's five characters"
+
+
+def convert(old, new):
+    """-> (answer, the new register after)"""
+    if load(old, OLD_ROW) is None:                           # E6: "changing neither buffer, gives 3 for any other register"
+        return 3, new
+    cases, events = rows_in(old, OLD_ROW)
+    if len(new) < 4 or room(new) < len(cases + events):      # E6: "else 33 if the new one has under 4 bytes or too little room"
+        return 33, new
+    # T4: "the old one's counts and rows, each row with five zero bytes behind it, and every other byte of it is zero"
+    return 0, (old[:4] + b"".join(row + bytes(ROW - OLD_ROW) for row in cases + events)).ljust(len(new), b"\0")
+
+
+if __name__ == "__main__":                                   # P1, P5 and P6; E2's and E6's rows and E3's file, worked out by hand
     assert LAST_DAY == 73048 and day(b"2000-02-29") == 36583 and day(b"1900-02-29") is None
     k = (10, b"101", day(b"2018-05-01"), b"A" * 88)
     assert pack_case(k, (1950, b"123", (0,) * 6))[:6].hex() == "0a62c18aa34e"
     may = lambda d: day(b"2018-05-%02d" % d)
     two, one, stop = (ERO, may(2), 2, NO_END, 3, 0), (ERO, may(2), 1, NO_END, 0, 0), (SOS, may(3), 9, may(5), 0, 0)
-    for e, last in ((two, "05546a02ffff830000"), (one, "05546a01ffff800000"), (stop, "06546a89546b800000")):
+    said = (1, 2, 3, 0, 1, 2), b"250"                        # E6: what a Rivalutazione keeps, and keeps no more once it is converted
+    new, bare = (RIV, may(10), 1, NO_END, 0, 2, said), (RIV, may(10), 1, NO_END, 0, 2)
+    for e, last in ((two, "05546a02ffff8300000000000000"), (one, "05546a01ffff8000000000000000"), (stop, "06546a89546b8000000000000000"),
+                    (new, "04546e01ffff809b199356000000"), (bare, "04546e01ffff8080000000000000")):
         row = pack_event(k, e)
-        bits = int.from_bytes(row, "big") >> 40              # R9: "its row's first 688 bits"
-        assert row[82:].hex() == last and row[:6].hex() == "0a62c18aa34e" and read_event(row) == (k, e)
+        bits = int.from_bytes(row, "big") >> 80              # R9: "its row's first 688 bits"
+        assert row[82:].hex() == last and row[:6].hex() == "0a62c18aa34e" and read_event(row) == (k, e if e is new else (*e, NO_VALUE))
         assert event_key(e) == (bits >> 24 & 3, bits >> 7 & NO_END, bits & 127 if e[0] == ERO else 0)
     of = lambda *evs: sound(bytes([0, 1, 0, len(evs)]) + pack_case(k, (1950, b"123", (0,) * 6)) + b"".join(pack_event(k, e) for e in evs))
     assert of(one, two, stop) == 0 and of(two, one) == of(two, two) == of(stop, two) == of((RIV, may(2), 1, NO_END, 0, 1), (RIV, may(2), 2, NO_END, 0, 1)) == 3
-    assert sound(bytes(4)) == 0 and sound(bytes(3)) == 3 and room(bytes(94)) == 0 and room(bytes(95)) == 1
-    # E3's file, each kind with and without what is optional
+    assert sound(bytes(4)) == sound(bytes(99)) == sound(bytes(100)) == 0 and sound(bytes(3)) == 3 and room(bytes(99)) == 0 and room(bytes(100)) == 1
+    # E6's reader and conversion
     case, key = pack_case(k, (1950, b"123", (0,) * 6)), (b"010", b"101", b"2018-05-01", b"A" * 88)
+    late = (RIV, may(20), 2, NO_END, 0, 2, ((0, 0, 0, 0, 0, 0), b"V58.1"))
+    on = lambda reg, *days: [evaluation(reg, *key, b"2018-05-%02d" % d) for d in days]
+    kept = lambda *evs: bytes([0, 1, 0, len(evs)]) + case + b"".join(pack_event(k, e) for e in evs)
+    first, second, third = (0, b"\0\0\0\0\0\x00123\0\0"), (0, b"\1\2\3\0\1\x02250\0\0"), (0, b"\0\0\0\0\0\0V58.1")
+    assert on(kept(new, (RIV, may(12), 1, NO_END, 0, 1), late), 1, 9, 10, 11, 12, 19, 20, 31) == [first] * 2 + [second] * 4 + [third] * 2
+    assert on(kept(bare, late), 9, 10, 19, 20) == [first] * 3 + [third] and on(kept(new, (*late[:6], NO_VALUE)), 20) == [second]
+    assert evaluation(kept(new), *key, b"2018-04-30") == on(kept(new), 32)[0] == evaluation(kept(new), b"011", *key[1:], key[2]) == (30, bytes(11))
+    assert evaluation(kept(late, new), *key, b"") == (3, bytes(11)) and on(bytes(100), 1) == [(30, bytes(11))]
+    old = bytes([0, 1, 0, 2]) + pack_case(k, (1950, b"123", (0,) * 6), OLD_ROW) + pack_event(k, new, OLD_ROW) + pack_event(k, two, OLD_ROW)
+    assert old[186:277].hex()[164:] == "05546a02ffff830000" and old[95:186].hex()[164:] == "04546e01ffff808000" and sound(old, OLD_ROW) == 0 and sound(old) == 3
+    assert convert(old + b"\0", b"?" * 300) == (0, kept(bare, two) + bytes(8)) and convert(old, b"?" * 292) == (0, kept(bare, two))
+    assert convert(old, b"?" * 291) == (33, b"?" * 291) and convert(bytes(94), b"??") == (33, b"??") and convert(bytes(4), b"????") == (0, bytes(4))
+    assert convert(kept(bare, two), b"?" * 300) == convert(old + b"\1", b"?" * 300) == (3, b"?" * 300) and convert(b"", b"") == (3, b"")
+    # E3's file, each kind with and without what is optional
     held = lambda *evs: (bytes([0, 1, 0, len(evs)]) + case + b"".join(pack_event(k, e) for e in evs)).ljust(1000, b"\0")
     plain, last, many = (RIV, may(31), 2, NO_END, 0, 1), (CON, may(31), 97, NO_END, 0, 0), (ERO, may(31), 99, NO_END, 99, 0)
     reg = held(plain, two, (ERO, may(2), 13, NO_END, 0, 0), many, stop, (SOS, may(31), 1, NO_END, 0, 0), last)

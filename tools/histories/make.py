@@ -4,7 +4,7 @@
     tools/histories/make.py
 
 What stands after each command and what each record is answered is said in scripts.py by hand, from docs/RULES.md; rows and sums are packed here, by
-arithmetic of this file's own. Nothing is taken from what the program prints. A request that changes the row, the key or an answer changes it here first.
+arithmetic of this file's own. Which evaluation is in force is said by hand too, and looked up again in those rows. Nothing is taken from what the program prints. A request that changes the row, the key or an answer changes it here first.
 """
 import datetime
 import os
@@ -15,7 +15,7 @@ ROOT = os.path.join(HERE, "..", "..", "crates", "histories")
 D = ROOT + '/data'
 P = 2 ** 56 - 5
 NEVER = 2 ** 17 - 1
-ROW = 91
+ROW, OLD_ROW = 96, 91       # OLD_ROW: before a Rivalutazione kept its evaluation (T2), with zero bits behind R21 and R28 to the row's end
 def day(t): return (datetime.date.fromisoformat(t) - datetime.date(1900, 1, 1)).days
 def bits(*fields):
     s = "".join(format(v, "0%db" % w) for v, w in fields)
@@ -25,21 +25,29 @@ def chars(t, n): return [(ord(c), 7) for c in t] + [(0, 7)] * (n - len(t))
 def ident(id): return id * 88 if len(id) == 1 else id
 def key(id="A", region=10, asl="101", taken="2018-05-01"):
     return [(region, 8)] + chars(asl, 3) + [(day(taken), 17)] + chars(ident(id), 88)
-def case(id="A", birth=1940, prevalente="250"):
-    return bits(*key(id), (birth, 12), *chars(prevalente, 5), *[(0, 2)] * 6, (0, 7))
-def event(kind, date, end=None, code=1, accesses=0, conferma=0, id="A"):
-    return bits(*key(id), (kind, 2), (day(date), 17), (code, 7), (NEVER if end is None else day(end), 17), (accesses, 7), (conferma, 2), (0, 14))
+def two(scales): return [(x, 2) for x in scales]
+MISSING = (0,) * 6          # of Autonomia, GradoMobilita, Cognitivi, Comportamenti, SupportoSociale, RischioInfettivo none is there
+def case(id="A", birth=1940, prevalente="250", scales=MISSING, taken="2018-05-01"):
+    return bits(*key(id, taken=taken), (birth, 12), *chars(prevalente, 5), *two(scales), (0, 47))
+def event(kind, date, end=None, code=1, accesses=0, conferma=0, id="A", scales=MISSING, prevalente="", taken="2018-05-01"):
+    return bits(*key(id, taken=taken), (kind, 2), (day(date), 17), (code, 7), (NEVER if end is None else day(end), 17), (accesses, 7), (conferma, 2),
+      *two(scales), *chars(prevalente, 5), (0, 7))
 def reval(date, code=1, conferma=1, **k): return event(0, date, code=code, conferma=conferma, **k)
 def visit(date, code=2, accesses=0, **k): return event(1, date, code=code, accesses=accesses, **k)
 def susp(date, end=None, code=1, **k): return event(2, date, end, code=code, **k)
 def concl(date, code=1, **k): return event(3, date, code=code, **k)
-def old(row):
+def before_e2(row):
     """an event's row as it was before E2: the end date in front of the code"""
     s = format(int.from_bytes(row, "big"), "0%db" % (ROW * 8))
     return int(s[:681] + s[688:705] + s[681:688] + s[705:], 2).to_bytes(ROW, "big")
-# bytes 82 to 90, worked out by hand from R23 to R29
-assert visit("2018-05-02", 2, 3)[82:].hex() == "05546a02ffff830000" and visit("2018-05-02", 1)[82:].hex() == "05546a01ffff800000"
-assert susp("2018-05-03", "2018-05-05", 9)[82:].hex() == "06546a89546b800000"
+def narrow(row):
+    assert not any(row[OLD_ROW:])
+    return row[:OLD_ROW]
+# bytes 82 to 95, worked out by hand from R23 to R33
+assert visit("2018-05-02", 2, 3)[82:].hex() == "05546a02ffff8300000000000000" and visit("2018-05-02", 1)[82:].hex() == "05546a01ffff8000000000000000"
+assert susp("2018-05-03", "2018-05-05", 9)[82:].hex() == "06546a89546b8000000000000000"
+assert reval("2018-05-10", 1, 2, scales=(1, 2, 3, 0, 1, 2), prevalente="250")[82:].hex() == "04546e01ffff809b199356000000"
+assert reval("2018-05-10", 1, 2)[82:].hex() == "04546e01ffff8080000000000000"
 class Reg:
     def __init__(self, n, cases=(), events=()):
         self.n, self.cases, self.events = n, list(cases), list(events)
@@ -48,6 +56,7 @@ class Reg:
         assert len(b) <= self.n
         return b + bytes(self.n - len(b))
 def rows(n, cases=(), events=()): return Reg(4 + ROW * n, cases, events)
+def rows_91(n, cases=(), events=(), more=0): return Reg(4 + OLD_ROW * n + more, map(narrow, cases), map(narrow, events))
 def sum_of(b): return int.from_bytes(b, "big") % P
 def standing(r):
     b = r if isinstance(r, bytes) else r.bytes()
@@ -74,7 +83,14 @@ def needs(musc):
             n = n.replace("MusInfus", "MuscInfus") if musc else n
             out.append("<%s>2</%s>" % (n, n))
     return "\n".join(out)
-def t1(id="A", tipo="I", birth="1940", prevalente="250", res=("010", "101", "001272", None), taken="2018-05-01"):
+def leaf(name, n): return "<%s>%d</%s>\n" % (name, n, name) if n else ""
+def levels(scales, disturbi):
+    """the six leaves that are there, the third and the fourth in Disturbi, which in Track 1 must stand"""
+    a, g, co, cm, s, r = scales
+    inside = leaf("Cognitivi", co) + leaf("Comportamentali", cm)
+    group = "<Disturbi>\n" + inside + "</Disturbi>\n" if inside else disturbi
+    return leaf("Autonomia", a) + leaf("GradoMobilita", g) + group + leaf("SupportoSociale", s) + leaf("RischioInfettivo", r)
+def t1(id="A", tipo="I", birth="1940", prevalente="250", res=("010", "101", "001272", None), taken="2018-05-01", scales=MISSING):
     reg, asl, com, st = res
     stato = "<StatoEstero>%s</StatoEstero>" % st if st else ""
     return f"""<Assistenza>
@@ -92,8 +108,7 @@ def t1(id="A", tipo="I", birth="1940", prevalente="250", res=("010", "101", "001
 </PresaInCarico>
 <Valutazione data="{taken}">
 <Patologia><Prevalente>{prevalente}</Prevalente><Concomitante>000</Concomitante></Patologia>
-<Disturbi/>
-{needs(False)}
+{levels(scales, "<Disturbi/>" + chr(10))}{needs(False)}
 </Valutazione>
 </Eventi>
 </Assistenza>
@@ -118,8 +133,9 @@ def xs(date, end=None, code=1):
     e = f' dataFine="{end}"' if end else ""
     return f'<Sospensione dataInizio="{date}"{e}><Motivazione>{code}</Motivazione></Sospensione>'
 def xc(date, code=1): return f'<Conclusione dataAD="{date}"><Motivazione>{code}</Motivazione></Conclusione>'
-def valut(prevalente):
-    return f"<Valutazione>\n<Patologia><Prevalente>{prevalente}</Prevalente><Concomitante>000</Concomitante></Patologia>\n{needs(True)}\n</Valutazione>"
+def valut(prevalente, scales=MISSING):
+    patologia = f"<Patologia><Prevalente>{prevalente}</Prevalente><Concomitante>000</Concomitante></Patologia>"
+    return f"<Valutazione>\n{patologia}\n{levels(scales, '')}{needs(True)}\n</Valutazione>"
 def xr(date, motivo=1, conferma=1, inside=None):
     h = f'<Rivalutazione data="{date}" motivo="{motivo}" confermaPrecedente="{conferma}"'
     return h + "/>" if inside is None else h + ">\n" + inside + "\n</Rivalutazione>"
@@ -343,6 +359,47 @@ Q4, Q1, LEAP = ["2018-12-31"], ["2019-01-01", "2019-03-31"], ["2020-02-28", "202
 F["visits_a_b_2018_12_31"], F["visits_a_b_2019_1"], F["visits_a_b_2020_1"] = [f2(t2([xv(d) for d in ds]), t2([xv(d) for d in ds], "B")) for ds in (Q4, Q1, LEAP)]
 F["undo_2018_12_31"], F["undo_2019_1"], F["undo_2020_1"] = [undone([xv(d) for d in ds]) for ds in (Q4, Q1, LEAP)]
 
+# ---- evaluations (docs/RULES.md, 15): six fields and a prevalente; the first three share none of the six
+OWN, FIRST, LAST = ((1, 2, 3, 0, 1, 2), "250"), ((3, 1, 0, 2, 0, 1), "4019"), ((0, 3, 1, 1, 3, 0), "E1165")
+FEW = (MISSING, "V58")
+ODD = ((3, 3, 3, 3, 3, 2), "\t >~]")
+def c1(e, *more, **k): return t1(*more, prevalente=e[1], scales=e[0], **k)
+def xe(date, e): return xr(date, 1, 2, valut(e[1], e[0]))
+def varied(*events): return f2(t2(events, tipo="V"))
+F["evaluated"] = f1(c1(OWN))
+F["evaluated_varied"] = f1(c1(LAST, tipo="V"))
+F["evaluated_cancelled"] = f1(c1(FIRST, tipo="C"))
+F["revaluations_2_1_2"] = f2(t2([xe("2018-05-14", LAST), xe("2018-05-10", FIRST), xr("2018-05-12")]))
+F["revaluation_on_taking_in"] = f2(t2([xe("2018-05-01", FIRST)]))
+F["revaluation_05_10_first"] = f2(t2([xe("2018-05-10", FIRST)]))
+F["revaluation_05_16_odd"] = f2(t2([xe("2018-05-16", ODD)]))
+F["conclusion_2018_05_16"] = f2(t2([xc("2018-05-16")]))
+F["revaluation_05_10_to_1"], F["revaluation_05_14_to_1"] = varied(xr("2018-05-10")), varied(xr("2018-05-14"))
+F["revaluation_05_12_to_last"], F["revaluation_05_12_to_first"] = varied(xe("2018-05-12", LAST)), varied(xe("2018-05-12", FIRST))
+F["revaluation_05_14_to_few"], F["revaluation_05_14_to_odd"] = varied(xe("2018-05-14", FEW)), varied(xe("2018-05-14", ODD))
+F["revaluation_05_10_to_first"], F["revaluation_05_14_to_last"] = varied(xe("2018-05-10", FIRST)), varied(xe("2018-05-14", LAST))
+F["revaluation_05_14_to_0000"] = varied(xe("2018-05-14", (MISSING, "0000")))
+# a cancellation names the key; what else it says is judged, and kept nowhere
+F["revaluation_05_14_cancelled"] = f2(t2([xe("2018-05-14", ODD)], tipo="C"))
+F["revaluation_05_10_cancelled_as_1"] = f2(t2([xr("2018-05-10", 2)], tipo="C"))
+F["revaluations_05_16_and_21"] = f2(t2([xe("2018-05-16", LAST), xr("2018-05-17", 1, 2)]))
+F["revaluations_05_16_and_000"] = f2(t2([xe("2018-05-16", LAST), xe("2018-05-17", (LAST[0], "000"))]))
+F["revaluation_05_10_to_1_with"] = varied(xr("2018-05-10", 1, 1, valut(LAST[1], LAST[0])))
+F["revaluation_05_10_to_2_without"] = varied(xr("2018-05-10", 1, 2))
+F["revaluation_05_10_to_000"] = varied(xe("2018-05-10", (LAST[0], "000")))
+F["revaluation_05_16_varied"] = varied(xe("2018-05-16", LAST))
+F["revaluation_05_10_twice"] = varied(xe("2018-05-10", LAST), xe("2018-05-10", ODD))
+F["visit_and_revaluation_05_16"] = f2(t2([xe("2018-05-16", LAST), xv("2018-05-16")]))
+# three Id_Recs beside each other, and the first once more with a later taking in
+F["four_evaluated"] = f1(c1(OWN), c1(FEW, taken="2018-06-01"), c1(ODD, AFTER_A), c1(LAST, BEHIND))
+F["four_revaluated"] = f2(t2([xv("2018-05-02"), xs("2018-05-03", "2018-05-05"), xc("2018-06-30")]), t2([xe("2018-06-10", LAST)], taken="2018-06-01"),
+  t2([xe("2018-05-10", FIRST), xv("2018-05-02")], AFTER_A))
+# an evaluation of its own on each of 61 days, every third day one that confirms; the record has them from the last to the first
+def of_day(i): return ((i % 4, i // 4 % 4, i // 16 % 4, (i + 1) % 4, (i + 2) % 4, i % 3), "%d" % (100 * 10 ** (i % 3) + i))
+def confirms(i): return i % 3 == 1
+MANY_RE = [xr(d) if confirms(i) else xe(d, of_day(i)) for i, d in enumerate(DAYS)]
+F["revaluations_61"] = f2(t2(MANY_RE[::-1] + [xv(d) for d in DAYS[::-1]] + [xs(d, d) for d in DAYS[:6]]))
+
 A, B = case("A"), case("B")
 AV = case("A", 1941, "4019")
 V2, V7 = visit("2018-05-02", 2, 3), visit("2018-05-02", 7)
@@ -353,13 +410,44 @@ MANY_OF = {
  AFTER_A: [reval(d, id=AFTER_A) for d in MANY[:40]] + [visit(d, id=AFTER_A) for d in MANY] + [susp(d, d, id=AFTER_A) for d in MANY[:10]],
  BEHIND: [reval(d, id=BEHIND) for d in MANY[:20]],
 }
+EVALUATED = case("A", prevalente=OWN[1], scales=OWN[0])
+def re2(date, e, **k): return reval(date, 1, 2, scales=e[0], prevalente=e[1], **k)
+# without their evaluations, as a register in rows of 91 bytes has them: conferma 2, 1 and 2, and a visit
+CONVERTED = [reval("2018-05-10", 1, 2), reval("2018-05-12"), reval("2018-05-14", 1, 2), V2]
+# 24 cases, the first with four events, the others with none, one or two
+LETTERS = "ABCDEFGHIJKLMNOPQRSTUVWX"
+LETTER_CASES = [case(id, prevalente="%d" % (300 + i), scales=of_day(i)[0]) for i, id in enumerate(LETTERS)]
+LETTER_EVENTS = [reval("2018-05-10"), V2, susp("2018-05-03", "2018-05-05", 9), concl("2018-06-30", 97)]
+LETTER_EVENTS += [e for i, id in enumerate(LETTERS) for e in (reval("2018-05-10", 2, 2, id=id), visit("2018-05-02", 13, 99, id=id))[:i % 3]]
+# as many rows as any register has: 64 cases with 63 events each
+FULL_IDS = [chr(c) for c in range(48, 123) if chr(c) not in "<>"][:64]
+FULL_CASES = [case(id, prevalente="%d" % (300 + i), scales=of_day(i)[0]) for i, id in enumerate(FULL_IDS)]
+FULL_EVENTS = [e for id in FULL_IDS for e in [reval(d, conferma=1 + i % 2, id=id) for i, d in enumerate(DAYS[:30])] + [visit(d, id=id) for d in DAYS[:32]]
+  + [susp("2018-05-03", "2018-05-05", 9, id=id)]]
+assert len(FULL_CASES + FULL_EVENTS) == 4096
+def with_bit(b, i): return (int.from_bytes(b, "big") ^ 1 << 8 * len(b) - 1 - i).to_bytes(len(b), "big")
 REGS = {
  "a_case_with_300_events": rows(343, [case(id) for id in MANY_OF], sum(MANY_OF.values(), [])).bytes(),
  "case_a": rows(2, [A]).bytes(),
- # in the layout before E2
- "old_visit": rows(2, [A], [old(V2)]).bytes(),
- "old_suspension": rows(2, [A], [old(susp("2018-05-03", "2018-05-05", 9))]).bytes(),
  "case_a_and_a_bit_behind": rows(2, [A]).bytes()[:-1] + b"\x01",
+ # in rows of 91 bytes
+ "rows_91_case_a": rows_91(1, [A]).bytes(),
+ "rows_91_case_a_100": rows_91(1, [A], more=5).bytes(),
+ "rows_91_visit": rows_91(2, [A], [V2], 10).bytes(),
+ "rows_91_revaluations": rows_91(5, [EVALUATED], CONVERTED).bytes(),
+ "rows_91_letters": rows_91(60, LETTER_CASES, LETTER_EVENTS).bytes(),
+ "rows_91_full": rows_91(4096, FULL_CASES, FULL_EVENTS).bytes(),
+ # not sound there: a bit behind the last row, the first and the last behind conferma, the last byte of the last row missing
+ "rows_91_bit_behind": rows_91(2, [A], [V2], 10).bytes()[:-1] + b"\x01",
+ "rows_91_bit_714": with_bit(rows_91(2, [A], [reval("2018-05-10", 1, 2)]).bytes(), 8 * 95 + 714),
+ "rows_91_bit_727": with_bit(rows_91(2, [A], [reval("2018-05-10", 1, 2)]).bytes(), 8 * 95 + 727),
+ "rows_91_no_room": rows_91(2, [A], [V2]).bytes()[:-1],
+ # in rows of 96
+ "rows_96_visit": rows(2, [A], [V2]).bytes(),
+ "rows_96_evaluation": rows(3, [EVALUATED], [re2("2018-05-10", FIRST)]).bytes(),
+ # in the layout before E2, of rows of 91 bytes; there is room for two of 96
+ "old_visit": rows_91(2, [A], [before_e2(V2)], 10).bytes(),
+ "old_suspension": rows_91(2, [A], [before_e2(susp("2018-05-03", "2018-05-05", 9))], 10).bytes(),
 }
 
 S = []
@@ -381,6 +469,37 @@ def undo(exp, year=2018, quarter=2): return ("undo %d %d" % (year, quarter), exp
 # a file that is written, into an output of its length and so many bytes more; none is written, and no byte of the output changes
 def writes(f, more=0, **k): return [cancel(len(F[f]) + more, long(0, len(F[f])), **k), text(f)]
 def writes_none(n, room=1000, **k): return [cancel(room, long(n, 0), **k), text("nothing")]
+# ---- the evaluation in force (N1 to N7): its eleven bytes, said by hand and found again in the rows
+CASE_A = "010 101 2018-05-01 A"
+def eleven(e): return list(e[0]) + [ord(c) for c in e[1]] + [0] * (5 - len(e[1]))
+def told(n, fields): return ["evaluation %d " % n + " ".join(map(str, fields))]
+def packed(row, at, widths):
+    s, out = format(int.from_bytes(row, "big"), "0%db" % (ROW * 8)), []
+    for w in widths: out.append(int(s[at:at + w], 2)); at += w
+    return out
+def of_key(row, k): return int.from_bytes(row, "big") >> ROW * 8 - 662 == int("".join(format(v, "0%db" % w) for v, w in k), 2)
+def latest(r, k, when):
+    """N4: of the rows of kind 0 with conferma 2 and an evaluation that of the greatest date up to the day, else the case's own; none before the taking in"""
+    if day(when) < k[4][0]: return None
+    found = []
+    for row in r.events:
+        kind, date, _, _, conferma, *fields = packed(row, 662, [2, 17, 24, 7, 2] + [2] * 6 + [7] * 5)
+        if of_key(row, k) and kind == 0 and conferma == 2 and any(fields) and date <= day(when): found.append((date, fields))
+    if found: return max(found)[1]
+    own = [packed(row, 674, [7] * 5 + [2] * 6) for row in r.cases if of_key(row, k)]
+    return own[0][5:] + own[0][:5]
+def force(r, when, e, id="A", taken="2018-05-01"):
+    assert latest(r, key(id, taken=taken), when) == eleven(e), (when, e)
+    return ("evaluation 010 101 %s %s %s" % (taken, id, when), told(0, eleven(e)))
+def forces(r, e, first, last, **k): return [force(r, d, e, **k) for d in between(first, last)]
+def between(first, last): return [(datetime.date(1900, 1, 1) + datetime.timedelta(i)).isoformat() for i in range(day(first), day(last) + 1)]
+def no_force(n, when="2018-05-10", texts=CASE_A): return ("evaluation %s %s" % (texts, when), told(n, [0] * 11))
+# a register converted (T1 to T6): into one of so many bytes, or into none, whose bytes stay. What a register holds is seen by its sum, which a record that is
+# discarded leaves as it was (no event: 20)
+def converts(n): return ("convert %d" % n, ["convert 0"])
+def converts_none(n, length): return ("convert %d" % length, ["convert %d same" % n])
+def holds(r): return sub(2, "no_event", taken([20], r))
+def holds_91(r): return sub(2, "no_event", refused(3, r))
 exec(open(os.path.join(HERE, "scripts.py")).read())
 
 if __name__ == "__main__":

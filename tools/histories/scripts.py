@@ -10,9 +10,11 @@ script("answers/01_year_or_quarter", note("year 2008, quarter 0, quarter 5; 2009
 script("answers/02_track", note("neither 1 nor 2; the period comes first"), ("rows 1", []),
   sub(0, "case_a", refused(2, rows(1))), sub(3, "case_a", refused(2, rows(1))), sub(3, "case_a", refused(1, rows(1)), 2008))
 script("answers/03_not_sound", note("a register under 4 bytes is never sound, and is not emptied"), ("bytes 3", []),
-  sub(1, "case_a", refused(3, bytes(3))), ("sound", ans(3)), ("find 010 101 2018-05-01 A", at(3, 0)), ("empty", ans(3) + standing(bytes(3))),
+  sub(1, "case_a", refused(3, bytes(3))), ("sound", ans(3)), ("find 010 101 2018-05-01 A", at(3, 0)), no_force(3), converts_none(3, 100),
+  ("empty", ans(3) + standing(bytes(3))),
   note("one bit behind the last row is enough"), ("load registers/case_a_and_a_bit_behind", []),
-  sub(1, "case_a", refused(3, REGS["case_a_and_a_bit_behind"])), ("sound", ans(3)), ("find 010 101 2018-05-01 A", at(3, 0)), ("empty", ans(0) + standing(rows(2))), ("sound", ans(0)))
+  sub(1, "case_a", refused(3, REGS["case_a_and_a_bit_behind"])), ("sound", ans(3)), ("find 010 101 2018-05-01 A", at(3, 0)), no_force(3), converts_none(3, 196),
+  ("empty", ans(0) + standing(rows(2))), ("sound", ans(0)), converts(196), ("sound", ans(0)))
 script("answers/04_too_long", note("one byte too long; the longest is taken"), ("rows 1", []),
   ("padded 1048577 1 2018 2 files/case_a.xml", refused(4, rows(1))), ("padded 1048576 1 2018 2 files/case_a.xml", taken([0], rows(1, [A]))))
 script("answers/05_not_in_the_markup", note("the root's end tag is missing"), ("rows 1", []), sub(2, "not_closed", refused(5, rows(1))))
@@ -51,7 +53,7 @@ script("answers/17_no_room", note("room for one row: a second case, an event"), 
   sub(1, "case_a", taken([0], rows(1, [A]))), sub(1, "case_b", taken([17], rows(1, [A]))), sub(2, "visit", taken([17], rows(1, [A]))))
 
 # ---- records, Track 2
-R12 = reval("2018-05-10", 1, 2)
+R12 = reval("2018-05-10", 1, 2, prevalente="250")
 script("answers/20_no_event", note("tested first: the case does not stand either"), ("rows 4", []), sub(2, "no_event", taken([20], rows(4))))
 with_case("answers/21_conferma", note("confermaPrecedente 1 with a Valutazione; 2 without; 2 with one is accepted"),
   sub(2, "revaluation_1_with", taken([21], rows(4, [A]))), sub(2, "revaluation_2_without", taken([21], rows(4, [A]))),
@@ -74,9 +76,11 @@ with_case("answers/28_after_the_conclusion", note("a visit on the day after the 
   sub(2, "conclusion_2018_06_01", taken([0], rows(4, [A], [concl("2018-06-01")]))), sub(2, "visit_2018_06_02", taken([28], rows(4, [A], [concl("2018-06-01")]))))
 script("answers/30_not_found", note("found; another Id_Rec; texts that no case has: a region, an ASL, a date, an Id_Rec of two characters"), ("load registers/case_a", []),
   ("find 010 101 2018-05-01 A", at(0, 4)), ("find 010 101 2018-05-01 B", at(30, 0)), ("find 011 101 2018-05-01 A", at(30, 0)), ("find 010 10 2018-05-01 A", at(30, 0)),
-  ("find 010 101 2018-02-30 A", at(30, 0)), ("find 010 101 2018-05-01 AA", at(30, 0)))
+  ("find 010 101 2018-02-30 A", at(30, 0)), ("find 010 101 2018-05-01 AA", at(30, 0)),
+  note("the evaluation in force: on the day of taking in; on the day before; on a day that is none; of another Id_Rec"),
+  force(rows(2, [A]), "2018-05-01", (MISSING, "250")), no_force(30, "2018-04-30"), no_force(30, "2018-05-32"), no_force(30, texts="010 101 2018-05-01 B"))
 
-with_case("answers/31_replaces_the_evaluation", note("a Rivalutazione with confermaPrecedente 2 in the quarter: its Valutazione isn't kept, so no cancellation is written"),
+with_case("answers/31_replaces_the_evaluation", note("a Rivalutazione with confermaPrecedente 2 in the quarter: of its Valutazione a part is kept, so no cancellation is written"),
   sub(2, "visit", taken([0], rows(4, [A], [V2]))), sub(2, "revaluation_2_with", taken([0], rows(4, [A], [R12, V2]))), *writes_none(31), *writes_none(31, 0),
   note("the third quarter has none, and its file is written"), sub(2, "visit_2018_07_01", taken([0], rows(4, [A], [R12, V2, visit("2018-07-01")])), quarter=3),
   *writes("undo_visit_2018_07_01", quarter=3), undo(taken([0], rows(4, [A], [R12, V2])), quarter=3),
@@ -89,7 +93,9 @@ UNDO = len(F["undo_visit"])
 with_case("answers/33_output_too_short", note("one byte too short, and none: nothing is written; the file's length is enough, and what is behind it stays"),
   sub(2, "visit", taken([0], rows(4, [A], [V2]))), *writes_none(33, UNDO - 1), *writes_none(33, 0), *writes("undo_visit"), *writes("undo_visit", 1),
   note("a file as long, with one byte that isn't the same"), ("text files/undo_visit_varied.xml", ["differs"]),
-  note("an output of 423,766 bytes is long enough for every file"), *writes("undo_visit", 423766 - UNDO))
+  note("an output of 423,766 bytes is long enough for every file"), *writes("undo_visit", 423766 - UNDO),
+  note("a register of two rows of 91 bytes to be converted: a new one of 3 bytes, one that has room for a row, one that is a byte too short, one that isn't"),
+  ("load registers/rows_91_visit", []), converts_none(33, 3), converts_none(33, 100), converts_none(33, 195), converts(196), holds(rows(2, [A], [V2])))
 
 # ---- histories
 JULY = [V2, susp("2018-06-28", "2018-07-02")]
@@ -109,7 +115,7 @@ script("histories/a_case_over_two_quarters", note("second quarter: a case, a vis
   note("emptied: nothing stands, and no byte is left"), ("empty", ans(0) + standing(rows(5))), ("sound", ans(0)), ("find 010 101 2018-05-01 A", at(30, 0)),
   sub(2, "visit_varied", taken([24], rows(5))))
 script("histories/a_record_discarded_in_the_middle", note("of three cases the second is discarded: the first and the third stand"), ("rows 4", []),
-  sub(1, "cases_a_000_b", taken([0, 13, 0], rows(4, [A, B]))), ("find 010 101 2018-05-01 A", at(0, 4)), ("find 010 101 2018-05-01 B", at(0, 95)), ("find 010 101 2018-05-01 C", at(30, 0)),
+  sub(1, "cases_a_000_b", taken([0, 13, 0], rows(4, [A, B]))), ("find 010 101 2018-05-01 A", at(0, 4)), ("find 010 101 2018-05-01 B", at(0, 4 + ROW)), ("find 010 101 2018-05-01 C", at(30, 0)),
   note("the second record's second visit stands by then: its first is not stored either"),
   sub(2, "visits_the_second_stands", taken([0, 14, 0], rows(4, [A, B], [visit("2018-05-02"), visit("2018-05-06")]))), ("sound", ans(0)))
 B6 = rows(6, [B])
@@ -135,14 +141,14 @@ script("histories/the_last_row_of_room", note("room for three rows: a record wit
   sub(2, "visit_varied", taken([0], rows(3, [A], [VV, visit("2018-05-03")]))), ("sound", ans(0)),
   note("a cancelled row is room again, also for a case"),
   sub(2, "visit_cancelled", taken([0], rows(3, [A], [visit("2018-05-03")]))), sub(1, "case_b", taken([0], rows(3, [A, B], [visit("2018-05-03")]))),
-  ("find 010 101 2018-05-01 B", at(0, 95)), ("sound", ans(0)))
+  ("find 010 101 2018-05-01 B", at(0, 4 + ROW)), ("sound", ans(0)))
 script("histories/registers_from_files", note("a register that another tool packed is gone on with"), ("load registers/case_a", []), ("sound", ans(0)),
   sub(2, "visit", taken([0], rows(2, [A], [V2]))), ("find 010 101 2018-05-01 A", at(0, 4)),
   note("with one bit behind the last row every file is answered 3, and no byte moves, until the register is emptied"),
   ("load registers/case_a_and_a_bit_behind", []), sub(2, "visit", refused(3, REGS["case_a_and_a_bit_behind"])), ("find 010 101 2018-05-01 A", at(3, 0)), ("sound", ans(3)),
   ("empty", ans(0) + standing(rows(2))), sub(1, "case_a", taken([0], rows(2, [A]))), sub(2, "visit", taken([0], rows(2, [A], [V2]))))
-script("histories/lengths_without_room", note("4 and 94 bytes: sound, no room; 95: room for one"), ("bytes 4", []), ("sound", ans(0)), sub(1, "case_a", taken([17], bytes(4))),
-  ("bytes 94", []), ("sound", ans(0)), sub(1, "case_a", taken([17], bytes(94))), ("bytes 95", []), sub(1, "case_a", taken([0], rows(1, [A]))))
+script("histories/lengths_without_room", note("4 and 99 bytes: sound, no room; 100: room for one"), ("bytes 4", []), ("sound", ans(0)), sub(1, "case_a", taken([17], bytes(4))),
+  ("bytes 99", []), ("sound", ans(0)), sub(1, "case_a", taken([17], bytes(99))), ("bytes 100", []), sub(1, "case_a", taken([0], rows(1, [A]))))
 
 # ---- a cancelled case takes its events along (E1)
 with_case("histories/a_cancelled_case_takes_its_events_along", note("a case with a visit is cancelled, and both are gone"),
@@ -160,7 +166,7 @@ def with_three(name, what, *steps):
       sub(2, "visit_b_2018_07_05", taken([0], ABC), quarter=3), note(what), *steps)
 with_three("histories/the_neighbours_stay", "B is cancelled: its three events go, that of the third quarter too, and no other row",
   sub(1, "b_cancelled", taken([0], WITHOUT_B)), ("sound", ans(0)),
-  ("find 010 101 2018-05-01 A", at(0, 4)), ("find 010 101 2018-05-01 B", at(30, 0)), ("find 010 101 2018-05-01 C", at(0, 95)))
+  ("find 010 101 2018-05-01 A", at(0, 4)), ("find 010 101 2018-05-01 B", at(30, 0)), ("find 010 101 2018-05-01 C", at(0, 4 + ROW)))
 with_three("histories/cancelled_inserted_cancelled", "in one file B is cancelled, inserted, cancelled: its events go with the first, and once",
   sub(1, "b_cancelled_inserted_cancelled", taken([0, 0, 0], WITHOUT_B)), ("sound", ans(0)))
 BACK = rows(10, [A, B, C3], AE + [visit("2018-05-02", 2, 5, id="B")] + CE)
@@ -180,10 +186,10 @@ with_three("histories/a_cancelled_event_takes_nothing_along", "Track 2: one visi
   sub(2, "visit_b_cancelled", taken([0], rows(10, [A, B, C3], AE + [BE[0], BE[2]] + CE))), ("sound", ans(0)))
 MANY_LEFT = MANY_OF["A"] + MANY_OF[BEHIND]
 script("histories/a_case_with_300_events", note("Id_Recs that differ in the last character: the middle case has 300 events over 250 days, and no row is free"),
-  ("load registers/a_case_with_300_events", []), ("sound", ans(0)), ("find 010 101 2018-05-01 " + AFTER_A, at(0, 95)), sub(1, "case_b", taken([17], REGS["a_case_with_300_events"])),
+  ("load registers/a_case_with_300_events", []), ("sound", ans(0)), ("find 010 101 2018-05-01 " + AFTER_A, at(0, 4 + ROW)), sub(1, "case_b", taken([17], REGS["a_case_with_300_events"])),
   note("it is cancelled: its neighbours' 40 events stay"),
   sub(1, "after_a_cancelled", taken([0], rows(343, [A, case(BEHIND)], MANY_LEFT))), ("sound", ans(0)),
-  ("find 010 101 2018-05-01 A", at(0, 4)), ("find 010 101 2018-05-01 " + AFTER_A, at(30, 0)), ("find 010 101 2018-05-01 " + BEHIND, at(0, 95)),
+  ("find 010 101 2018-05-01 A", at(0, 4)), ("find 010 101 2018-05-01 " + AFTER_A, at(30, 0)), ("find 010 101 2018-05-01 " + BEHIND, at(0, 4 + ROW)),
   note("once more, inserted again in the same file: it has no events"), ("load registers/a_case_with_300_events", []),
   sub(1, "after_a_cancelled_inserted", taken([0, 0], rows(343, [A, case(AFTER_A), case(BEHIND)], MANY_LEFT))), ("sound", ans(0)))
 
@@ -246,9 +252,9 @@ script("histories/two_operators_and_no_room", note("a case and a visit fill the 
   sub(2, "visit_by_7", taken([17], rows(2, [A], [V2]))), sub(2, "visits_on_one_day", taken([14], rows(2, [A], [V2]))), sub(2, "visit_twice", taken([22], rows(2, [A], [V2]))),
   sub(2, "visit_by_5_varied", taken([15], rows(2, [A], [V2]))))
 def old_register(name, event):
-    return [("load registers/" + name, []), ("sound", ans(3)), sub(2, "visit_by_7", refused(3, REGS[name])), sub(1, "case_a", refused(3, REGS[name])), ("find 010 101 2018-05-01 A", at(3, 0)),
+    return [("load registers/" + name, []), ("sound", ans(3)), converts_none(3, 1000), sub(2, "visit_by_7", refused(3, REGS[name])), sub(1, "case_a", refused(3, REGS[name])), ("find 010 101 2018-05-01 A", at(3, 0)),
       ("empty", ans(0) + standing(rows(2))), sub(1, "case_a", taken([0], rows(2, [A]))), sub(2, event[0], taken([0], rows(2, [A], [event[1]])))]
-script("histories/registers_of_the_old_layout", note("a register of the layout before E2, with a visit: every file gives 3, and no byte moves; it is emptied, and all sent again"),
+script("histories/registers_of_the_old_layout", note("a register of the layout before E2, with a visit: every file gives 3, it isn't converted, and no byte moves; it is emptied, and all sent again"),
   *old_register("old_visit", ("visit", V2)), note("the same with a suspension that ends"), *old_register("old_suspension", ("suspension_for_9", S9)), ("sound", ans(0)))
 
 A1 = rows(1, [A])
@@ -307,7 +313,7 @@ script("histories/undo_quarter_by_quarter", note("cases A and B with the same ev
   *writes("undo_2019_1", year=2019, quarter=1), undo(taken([0], twelve([Q4, LEAP], ALL3)), 2019, 1), *writes_none(32, year=2019, quarter=1),
   *writes("undo_2018_12_31", year=2018, quarter=4), undo(taken([0], twelve([LEAP], ALL3)), 2018, 4), *writes_none(32, year=2018, quarter=4),
   *writes("undo_2020_1", year=2020, quarter=1), undo(taken([0], twelve([], ALL3)), 2020, 1), *writes_none(32, year=2020, quarter=1),
-  ("sound", ans(0)), ("find 010 101 2018-05-01 A", at(0, 4)), ("find 010 101 2018-05-01 B", at(0, 95)))
+  ("sound", ans(0)), ("find 010 101 2018-05-01 A", at(0, 4)), ("find 010 101 2018-05-01 B", at(0, 4 + ROW)))
 OF_B = {"texts": "010 101 2018-05-01 B"}
 with_three("histories/undo_the_neighbours_stay", "B's events of the second quarter are undone: those of A and of C, and B's of the third, stay",
   *writes("events_of_b_undone", **OF_B), undo(taken([0], rows(10, [A, B, C3], AE + BE[2:] + CE))), ("sound", ans(0)), *writes_none(32, **OF_B),
@@ -373,3 +379,155 @@ script("histories/reports_of_0_to_8_numbers",
   *[report(n, 2, "second_taken_in_2018_02_30", 6, SECOND, EMPTY) for n in range(9)],
   note("of a file that is taken, three cases of which the second is discarded, too: what stands doesn't depend on the report"),
   *[step for n in range(9) for step in (("rows 4", []), report(n, 1, "cases_a_000_b", 0, [0, 3, 2, 1, 0], rows(4, [A, B])))])
+
+# ---- the evaluation in force (E6)
+RE10, RE12, RE14 = re2("2018-05-10", FIRST), reval("2018-05-12"), re2("2018-05-14", LAST)
+def six(*events): return rows(6, [EVALUATED], events)
+def with_evaluated(name, what, *steps): script(name, note(what), ("rows 6", []), sub(1, "evaluated", taken([0], six())), *steps)
+def with_2_1_2(name, what, *steps):
+    with_evaluated(name, "a case with its evaluation and three Rivalutazioni, of 05-10, 05-12 and 05-14, with conferma 2, 1 and 2",
+      sub(2, "revaluations_2_1_2", taken([0], six(RE10, RE12, RE14))), note(what), *steps)
+ENDED = six(RE10, RE12, RE14, V2, concl("2018-05-16"))
+def day_by_day(r):
+    return [no_force(30, "2018-04-30"), *forces(r, OWN, "2018-05-01", "2018-05-09"), *forces(r, FIRST, "2018-05-10", "2018-05-13"),
+      *forces(r, LAST, "2018-05-14", "2018-05-20"), force(r, "2018-12-31", LAST), force(r, "2020-02-29", LAST), force(r, "2099-12-31", LAST)]
+with_evaluated("histories/evaluation_day_by_day", "before any Rivalutazione the case's own holds, from the taking in on",
+  no_force(30, "2018-04-30"), *forces(six(), OWN, "2018-05-01", "2018-05-03"), force(six(), "2099-12-31", OWN),
+  note("three Rivalutazioni, 05-10, 05-12 and 05-14, with conferma 2, 1 and 2: each day from the one before the taking in"),
+  sub(2, "revaluations_2_1_2", taken([0], six(RE10, RE12, RE14))), ("sound", ans(0)), *day_by_day(six(RE10, RE12, RE14)),
+  note("a visit, and the conclusion of 05-16: the same, and after the conclusion too"),
+  sub(2, "visit", taken([0], six(RE10, RE12, RE14, V2))), sub(2, "conclusion_2018_05_16", taken([0], ENDED)), *day_by_day(ENDED), holds(ENDED))
+with_evaluated("histories/evaluation_on_the_day_of_taking_in", "a Rivalutazione of that day holds from it on; the day before is refused",
+  sub(2, "revaluation_on_taking_in", taken([0], six(re2("2018-05-01", FIRST)))), no_force(30, "2018-04-30"),
+  *forces(six(re2("2018-05-01", FIRST)), FIRST, "2018-05-01", "2018-05-03"))
+script("histories/evaluation_refused", note("an emptied register, of four bytes and of six rows: no case stands"), ("bytes 4", []), no_force(30), ("rows 6", []), no_force(30),
+  sub(1, "evaluated", taken([0], six())), force(six(), "2018-05-10", OWN), note("a case that doesn't stand"),
+  *[no_force(30, texts=t) for t in ("010 101 2018-05-01 B", "020 101 2018-05-01 A", "010 102 2018-05-01 A", "010 101 2018-05-02 A", "010 101 2018-05-01 " + AFTER_A)],
+  note("texts that no case has: a region, an ASL, a date, an Id_Rec"),
+  *[no_force(30, texts=t + " 101 2018-05-01 A") for t in ("011", "999", "10", "0100", "01O")],
+  *[no_force(30, texts="010 " + t + " 2018-05-01 A") for t in ("10", "1011", "1-1")],
+  *[no_force(30, texts="010 101 " + t + " A") for t in ("2018-02-30", "2018-5-01", "2018-05-01Z", "1899-12-31", "2100-01-01")],
+  *[no_force(30, texts="010 101 2018-05-01 " + t) for t in ("AA", "A" * 87, "A" * 89, "<", "&")],
+  note("a day that is no date"),
+  *[no_force(30, t) for t in ("2018-02-29", "2018-04-31", "2018-05-00", "2018-05-32", "2018-00-10", "2018-13-10", "2100-01-01", "1899-12-31",
+    "2018-5-10", "18-05-10", "2018-05-1", "2018-05-100", "2018/05/10", "20180510", "+018-05-10", "2018-05-10Z", "today", "0", "")],
+  note("a date before the taking in; the taking in itself, and the last day that there is"),
+  no_force(30, "2018-04-30"), no_force(30, "2018-01-01"), no_force(30, "1900-01-01"), force(six(), "2018-05-01", OWN), force(six(), "2099-12-31", OWN), holds(six()),
+  note("a register that isn't sound, whatever the texts"), ("load registers/case_a_and_a_bit_behind", []), no_force(3), no_force(3, "2018-04-30"), no_force(3, "today"),
+  no_force(3, texts="011 101 2018-05-01 A"), no_force(3, texts="010 101 2018-05-01 B"), ("bytes 3", []), no_force(3), ("bytes 0", []), no_force(3))
+FEW14, ODD14 = re2("2018-05-14", FEW), re2("2018-05-14", ODD)
+TO_1 = six(RE10, RE12, reval("2018-05-14"))
+TO_2 = six(RE10, re2("2018-05-12", LAST), reval("2018-05-14"))
+BACK_1 = six(reval("2018-05-10"), re2("2018-05-12", LAST), reval("2018-05-14"))
+def around(r, *es): return [force(r, d, e) for d, e in zip(("2018-05-09", "2018-05-10", "2018-05-11", "2018-05-12", "2018-05-13", "2018-05-14", "2018-05-15"), es)]
+with_2_1_2("histories/evaluation_varied", "the last is varied to conferma 1: its evaluation is gone, and the first one's holds on",
+  sub(2, "revaluation_05_14_to_1", taken([0], TO_1)), *around(TO_1, OWN, FIRST, FIRST, FIRST, FIRST, FIRST, FIRST),
+  note("the one that confirms is varied to conferma 2"), sub(2, "revaluation_05_12_to_last", taken([0], TO_2)), *around(TO_2, OWN, FIRST, FIRST, LAST, LAST, LAST, LAST),
+  note("the first is varied to conferma 1: up to 05-11 the case's own"),
+  sub(2, "revaluation_05_10_to_1", taken([0], BACK_1)), *around(BACK_1, OWN, OWN, OWN, LAST, LAST, LAST, LAST),
+  note("from one evaluation to another"), sub(2, "revaluation_05_12_to_first", taken([0], six(reval("2018-05-10"), re2("2018-05-12", FIRST), reval("2018-05-14")))),
+  *around(six(reval("2018-05-10"), re2("2018-05-12", FIRST), reval("2018-05-14")), OWN, OWN, OWN, FIRST, FIRST, FIRST, FIRST), ("sound", ans(0)))
+with_2_1_2("histories/evaluation_of_few_fields", "a Valutazione has none of the six, and its prevalente alone: it isn't passed over",
+  sub(2, "revaluation_05_14_to_few", taken([0], six(RE10, RE12, FEW14))), *around(six(RE10, RE12, FEW14), OWN, FIRST, FIRST, FIRST, FIRST, FEW, FEW), ("sound", ans(0)),
+  note("0000 is a prevalente"), sub(2, "revaluation_05_14_to_0000", taken([0], six(RE10, RE12, re2("2018-05-14", (MISSING, "0000"))))),
+  force(six(RE10, RE12, re2("2018-05-14", (MISSING, "0000"))), "2018-05-14", (MISSING, "0000")), ("sound", ans(0)),
+  note("each field at its greatest, and a prevalente of a tab, a blank, >, ~ and ]"),
+  sub(2, "revaluation_05_14_to_odd", taken([0], six(RE10, RE12, ODD14))), *around(six(RE10, RE12, ODD14), OWN, FIRST, FIRST, FIRST, FIRST, ODD, ODD), ("sound", ans(0)))
+def own_of(e): return case("A", prevalente=e[1], scales=e[0])
+with_2_1_2("histories/evaluation_cancelled", "the last is cancelled: the first one's holds on; then the first, by a record that says conferma 1: the case's own",
+  sub(2, "revaluation_05_14_cancelled", taken([0], six(RE10, RE12))), *around(six(RE10, RE12), OWN, FIRST, FIRST, FIRST, FIRST, FIRST, FIRST),
+  sub(2, "revaluation_05_10_cancelled_as_1", taken([0], six(RE12))), *around(six(RE12), OWN, OWN, OWN, OWN, OWN, OWN, OWN),
+  note("the case is varied, and its own with it; the first goes in again"), sub(1, "evaluated_varied", taken([0], rows(6, [own_of(LAST)], [RE12]))),
+  *around(rows(6, [own_of(LAST)], [RE12]), LAST, LAST, LAST, LAST, LAST, LAST, LAST),
+  sub(2, "revaluation_05_10_first", taken([0], rows(6, [own_of(LAST)], [RE10, RE12]))),
+  *around(rows(6, [own_of(LAST)], [RE10, RE12]), LAST, FIRST, FIRST, FIRST, FIRST, FIRST, FIRST),
+  note("the case is cancelled; inserted again it has its own alone"), sub(1, "evaluated_cancelled", taken([0], rows(6))), no_force(30), no_force(30, "2018-05-14"),
+  sub(1, "evaluated", taken([0], six())), *around(six(), OWN, OWN, OWN, OWN, OWN, OWN, OWN), ("sound", ans(0)))
+FOUR_CASES = [EVALUATED, case(AFTER_A, prevalente=ODD[1], scales=ODD[0]), case(BEHIND, prevalente=LAST[1], scales=LAST[0]),
+  case("A", prevalente=FEW[1], scales=FEW[0], taken="2018-06-01")]
+FOUR_EVENTS = [visit("2018-05-02"), susp("2018-05-03", "2018-05-05"), concl("2018-06-30"), re2("2018-05-10", FIRST, id=AFTER_A), visit("2018-05-02", id=AFTER_A),
+  re2("2018-06-10", LAST, taken="2018-06-01")]
+FOUR = rows(10, FOUR_CASES, FOUR_EVENTS)
+script("histories/evaluation_beside_others", note("three Id_Recs that differ in the last character, and the first of them taken in once more on 2018-06-01"), ("rows 10", []),
+  sub(1, "four_evaluated", taken([0] * 4, rows(10, FOUR_CASES))), sub(2, "four_revaluated", taken([0] * 3, FOUR)), ("sound", ans(0)),
+  note("the first has a visit, a suspension and a conclusion, and its own evaluation throughout"), *[force(FOUR, d, OWN) for d in ("2018-05-01", "2018-05-10", "2018-06-10", "2018-07-01")],
+  note("its second taking in, with a Rivalutazione of 06-10"), no_force(30, "2018-05-31", "010 101 2018-06-01 A"),
+  force(FOUR, "2018-06-01", FEW, taken="2018-06-01"), force(FOUR, "2018-06-09", FEW, taken="2018-06-01"), force(FOUR, "2018-06-10", LAST, taken="2018-06-01"),
+  note("the second Id_Rec has a Rivalutazione of 05-10; the third has no event"),
+  force(FOUR, "2018-05-09", ODD, AFTER_A), force(FOUR, "2018-05-10", FIRST, AFTER_A), force(FOUR, "2018-06-30", FIRST, AFTER_A),
+  force(FOUR, "2018-05-01", LAST, BEHIND), force(FOUR, "2018-06-30", LAST, BEHIND), holds(FOUR))
+def discarded(f, n, r, quarter=2): return [sub(2, f, taken([n], r), quarter=quarter), force(r, "2018-05-09", OWN), force(r, "2018-05-10", FIRST), force(r, "2018-05-17", FIRST)]
+ONE3 = rows(3, [EVALUATED], [RE10])
+script("histories/evaluation_and_discarded_records", note("room for three rows: a case and a Rivalutazione of 05-10 with conferma 2"), ("rows 3", []),
+  sub(1, "evaluated", taken([0], rows(3, [EVALUATED]))), sub(2, "revaluation_05_10_first", taken([0], ONE3)), force(ONE3, "2018-05-10", FIRST),
+  note("varied to conferma 1 with a Valutazione, and to 2 without: 21; a record whose second Rivalutazione is so: its first isn't kept"),
+  *discarded("revaluation_05_10_to_1_with", 21, ONE3), *discarded("revaluation_05_10_to_2_without", 21, ONE3), *discarded("revaluations_05_16_and_21", 21, ONE3),
+  note("prevalente 000: 13"), *discarded("revaluation_05_10_to_000", 13, ONE3), *discarded("revaluations_05_16_and_000", 13, ONE3),
+  note("twice in a record 22, inserted again 14, varied and not standing 15, of another quarter 10, a Rivalutazione and a visit with one row left 17"),
+  *discarded("revaluation_05_10_twice", 22, ONE3), *discarded("revaluation_05_10_first", 14, ONE3), *discarded("revaluation_05_16_varied", 15, ONE3),
+  *discarded("revaluation_05_10_to_1", 10, ONE3, 3), *discarded("visit_and_revaluation_05_16", 17, ONE3), ("sound", ans(0)))
+OF_61 = [reval(d) if confirms(i) else re2(d, of_day(i)) for i, d in enumerate(DAYS)] + ALL[61:]
+R61 = rows(129, [EVALUATED], OF_61)
+script("histories/evaluation_on_each_of_61_days", note("128 events in a record, 61 of them Rivalutazioni from the last day to the first, every third one confirming"), ("rows 129", []),
+  sub(1, "evaluated", taken([0], rows(129, [EVALUATED]))), sub(2, "revaluations_61", taken([0], R61)), ("sound", ans(0)),
+  *[force(R61, d, of_day(i - 1 if confirms(i) else i)) for i, d in enumerate(DAYS)])
+
+# ---- registers in rows of 91 bytes, and what a conversion makes of them (E6)
+CASE_91, VISIT_91 = REGS["rows_91_case_a"], REGS["rows_91_visit"]
+script("histories/rows_of_91_bytes_lent", note("a case and a visit in rows of 91 bytes: every call gives 3, and no byte moves; emptied, it is used in rows of 96"),
+  ("load registers/rows_91_visit", []), ("sound", ans(3)), ("find 010 101 2018-05-01 A", at(3, 0)), no_force(3), *writes_none(3), sub(2, "visit_by_7", refused(3, VISIT_91)),
+  sub(1, "case_b", refused(3, VISIT_91)), ("empty", ans(0) + standing(rows(2))), sub(1, "case_a", taken([0], rows(2, [A]))), sub(2, "visit", taken([0], rows(2, [A], [V2]))),
+  note("one case, in 95 bytes: no room for a row of 96"), ("load registers/rows_91_case_a", []), ("sound", ans(3)), holds_91(CASE_91),
+  note("one case, in 100 bytes: the same bytes say the same in rows of 96"), ("load registers/rows_91_case_a_100", []), ("sound", ans(0)),
+  ("find 010 101 2018-05-01 A", at(0, 4)), force(rows(1, [A]), "2018-05-01", (MISSING, "250")), holds(rows(1, [A])), sub(1, "case_a_varied", taken([0], rows(1, [AV]))))
+script("histories/converted_lengths", note("no row: 33 for a new one under 4 bytes, though nothing stands"), ("bytes 4", []),
+  converts_none(33, 0), converts_none(33, 3), converts(4), ("sound", ans(0)), holds(bytes(4)), ("bytes 94", []), converts(99), ("sound", ans(0)), holds(bytes(99)),
+  converts(1000), ("sound", ans(0)), holds(bytes(1000)), ("bytes 1000", []), converts(4), ("sound", ans(0)), holds(bytes(4)),
+  note("one row of 91 bytes: a new one of 99 bytes has no room, one of 100 has"), ("load registers/rows_91_case_a", []),
+  *[converts_none(33, n) for n in (0, 3, 4, 95, 99)], holds_91(CASE_91), converts(100), ("sound", ans(0)), ("find 010 101 2018-05-01 A", at(0, 4)), holds(rows(1, [A])),
+  note("a single case says the same in both rows: it is converted once more, into room for two, and a visit goes in"),
+  converts(196), holds(rows(2, [A])), sub(2, "visit", taken([0], rows(2, [A], [V2]))), ("sound", ans(0)), note("and then no more"), converts_none(3, 1000), holds(rows(2, [A], [V2])),
+  note("two rows: a byte too few, as many as they need, up to a byte less than a third one needs"), ("load registers/rows_91_visit", []),
+  converts_none(33, 195), holds_91(VISIT_91), converts(196), ("sound", ans(0)), holds(rows(2, [A], [V2])), ("load registers/rows_91_visit", []),
+  converts(291), ("sound", ans(0)), holds(Reg(291, [A], [V2])), sub(1, "case_b", taken([17], Reg(291, [A], [V2]))),
+  ("load registers/rows_91_visit", []), converts(292), sub(1, "case_b", taken([0], rows(3, [A, B], [V2]))), ("find 010 101 2018-05-01 B", at(0, 100)))
+PASSED = rows(6, [EVALUATED], CONVERTED)
+SEEN_14 = rows(6, [EVALUATED], [CONVERTED[0], RE12, RE14, V2])
+SEEN = rows(6, [EVALUATED], [RE10, RE12, RE14, V2])
+SEEN_16 = rows(6, [EVALUATED], [RE10, RE12, RE14, re2("2018-05-16", ODD), V2])
+script("histories/converted_then_varied", note("a case, Rivalutazioni with conferma 2, 1 and 2 and a visit, in rows of 91 bytes"), ("load registers/rows_91_revaluations", []),
+  ("sound", ans(3)), no_force(3), converts_none(33, 483), holds_91(REGS["rows_91_revaluations"]), converts(580), ("sound", ans(0)), ("find 010 101 2018-05-01 A", at(0, 4)), holds(PASSED),
+  note("no evaluation came along: every day has the case's own"), no_force(30, "2018-04-30"), *forces(PASSED, OWN, "2018-05-09", "2018-05-16"),
+  note("nor does any cancellation file"), *writes_none(31),
+  note("the last is varied, and seen; the first is passed over still"), sub(2, "revaluation_05_14_to_last", taken([0], SEEN_14)), ("sound", ans(0)),
+  *forces(SEEN_14, OWN, "2018-05-09", "2018-05-13"), *forces(SEEN_14, LAST, "2018-05-14", "2018-05-16"),
+  note("the first too; then a new one goes in"), sub(2, "revaluation_05_10_to_first", taken([0], SEEN)), *forces(SEEN, OWN, "2018-05-08", "2018-05-09"),
+  *forces(SEEN, FIRST, "2018-05-10", "2018-05-13"), *forces(SEEN, LAST, "2018-05-14", "2018-05-16"), sub(2, "revaluation_05_16_odd", taken([0], SEEN_16)),
+  *forces(SEEN_16, LAST, "2018-05-14", "2018-05-15"), *forces(SEEN_16, ODD, "2018-05-16", "2018-05-17"), ("sound", ans(0)))
+AFTER_PASSED = rows(6, [EVALUATED], [RE10, RE12, CONVERTED[2], V2])
+script("histories/converted_then_the_first_varied", note("the same, and the first is varied: the last, passed over, leaves it in force"), ("load registers/rows_91_revaluations", []),
+  converts(580), sub(2, "revaluation_05_10_to_first", taken([0], AFTER_PASSED)), *around(AFTER_PASSED, OWN, FIRST, FIRST, FIRST, FIRST, FIRST, FIRST),
+  note("a record that is discarded leaves the last without; cancelled, it is gone"), sub(2, "revaluation_05_10_to_2_without", taken([21], AFTER_PASSED)),
+  sub(2, "revaluation_05_14_cancelled", taken([0], rows(6, [EVALUATED], [RE10, RE12, V2]))), ("sound", ans(0)))
+def refuses_old(name, r=None): return [("load registers/" + name, []), converts_none(3, 1000), converts_none(3, 3), sub(2, "no_event", r or refused(3, REGS[name]))]
+script("histories/converted_refused", note("not sound in rows of 91 bytes, which comes before 33: under 4 bytes"), ("bytes 3", []), converts_none(3, 1000), converts_none(3, 3), holds_91(bytes(3)),
+  ("bytes 0", []), converts_none(3, 4), note("a bit behind the last row; the first and the last bit behind conferma; a byte too few for two rows"),
+  *[step for name in ("rows_91_bit_behind", "rows_91_bit_714", "rows_91_bit_727", "rows_91_no_room") for step in refuses_old(name)],
+  note("in the layout before E2"), *refuses_old("old_visit"), *refuses_old("old_suspension"),
+  note("in rows of 96 bytes: a case and a visit, a case and a Rivalutazione that keeps its evaluation; both stay sound"),
+  *refuses_old("rows_96_visit", taken([20], rows(2, [A], [V2]))), ("sound", ans(0)),
+  *refuses_old("rows_96_evaluation", taken([20], rows(3, [EVALUATED], [RE10]))), ("sound", ans(0)), force(rows(3, [EVALUATED], [RE10]), "2018-05-10", FIRST))
+N_LETTERS = len(LETTER_CASES + LETTER_EVENTS)
+AS_LETTERS = rows(N_LETTERS, LETTER_CASES, LETTER_EVENTS)
+def letter(i): return (of_day(i)[0], "%d" % (300 + i))
+script("histories/converted_every_case_found", note("24 cases and their events: room for all of them but one, then for all; every case is found, with its own evaluation"),
+  ("load registers/rows_91_letters", []), converts_none(33, 4 + ROW * N_LETTERS - 1), holds_91(REGS["rows_91_letters"]), converts(4 + ROW * N_LETTERS), ("sound", ans(0)), holds(AS_LETTERS),
+  *[("find 010 101 2018-05-01 " + id, at(0, 4 + ROW * i)) for i, id in enumerate(LETTERS)], ("find 010 101 2018-05-01 Y", at(30, 0)),
+  *[force(AS_LETTERS, "2018-06-01", letter(i), id) for i, id in enumerate(LETTERS)], sub(1, "case_a", taken([14], AS_LETTERS)))
+AS_FULL = rows(4096, FULL_CASES, FULL_EVENTS)
+script("histories/converted_4096_rows", note("64 cases with 63 events each, as many rows as a register has"), ("load registers/rows_91_full", []),
+  converts_none(33, 393219), holds_91(REGS["rows_91_full"]), converts(393220), ("sound", ans(0)), holds(AS_FULL),
+  *[("find 010 101 2018-05-01 " + id, at(0, 4 + ROW * i)) for i, id in enumerate(FULL_IDS) if i % 9 == 0],
+  *[force(AS_FULL, "2018-06-30", letter(i), FULL_IDS[i]) for i in (0, 31, 63)], note("no row is left; a longer one has no more room"), sub(1, "case_a", taken([14], AS_FULL)),
+  sub(1, "after_a_cancelled_inserted", taken([15, 17], AS_FULL)), ("load registers/rows_91_full", []), converts(393420), ("sound", ans(0)),
+  sub(1, "after_a_cancelled_inserted", taken([15, 17], Reg(393420, FULL_CASES, FULL_EVENTS))))

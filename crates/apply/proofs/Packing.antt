@@ -8,7 +8,7 @@ use lib.Seq.{length-take-le}
 use lib.Pow.{shr-shr, shr-lt}
 use borrow.Rule.Slice.PartMut.{putMid}
 use Rattle.rows.specs.Packing.{num, digits, each, Fit, HeldAt}
-use Rattle.rows.specs.Writer.{soFar, count}
+use Rattle.rows.specs.Writer.{soFar}
 use Rattle.rows.specs.declared.writer.Bits.{Bits}
 use Rattle.rows.proofs.Bytes.{prefix, bytes-are, num-lt}
 use Rattle.register.specs.Gap.{Gap, openedWide}
@@ -19,10 +19,17 @@ use Rattle.register.specs.Layout.{caseRest}
 use Rattle.home_care.specs.Row.{rowBytes, keyBits, siad}
 use Rattle.apply.specs.RowBytes.{Keyed}
 
-high-part : (n : ℕ) → n / 2 ^ 72 * 2 ^ 6 + n / 2 ^ caseRest siad % 2 ^ 6 ≡ n / 2 ^ caseRest siad
+-- a key's bits fill so many bytes, and so many bits of the next
+abbrev keyBytes : ℕ
+keyBytes = 82
+
+abbrev keyMore : ℕ
+keyMore = 6
+
+high-part : (n : ℕ) → n / 2 ^ (8 * (rowBytes - keyBytes)) * 2 ^ keyMore + n / 2 ^ caseRest siad % 2 ^ keyMore ≡ n / 2 ^ caseRest siad
 high-part n =
     let x : ℕ = n / 2 ^ caseRest siad in
-    let e : n / 2 ^ caseRest siad / 2 ^ 6 ≡ n / 2 ^ 72 = shr-shr n (caseRest siad) 6 in
+    let e : n / 2 ^ caseRest siad / 2 ^ keyMore ≡ n / 2 ^ (8 * (rowBytes - keyBytes)) = shr-shr n (caseRest siad) keyMore in
     omega arith
 
 -- a probe's key has its bits
@@ -31,31 +38,30 @@ unfolding probeKey
 probe-small probe f l = shr-lt keyBits (caseRest siad) (rw l at (num-lt probe f))
 
 -- the writer that has written it
-pub key-held : (probe : List ℕ) (r : ℕ) → Fit (each 8 probe) → length probe ≡ rowBytes → HeldAt probe 656 6 r →
-    Keyed probe (record { acc = r; have = 6; at = 82 }) (probeKey rowBytes keyBits probe)
+pub key-held : (probe : List ℕ) (r : ℕ) → Fit (each 8 probe) → length probe ≡ rowBytes → HeldAt probe (8 * keyBytes) keyMore r →
+    Keyed probe (record { acc = r; have = keyMore; at = keyBytes }) (probeKey rowBytes keyBits probe)
 unfolding probeKey
 key-held probe r f l h =
-    let p : num (take 82 probe) ≡ num probe / 2 ^ 72 = sym (prefix probe 82 f) ∙ ap (λ (n : ℕ). num probe / 2 ^ (8 * (n - 82))) l in
-    let v : r ≡ num probe / 2 ^ caseRest siad % 2 ^ 6 = h .value ∙ ap (λ (n : ℕ). num probe / 2 ^ (8 * n - keyBits) % 2 ^ 6) l in
+    let p : num (take keyBytes probe) ≡ num probe / 2 ^ (8 * (rowBytes - keyBytes)) = sym (prefix probe keyBytes f) ∙ ap (λ (n : ℕ). num probe / 2 ^ (8 * (n - keyBytes))) l in
+    let v : r ≡ num probe / 2 ^ caseRest siad % 2 ^ keyMore = h .value ∙ ap (λ (n : ℕ). num probe / 2 ^ (8 * n - keyBits) % 2 ^ keyMore) l in
     record {
       tidy = record { few = omega arith; small = h .small };
       bits = refl;
-      holds = ap₂ (λ (x y : ℕ). x * 2 ^ 6 + y) p v ∙ high-part (num probe);
+      holds = ap₂ (λ (x y : ℕ). x * 2 ^ keyMore + y) p v ∙ high-part (num probe);
       small = probe-small probe f l;
       wide = l;
     }
 
--- behind the probe's key a row has the w bits of v, and then zero bits
-pub row-packed : (w pad v : ℕ) (probe out a b : List ℕ) (s : Bits) (k : ℕ) → keyBits + w + pad ≡ 8 * rowBytes → Keyed probe s k → length out ≡ rowBytes →
-    a ≡ probe ++ drop (length probe) out → num b ≡ (soFar a s * 2 ^ w + v) * 2 ^ (8 * length a - (count s + w)) → length b ≡ rowBytes → Fit (each 8 b) →
-    b ≡ digits rowBytes ((k * 2 ^ w + v) * 2 ^ pad)
-row-packed w pad v probe out a b s k all y l ea eb lb f =
+-- behind the probe's key a row has the fields that f puts there, n bits with the key, and then zero bits
+pub row-packed : (f : ℕ → ℕ) (n pad : ℕ) (probe out a b : List ℕ) (s : Bits) (k : ℕ) → n + pad ≡ 8 * rowBytes → Keyed probe s k → length out ≡ rowBytes →
+    a ≡ probe ++ drop (length probe) out → num b ≡ f (soFar a s) * 2 ^ (8 * length a - n) → length b ≡ rowBytes → Fit (each 8 b) → b ≡ digits rowBytes (f k * 2 ^ pad)
+row-packed f n pad probe out a b s k all y l ea eb lb fit =
     let h : length out ≤ length probe = omega (arith, y .wide) in
     let z : a ≡ probe = ea ∙ ap (λ (x : List ℕ). probe ++ x) (drop-of-length-le out h) ∙ append-nil probe in
     let so : soFar a s ≡ k = ap (λ (x : List ℕ). soFar x s) z ∙ y .holds in
     let la : length a ≡ rowBytes = ap length z ∙ y .wide in
-    let q : 8 * length a - (count s + w) ≡ pad = omega (arith, y .bits) in
-    bytes-are b rowBytes ((k * 2 ^ w + v) * 2 ^ pad) f lb (eb ∙ ap₂ (λ (x n : ℕ). (x * 2 ^ w + v) * 2 ^ n) so q)
+    let q : 8 * length a - n ≡ pad = omega arith in
+    bytes-are b rowBytes (f k * 2 ^ pad) fit lb (eb ∙ ap₂ (λ (x m : ℕ). f x * 2 ^ m) so q)
 
 -- a gap of j rows moved to row r, an event's row in its last place, and the events' count
 pub event-opened : (r i j m v : ℕ) (x a q b row : List ℕ) → 0 < j → r ≤ i → length row ≡ rowBytes → Gap rowBytes i j m x a →

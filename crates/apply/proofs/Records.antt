@@ -20,16 +20,16 @@ use Rattle.register.specs.Search.{probeKey}
 use Rattle.register.specs.Stored.{Stored, withRows}
 use Rattle.register.specs.Stored as group
 use Rattle.register.specs.TakenOut.{withoutCase, CaseGone}
-use Rattle.home_care.specs.Row.{Case, rowBytes, keyBits, keyNumber, siad, eventRow}
+use Rattle.home_care.specs.Row.{Case, rowBytes, keyBits, evaluationBits, keyNumber, siad, eventRow}
 use Rattle.home_care.proofs.Laid.{laid-siad}
-use Rattle.home_care.specs.Record.{Head, Admission, Said, Record, admission, events, eventNumbers, typeOf}
+use Rattle.home_care.specs.Record.{Head, Admission, Said, Record, admission, events, typeOf}
 use Rattle.home_care.specs.Anomalies.{Context}
 use Rattle.checks.specs.Flow.{next, caseRow, eventRows}
 use Rattle.checks.specs.CheckOrder.{checksOf}
 use Rattle.checks.proofs.Accepted.{lawful, not17}
-use Rattle.apply.proofs.Merge.{map-length}
+use Rattle.apply.proofs.RowsPacked.{AllBits, said-many}
 use Rattle.apply.specs.Cases.{rowFor, CaseIn}
-use Rattle.apply.specs.Events.{rowsFor, AllIn, AllOver, AllOut}
+use Rattle.apply.specs.Events.{rowsFor, ListedIn, AllIn, AllOver, AllOut}
 
 -- a cancellation of Track 2 carries no other event away
 none-away : (m es : Map ℕ) (b : List ℕ) → Stored siad b (record { cases = m; events = es }) → Stored siad b (record { cases = m; events = keep (λ k. true) es })
@@ -91,64 +91,64 @@ module _ (k : ℕ) (d : Case) (a b : List ℕ) where
 -- ---- Track 2: the events' rows
 
 -- what a record of each kind does with its events
-abbrev pub Done : Kind → ℕ → List ℕ → List ℕ → List ℕ → Type 0
-Done insert k evs a b = AllIn k evs a b
-Done vary k evs a b = AllOver k evs a b
-Done cancel k evs a b = AllOut k evs a b
+abbrev pub Done : Kind → ℕ → List ℕ → List ℕ → List ℕ → List ℕ → Type 0
+Done insert k evs kept a b = AllIn k evs kept a b
+Done vary k evs kept a b = AllOver k evs kept a b
+Done cancel k evs kept a b = AllOut k evs a b
 
-module _ (k : ℕ) (evs a b : List ℕ) where
+event-rows : (k : ℕ) (es : List Said) → rowsFor k es ≡ eventRows k es
+unfolding eventRows
+event-rows k [] = refl
+event-rows k (e ∷ es) = ap (λ (m : Map ℕ). eventRow k (e .event) (e .evaluation) ∷ m) (event-rows k es)
+
+module _ (k : ℕ) (evs kept a b : List ℕ) where
   -- by the type, as the code asks for it
-  pub done-in : (t : Kind) → isInsert t ≡ true → AllIn k evs a b → Done t k evs a b
+  pub done-in : (t : Kind) → isInsert t ≡ true → AllIn k evs kept a b → Done t k evs kept a b
   done-in insert e f = f
   done-in vary e f = absurd (true≢false (sym e))
   done-in cancel e f = absurd (true≢false (sym e))
 
-  pub done-out : (t : Kind) → isCancel t ≡ true → AllOut k evs a b → Done t k evs a b
+  pub done-out : (t : Kind) → isCancel t ≡ true → AllOut k evs a b → Done t k evs kept a b
   done-out insert e f = absurd (true≢false (sym e))
   done-out vary e f = absurd (true≢false (sym e))
   done-out cancel e f = f
 
-  pub done-over : (t : Kind) → isInsert t ≡ false → isCancel t ≡ false → AllOver k evs a b → Done t k evs a b
+  pub done-over : (t : Kind) → isInsert t ≡ false → isCancel t ≡ false → AllOver k evs kept a b → Done t k evs kept a b
   done-over insert i e f = absurd (true≢false i)
   done-over vary i e f = f
   done-over cancel i e f = absurd (true≢false e)
 
   -- 14, 17 and 22 give what an insertion asks, 15 what a variation does, 15 and 22 what a cancellation does
-  events-by : (t : Kind) (s : State ℕ ℕ) (rs : Map ℕ) → rowsFor k evs ≡ rs → Done t k evs a b → Stored siad a s →
-      isInsert t && (anyIn [] (s .cases) || anyIn rs (s .events)) ≡ false → not (isInsert t) && not (allIn [] (s .cases) && allIn rs (s .events)) ≡ false →
+  events-by : (t : Kind) (s : State ℕ ℕ) (es : List Said) (rs : Map ℕ) → rowsFor k es ≡ rs → ListedIn evs kept es → AllBits evaluationBits kept → Done t k evs kept a b →
+      Stored siad a s → isInsert t && (anyIn [] (s .cases) || anyIn rs (s .events)) ≡ false → not (isInsert t) && not (allIn [] (s .cases) && allIn rs (s .events)) ≡ false →
       isInsert t && ltb (room siad (length a)) (length (s .cases) + length (s .events) + (0 + length rs)) ≡ false → twice {F = ℕ} [] || twice rs ≡ false →
       Stored siad b (applied t [] rs (λ k. false) s)
   unfolding putAll delAll
-  events-by insert s rs q f st n14 n15 n17 n22 =
+  events-by insert s es rs q l few f st n14 n15 n17 n22 =
       subst (λ (z : Map ℕ). Stored siad b (withRows group.events (putAll z (s .events)) s)) q
-      (f s st
+      (f es l s st
       (record {
         once = ap twice q ∙ or-right (twice {F = ℕ} []) (twice rs) n22;
         new = ap (λ (z : Map ℕ). anyIn z (s .events)) q ∙ or-right (anyIn [] (s .cases)) (anyIn rs (s .events)) n14;
-        fit = omega (arith, map-length k evs, ap length q, ltb-false (room siad (length a)) (length (s .cases) + length (s .events) + (0 + length rs)) n17);
+        fit = omega (arith, said-many k es .2, ap length q, ltb-false (room siad (length a)) (length (s .cases) + length (s .events) + (0 + length rs)) n17);
       }))
-  events-by vary s rs q f st n14 n15 n17 n22 =
+  events-by vary s es rs q l few f st n14 n15 n17 n22 =
       subst (λ (z : Map ℕ). Stored siad b (withRows group.events (putAll z (s .events)) s)) q
-      (f s st (ap (λ (z : Map ℕ). allIn z (s .events)) q ∙ and-right (allIn [] (s .cases)) (allIn rs (s .events)) (not-false _ n15)))
-  events-by cancel s rs q f st n14 n15 n17 n22 =
+      (f es l s st (ap (λ (z : Map ℕ). allIn z (s .events)) q ∙ and-right (allIn [] (s .cases)) (allIn rs (s .events)) (not-false _ n15)))
+  events-by cancel s es rs q l few f st n14 n15 n17 n22 =
       none-away (s .cases) (delAll rs (s .events)) b
       (subst (λ (z : Map ℕ). Stored siad b (withRows group.events (delAll z (s .events)) s)) q
-      (f s st (ap twice q ∙ or-right (twice {F = ℕ} []) (twice rs) n22)
+      (f es (l .numbers) (subst (AllBits evaluationBits) (sym (l .beside)) few) s st (ap twice q ∙ or-right (twice {F = ℕ} []) (twice rs) n22)
       (ap (λ (z : Map ℕ). allIn z (s .events)) q ∙ and-right (allIn [] (s .cases)) (allIn rs (s .events)) (not-false _ n15))))
 
-event-rows : (k : ℕ) (es : List Said) → rowsFor k (eventNumbers es) ≡ eventRows k es
-unfolding eventRows eventNumbers
-event-rows k [] = refl
-event-rows k (e ∷ es) = ap (λ (m : Map ℕ). eventRow k (e .event) ∷ m) (event-rows k es)
-
 -- what was done with the events leaves the accepted record's next state
-pub events-applied : (a b : List ℕ) (tipo k : ℕ) (evs : List ℕ) → Done (typeOf tipo) k evs a b →
-    (h : Head) (es : List Said) (s : State ℕ ℕ) (c : Context) → keyNumber (h .key) ≡ k → tipo ≡ h .tipo → evs ≡ eventNumbers es → c .room ≡ room siad (length a) →
+pub events-applied : (a b : List ℕ) (tipo k : ℕ) (evs kept : List ℕ) → AllBits evaluationBits kept → Done (typeOf tipo) k evs kept a b →
+    (h : Head) (es : List Said) (s : State ℕ ℕ) (c : Context) → keyNumber (h .key) ≡ k → tipo ≡ h .tipo → ListedIn evs kept es → c .room ≡ room siad (length a) →
     Stored siad a s → first (checksOf c (events h es)) s ≡ 0 → Stored siad b (next (events h es) s)
-events-applied a b tipo k evs f h es s c key t x m st e =
+events-applied a b tipo k evs kept few f h es s c key t l m st e =
     let r : Record = events h es in
     let rs : Map ℕ = eventRows (keyNumber (h .key)) es in
-    events-by k evs a b (typeOf (h .tipo)) s rs (ap₂ rowsFor (sym key) x ∙ event-rows (keyNumber (h .key)) es)
-    (subst (λ (z : ℕ). Done (typeOf z) k evs a b) t f) st (lawful c .not14 s r e) (lawful c .not15 s r e)
+    events-by k evs kept a b (typeOf (h .tipo)) s es rs (ap (λ (x : ℕ). rowsFor x es) (sym key) ∙ event-rows (keyNumber (h .key)) es) l few
+    (subst (λ (z : ℕ). Done (typeOf z) k evs kept a b) t f) st (lawful c .not14 s r e) (lawful c .not15 s r e)
     (subst (λ (n : ℕ). isInsert (typeOf (h .tipo)) && ltb n (length (s .cases) + length (s .events) + (0 + length rs)) ≡ false) m (not17 c s r e))
     (lawful c .not22 s r e)

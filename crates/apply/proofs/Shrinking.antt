@@ -8,7 +8,6 @@ use native.Mathlib.Omega.{arith}
 use lib.Dec.{ltb, eqb}
 use lib.ListN.{length, getD}
 use borrow.Author.Tests.{ltb-true}
-use Rattle.laws.specs.Lists.{all}
 use Rattle.laws.proofs.Truth.{and-left}
 use Rattle.model.specs.Map.{Map, has, del, delAll, Asc, allIn, twice}
 use Rattle.model.specs.Flow.{State}
@@ -23,36 +22,36 @@ use Rattle.register.proofs.Gaps.{gap-row, key-same}
 use Rattle.register.proofs.GapRows.{took-before, took-behind}
 use Rattle.register.proofs.GoneRow.{found-row, found-key, drop-found}
 use Rattle.register.proofs.Places.{keys-climb}
-use Rattle.home_care.specs.Row.{eventBits, siad, rowBytes, eventRow, eventKeyOf, ownBits, keyBits}
+use Rattle.home_care.specs.Row.{eventBits, siad, rowBytes, eventKeyOf, ownBits, keyBits}
 use Rattle.home_care.specs.EventRows.{OwnPlaced}
 use Rattle.home_care.proofs.Laid.{laid-siad}
-use Rattle.apply.specs.Events.{rowsFor, NextBelow}
-use Rattle.apply.proofs.Merge.{fromKey, none-past}
+use Rattle.apply.specs.Events.{NextBelow}
+use Rattle.apply.proofs.Merge.{fromKey}
 use Rattle.apply.proofs.OwnKey.{rowKey, Ascends, row-same, whole-placed, key-parts, from-or-before}
-use Rattle.apply.proofs.RowsPacked.{row-key}
-use Rattle.apply.proofs.Growing.{keepFrom}
+use Rattle.apply.proofs.RowsPacked.{AllBits, rowAt, Named}
+use Rattle.apply.proofs.Growing.{keepFrom, none-past}
 use Rattle.apply.proofs.Without.{all-shrunk, next-stands, next-shrunk}
 
 -- the state once the keys from the bound on are out
-abbrev pub stateLess : ℕ → List ℕ → State ℕ ℕ → ℕ → State ℕ ℕ
-stateLess k evs s bound = withRows events (delAll (keepFrom k evs bound) (s .events)) s
+abbrev pub stateLess : ℕ → Map ℕ → State ℕ ℕ → ℕ → State ℕ ℕ
+stateLess k rs s bound = withRows events (delAll (keepFrom k rs bound) (s .events)) s
 
 -- m rows stand in a, the events from c on; the case k has those from lo up to i, and those from i on have no key below the bound
-pub record Shrank (k : ℕ) (evs : List ℕ) (s : State ℕ ℕ) (c lo i m bound : ℕ) (a : List ℕ) : Type 0 where
-  pub stored : Stored siad a (stateLess k evs s bound)
-  pub total : m ≡ length (s .cases) + length (stateLess k evs s bound .events)
+pub record Shrank (k : ℕ) (rs : Map ℕ) (s : State ℕ ℕ) (c lo i m bound : ℕ) (a : List ℕ) : Type 0 where
+  pub stored : Stored siad a (stateLess k rs s bound)
+  pub total : m ≡ length (s .cases) + length (stateLess k rs s bound .events)
   pub start : c ≡ length (s .cases)
   pub early : (p : ℕ) → c ≤ p → p < lo → rowKey a p < k * 2 ^ ownBits
   pub inside : (p : ℕ) → lo ≤ p → p < i → keyAt rowBytes keyBits a p ≡ k
   pub late : (p : ℕ) → i ≤ p → p < m → k * 2 ^ ownBits + bound ≤ rowKey a p
 
 -- none is out yet: the bound is past every event's key
-pub shrank-start : (k : ℕ) (evs : List ℕ) (s : State ℕ ℕ) (c n lo hi : ℕ) (a : List ℕ) → all (λ e. ltb e (2 ^ eventBits)) evs ≡ true → Stored siad a s →
-    c ≡ length (s .cases) → n ≡ length (s .cases) + length (s .events) → Ranged (keyAt rowBytes keyBits a) k c n lo hi → Shrank k evs s c lo hi n (2 ^ ownBits) a
+pub shrank-start : (k : ℕ) (evs : List ℕ) (rs : Map ℕ) (s : State ℕ ℕ) (c n lo hi : ℕ) (a : List ℕ) → Named k evs rs → AllBits eventBits evs → Stored siad a s →
+    c ≡ length (s .cases) → n ≡ length (s .cases) + length (s .events) → Ranged (keyAt rowBytes keyBits a) k c n lo hi → Shrank k rs s c lo hi n (2 ^ ownBits) a
 unfolding delAll
-shrank-start k evs s c n lo hi a small h ec en r =
-    let z : keepFrom k evs (2 ^ ownBits) ≡ [] = none-past k evs small in
-    let q : stateLess k evs s (2 ^ ownBits) ≡ s = ap (λ (x : Map ℕ). withRows events (delAll x (s .events)) s) z in
+shrank-start k evs rs s c n lo hi a named small h ec en r =
+    let z : keepFrom k rs (2 ^ ownBits) ≡ [] = none-past k evs rs named small in
+    let q : stateLess k rs s (2 ^ ownBits) ≡ s = ap (λ (x : Map ℕ). withRows events (delAll x (s .events)) s) z in
     let rise : Rises (keyAt rowBytes keyBits a) c n = rw (ec, en) (cases-rise siad laid-siad a s h) in
     record {
       stored = rw q h;
@@ -63,16 +62,16 @@ shrank-start k evs s c n lo hi a small h ec en r =
       late = λ p x y. let b = r .after rise p x y in let d = key-parts a p in omega arith;
     }
 
-module _ (k : ℕ) (evs : List ℕ) (s : State ℕ ℕ) (once : twice (rowsFor k evs) ≡ false) (stand : allIn (rowsFor k evs) (s .events) ≡ true)
-    (up : Asc 0 (s .events)) (c lo i m bound : ℕ) (a : List ℕ) (g : Shrank k evs s c lo i m bound a) where
+module _ (k : ℕ) (rs : Map ℕ) (s : State ℕ ℕ) (once : twice rs ≡ false) (stand : allIn rs (s .events) ≡ true)
+    (up : Asc 0 (s .events)) (c lo i m bound : ℕ) (a : List ℕ) (g : Shrank k rs s c lo i m bound a) where
   -- all are out
-  pub shrank-end : m + length evs ≤ length (s .cases) + length (s .events) → Stored siad a (withRows events (delAll (rowsFor k evs) (s .events)) s)
+  pub shrank-end : m + length rs ≤ length (s .cases) + length (s .events) → Stored siad a (withRows events (delAll rs (s .events)) s)
   shrank-end h =
-      let e : stateLess k evs s bound .events ≡ delAll (rowsFor k evs) (s .events)
-      = all-shrunk k evs (s .events) once stand up (k * 2 ^ ownBits + bound) (omega (arith, g .total)) in
+      let e : stateLess k rs s bound .events ≡ delAll rs (s .events)
+      = all-shrunk rs (s .events) once stand up (k * 2 ^ ownBits + bound) (omega (arith, g .total)) in
       subst (λ (x : Map ℕ). Stored siad a (withRows events x s)) e (g .stored)
 
-  module _ (small : all (λ e. ltb e (2 ^ eventBits)) evs ≡ true) (b : List ℕ) (j : ℕ) (gap : Gap rowBytes i j m a b) (q : ℕ) (hq : q < length evs)
+  module _ (evs : List ℕ) (named : Named k evs rs) (b : List ℕ) (j : ℕ) (gap : Gap rowBytes i j m a b) (q : ℕ) (hq : q < length evs)
       (nb : NextBelow evs bound q) (r : ℕ) (pl : OwnPlaced b (getD evs q 0) lo i r) (lc : c ≤ lo) (im : i ≤ m) where
     abbrev e : ℕ
     e = getD evs q 0
@@ -84,7 +83,7 @@ module _ (k : ℕ) (evs : List ℕ) (s : State ℕ ℕ) (once : twice (rowsFor k
     key = k * 2 ^ ownBits + own
 
     abbrev now : State ℕ ℕ
-    now = stateLess k evs s bound
+    now = stateLess k rs s bound
 
     ascends : Ascends a c m
     ascends = rw (g .start, g .total) (keys-climb siad laid-siad events a now (g .stored))
@@ -94,15 +93,18 @@ module _ (k : ℕ) (evs : List ℕ) (s : State ℕ ℕ) (once : twice (rowsFor k
         whole-placed k e a b c lo i m r ascends lc im (gap-row rowBytes i j m a b gap) (λ p x y. let w = g .early p x y in omega arith)
         (g .inside) (λ p x y. let w = g .late p x y in let d = nb .below hq in omega arith) pl
 
-    key-is : eventRow k e .key ≡ key
-    key-is = row-key evs small q hq k
+    key-is : rowAt rs q .key ≡ key
+    key-is = named .key q hq
 
-    below-bound : eventRow k e .key < k * 2 ^ ownBits + bound
+    in-rows : q < length rs
+    in-rows = omega (arith, named .many)
+
+    below-bound : rowAt rs q .key < k * 2 ^ ownBits + bound
     below-bound = omega (arith, key-is, nb .below hq)
 
     -- the key stands
     there : has key (now .events) ≡ true
-    there = ap (λ (x : ℕ). has x (now .events)) (sym key-is) ∙ next-stands k evs (s .events) once stand up q hq (k * 2 ^ ownBits + bound) below-bound
+    there = ap (λ (x : ℕ). has x (now .events)) (sym key-is) ∙ next-stands rs (s .events) once stand up q in-rows (k * 2 ^ ownBits + bound) below-bound
 
     found : Placed (rowKey a) key (length (s .cases)) (length (s .cases) + length (now .events)) r
     found =
@@ -120,16 +122,20 @@ module _ (k : ℕ) (evs : List ℕ) (s : State ℕ ℕ) (once : twice (rowsFor k
         (and-left (ltb r (length (s .cases) + length (now .events))) (eqb (rowKey a r) key) (found-row siad laid-siad events a now (g .stored) key r found there)) in
         ⊎-elim (λ w. let v = g .late r w (omega (arith, g .total)) in absurd (omega (arith, nb .below hq, here))) (λ w. w) (from-or-before i r)
 
-    next-is : del key (now .events) ≡ stateLess k evs s own .events
+    next-is : del key (now .events) ≡ stateLess k rs s own .events
     next-is =
         ap (λ (x : ℕ). del x (now .events)) (sym key-is)
-        ∙ next-shrunk k evs (s .events) once stand up q hq (k * 2 ^ ownBits + bound) below-bound
-        (λ p w z. let x = row-key evs small p w k in let d = nb .most p w (omega arith) in omega (arith, d .1, key-is))
-        ∙ ap (λ (v : ℕ). delAll (fromKey v (rowsFor k evs)) (s .events)) key-is
+        ∙ next-shrunk rs (s .events) once stand up q in-rows (k * 2 ^ ownBits + bound) below-bound
+        (λ p w z.
+        let l : p < length evs = omega (arith, named .many) in
+        let x = named .key p l in
+        let d = nb .most p l (omega arith) in
+        omega (arith, d .1, key-is))
+        ∙ ap (λ (v : ℕ). delAll (fromKey v rs) (s .events)) key-is
 
     module _ (b' : List ℕ) (gap' : Gap rowBytes (r + 1) j m a b') (after : List ℕ) (len : length after ≡ length a)
         (is : after ≡ withCount 2 (m - c - 1) (removed rowBytes r m a)) where
-      next-stored : Stored siad after (stateLess k evs s own)
+      next-stored : Stored siad after (stateLess k rs s own)
       next-stored =
           let em : length (s .cases) + length (now .events) ≡ m = sym (g .total) in
           let cnt : m - c - 1 ≡ length (s .cases) + length (now .events) - length (s .cases) - 1 = omega (arith, g .start, g .total) in
@@ -151,11 +157,11 @@ module _ (k : ℕ) (evs : List ℕ) (s : State ℕ ℕ) (once : twice (rowsFor k
           ∙ ap (bytesAt rowBytes a) f
 
       -- one fewer
-      pub shrank-more : Shrank k evs s c lo r (m - 1) own after
+      pub shrank-more : Shrank k rs s c lo r (m - 1) own after
       shrank-more =
           let lt : suc (length (del key (now .events))) ≡ length (now .events)
-          = size-del 0 key (now .events) there (asc-delAll (keepFrom k evs bound) (s .events) up) in
-          let ln : length (del key (now .events)) ≡ length (stateLess k evs s own .events) = ap length next-is in
+          = size-del 0 key (now .events) there (asc-delAll (keepFrom k rs bound) (s .events) up) in
+          let ln : length (del key (now .events)) ≡ length (stateLess k rs s own .events) = ap length next-is in
           record {
             stored = next-stored;
             total = omega (arith, g .total);

@@ -19,12 +19,13 @@ ghost use Rattle.model.specs.Flow.{State};
 ghost use Rattle.register.specs.RoomAndEmptying.{room};
 ghost use Rattle.register.specs.Search.{probeKey};
 ghost use Rattle.register.specs.Stored.{Stored};
-ghost use Rattle.home_care.specs.Row.{rowBytes, keyBits, eventBits, keyNumber, siad};
+ghost use Rattle.home_care.specs.Row.{rowBytes, keyBits, eventBits, evaluationBits, keyNumber, siad};
 ghost use Rattle.home_care.specs.Fits.{caseWith, CaseFits};
-ghost use Rattle.home_care.specs.Record.{Head, Admission, Said, admission, events, eventNumbers};
+ghost use Rattle.home_care.specs.Record.{Head, Admission, Said, admission, events};
 ghost use Rattle.home_care.specs.Anomalies.{Context};
 ghost use Rattle.checks.specs.Flow.{next};
 ghost use Rattle.checks.specs.CheckOrder.{checksOf};
+ghost use Rattle.apply.specs.Events.{ListedIn};
 use crate::cancel::cancel_events;
 use crate::case::put_case;
 use crate::insert::insert_events;
@@ -57,21 +58,21 @@ pub fn apply_case(
     }
 }
 
-// An accepted record of Track 2: its events' rows, with the case's key that the probe holds.
-pub fn apply_events(reg: &mut [u8], tipo: u8, probe: &[u8], evs: &[u64])
-    requires { ⌜ (length (now probe) ≡ rowBytes) × (all (λ e. ltb e (2 ^ eventBits)) (now evs) ≡ true) ⌝ }
+// An accepted record of Track 2: its events' rows, with the case's key that the probe holds and the evaluations that are kept.
+pub fn apply_events(reg: &mut [u8], tipo: u8, probe: &[u8], evs: &[u64], kept: &[u64])
+    requires { ⌜ (length (now probe) ≡ rowBytes) × (all (λ e. ltb e (2 ^ eventBits)) (now evs) ≡ true) × (all (λ v. ltb v (2 ^ evaluationBits)) (now kept) ≡ true) × (length (now kept) ≡ length (now evs)) ⌝ }
     ensures { λ _. ⌜ ((h : Head) (es : List Said) (s : State ℕ ℕ) (c : Context) → keyNumber (h .key) ≡ probeKey rowBytes keyBits (now (probe .entry))
-        → tipo ≡ h .tipo → now (evs .entry) ≡ eventNumbers es → c .room ≡ room siad (length (now (reg .entry)))
+        → tipo ≡ h .tipo → ListedIn (now (evs .entry)) (now (kept .entry)) es → c .room ≡ room siad (length (now (reg .entry)))
         → Stored siad (now (reg .entry)) s → first (checksOf c (events h es)) s ≡ 0 → Stored siad (now (reg .exit)) (next (events h es) s))
         × (length (now (reg .exit)) ≡ length (now (reg .entry))) ⌝ }
 {
     if inserts(tipo) {
-        insert_events(reg, probe, evs);
+        insert_events(reg, probe, evs, kept);
         return;
     }
     if cancels(tipo) {
         cancel_events(reg, probe, evs);
         return;
     }
-    vary_events(reg, probe, evs);
+    vary_events(reg, probe, evs, kept);
 }

@@ -6,7 +6,7 @@ ghost use lib.Dec.{ltb};
 ghost use lib.ListN.{length};
 ghost use Rattle.laws.specs.Lists.{all};
 ghost use Rattle.register.specs.Search.{probeKey};
-ghost use Rattle.home_care.specs.Row.{rowBytes, keyBits, eventBits};
+ghost use Rattle.home_care.specs.Row.{rowBytes, keyBits, eventBits, evaluationBits};
 ghost use Rattle.apply.specs.Events.{AllOver};
 use crate::event_row::set_row;
 use crate::probe::key_in;
@@ -18,9 +18,9 @@ use register::room::room_for;
 use register::search::case_range;
 
 // The events of a record whose keys all stand (15): each is packed over the row with its key.
-pub fn vary_events(reg: &mut [u8], probe: &[u8], evs: &[u64])
-    requires { ⌜ (length (now probe) ≡ rowBytes) × (all (λ e. ltb e (2 ^ eventBits)) (now evs) ≡ true) ⌝ }
-    ensures { λ _. ⌜ AllOver (probeKey rowBytes keyBits (now (probe .entry))) (now (evs .entry)) (now (reg .entry)) (now (reg .exit)) ⌝ }
+pub fn vary_events(reg: &mut [u8], probe: &[u8], evs: &[u64], kept: &[u64])
+    requires { ⌜ (length (now probe) ≡ rowBytes) × (all (λ e. ltb e (2 ^ eventBits)) (now evs) ≡ true) × (all (λ v. ltb v (2 ^ evaluationBits)) (now kept) ≡ true) × (length (now kept) ≡ length (now evs)) ⌝ }
+    ensures { λ _. ⌜ AllOver (probeKey rowBytes keyBits (now (probe .entry))) (now (evs .entry)) (now (kept .entry)) (now (reg .entry)) (now (reg .exit)) ⌝ }
 {
     if reg.len() < 4 {
         return;
@@ -39,7 +39,7 @@ pub fn vary_events(reg: &mut [u8], probe: &[u8], evs: &[u64])
         i -= 1;
         let r = place_event(reg, lo, hi, evs[i]);
         if r < hi {
-            set_row(reg, r, probe, key, evs[i]);
+            set_row(reg, r, probe, key, evs[i], kept[i]);
         }
     }
 }

@@ -2,11 +2,10 @@
 use Prim.Native.Nat.{ℕ}
 use mathlib.Core.Bool.{Bool, cond, _&&_}
 use mathlib.Core.List.{List, [], _∷_, map}
-use lib.Dec.{eqb, leb}
-use Rattle.codes.specs.CodesAndCharacters.{revaluation}
+use lib.Dec.{leb}
 use Rattle.register.specs.State.{stateOf}
 use Rattle.register.specs.Sound.{eventsOf}
-use Rattle.home_care.specs.Row.{siad, kindOf, confermaOf, eventNumberIn}
+use Rattle.home_care.specs.Row.{siad, eventNumberIn, evaluates}
 use Rattle.home_care.specs.Anomalies.{dayFor}
 
 -- those elements that pass the test
@@ -24,4 +23,4 @@ chosen reg c first last = those (datedIn first last) (map eventNumberIn (eventsO
 
 -- U4: "a Rivalutazione with conferma 2"
 abbrev pub replaces : ℕ → Bool
-replaces e = eqb (kindOf e) revaluation && eqb (confermaOf e) 2
+replaces e = evaluates e

@@ -6,9 +6,7 @@ ghost use Rattle.home_care.specs.Row.{eventBits};
 ghost use Rattle.cancellation.specs.Chosen.{datedIn, replaces};
 ghost use Rattle.cancellation.specs.View.{RowsIn, chosenIn, Surveyed, OneMore};
 use crate::event_text::event_length;
-use codes::code_lists::REVALUATION;
-use home_care::event_bits::conferma_of;
-use home_care::event_bits::kind_of;
+use home_care::evaluation::evaluates;
 use judge::event_dates::day_for;
 use judge::standing::event_at;
 
@@ -26,11 +24,11 @@ pub fn dated_in(first: u64, last: u64, e: u64) -> bool
     (first <= day) & (day <= last)
 }
 
-// A Rivalutazione with conferma 2: its new Valutazione isn't kept, so that its cancellation can't be written.
+// A Rivalutazione with conferma 2: of its new Valutazione a part is kept, so that its cancellation can't be written.
 fn replaces(e: u64) -> bool
     ensures { λ r. ⌜ r ≡ replaces e ⌝ }
 {
-    (kind_of(e) == REVALUATION) & (conferma_of(e) == 2)
+    evaluates(e)
 }
 
 // One event more.

@@ -1,5 +1,5 @@
 -- RULES.md, 12 Days and bytes on each side: the P cases as one table, each row a side of a rule and what it says of the definitions.
-use Prim.Native.Nat.{ℕ}
+use Prim.Native.Nat.{ℕ, _+_}
 use Prim.Native.Char.{code}
 use Prim.Native.String as string
 use mathlib.Core.Bool.{Bool, true, not, _&&_}
@@ -15,8 +15,8 @@ use Rattle.model.specs.Checks.{first}
 use Rattle.model.specs.Flow.{empty}
 use Rattle.register.specs.RoomAndEmptying.{room}
 use Rattle.register.specs.State.{encode}
-use Rattle.home_care.specs.Row.{Key, never, eventNumber, siad}
-use Rattle.home_care.specs.Fits.{keyWith, eventWith}
+use Rattle.home_care.specs.Row.{Key, never, rowBytes, eventNumber, evaluationNumber, siad}
+use Rattle.home_care.specs.Fits.{keyWith, eventWith, evaluationWith}
 use Rattle.home_care.specs.Anomalies.{t26, Context, outOfQuarter}
 use Rattle.home_care.specs.Record.{Head, Record, padded, admission, events}
 use Rattle.soundness.specs.Sound.{isSound}
@@ -70,7 +70,12 @@ admitted key prevalente =
 abbrev valuedAnew : Key → string.String → Record
 valuedAnew key prevalente =
     events (inserts key)
-    (record { event = eventNumber (eventWith revaluation (dayOf (bytes "2018-05-10")) 1 never 0 2); valued = true; prevalente = bytes prevalente } ∷ [])
+    (record {
+      event = eventNumber (eventWith revaluation (dayOf (bytes "2018-05-10")) 1 never 0 2);
+      valued = true;
+      prevalente = bytes prevalente;
+      evaluation = evaluationNumber (evaluationWith (1 ∷ 2 ∷ 3 ∷ 0 ∷ 1 ∷ 2 ∷ []) (padded (bytes prevalente)));
+    } ∷ [])
 
 abbrev person : Key
 person = keyWritten "010" "101" "2018-05-01" letters
@@ -84,7 +89,7 @@ answered prevalente =
 
 -- the first bytes of the row that an accepted insertion leaves behind the header
 abbrev rowOf : Key → List ℕ
-rowOf key = take 6 (drop 4 (encode siad 95 (next (admitted key "250") empty)))
+rowOf key = take 6 (drop 4 (encode siad (4 + rowBytes) (next (admitted key "250") empty)))
 
 abbrev pub holds : PCase → Bool
 holds (is-day t n) = isDate (bytes t) && eqb (dayOf (bytes t)) n
@@ -114,10 +119,10 @@ cases =
     -- P4: "prevalente `000` gives 13, in either track", "`0000` doesn't: the same records give 0"
     gives-13 "000" ∷
     gives-no-13 "0000" ∷
-    -- P5: "a zero register of 4 or of 94 bytes is sound, with room 0", "one of 95 is, with room 1"
+    -- P5: "a zero register of 4 or of 99 bytes is sound, with room 0", "one of 100 is, with room 1"
     zero-register 4 0 ∷
-    zero-register 94 0 ∷
-    zero-register 95 1 ∷
+    zero-register 99 0 ∷
+    zero-register 100 1 ∷
     -- P6: "region 010, ASL 101, 2018-05-01, Id_Rec of letters A", "the row begins 0A 62 C1 8A A3 4E"
     row-begins "010" "101" "2018-05-01" letters (0x0A ∷ 0x62 ∷ 0xC1 ∷ 0x8A ∷ 0xA3 ∷ 0x4E ∷ []) ∷
     []

@@ -1,6 +1,6 @@
 -- What the events of an accepted record can have for an end (10): none, or a day of a quarter that can be declared. This is what `old-unsound`
 -- (soundness/proofs/OldRegister) asks of an event.
-use Prim.Native.Nat.{ℕ, _-_, _*_, _^_, _≤_}
+use Prim.Native.Nat.{ℕ, _-_, _*_, _≤_}
 use mathlib.Core.Path.{_≡_, refl, ap, sym, _∙_}
 use mathlib.Core.Bool.{Bool, true, false, _&&_}
 use mathlib.Core.Logic.{inl, inr}
@@ -18,13 +18,14 @@ use Rattle.days.proofs.Months.{first-mono}
 use Rattle.model.specs.Checks.{first}
 use Rattle.model.specs.Flow.{State}
 use Rattle.model.proofs.ChecksLaws.{clear}
-use Rattle.home_care.specs.Row.{never, eventBits, kindOf, endOf, dateOf, eventIn}
+use Rattle.home_care.specs.Row.{never, kindOf, endOf, dateOf, eventIn}
 use Rattle.home_care.specs.Record.{Head, Said, events, eventNumbers}
 use Rattle.home_care.specs.Allowed.{eventAllowed, endAllowed}
 use Rattle.home_care.specs.Anomalies.{Context, outOfQuarter, dayFor}
 use Rattle.home_care.proofs.OldRows.{firstDeclared, EndsDeclared}
 use Rattle.checks.specs.CheckOrder.{checksOf}
 use Rattle.checks.specs.Readable.{eventReadable}
+use Rattle.checks.proofs.RowsAllowed.{number-allowed}
 use Rattle.checks.proofs.Accepted.{numbered}
 
 -- no quarter that can be declared begins earlier
@@ -58,7 +59,7 @@ module _ (c : Context) (begins : firstDeclared ≤ c .first) where
   each [] w h = tt
   each (e ∷ es) w h =
       let r = and-left (eventReadable e) (all eventReadable es) w in (
-        one (e .event) (and-right (ltb (e .event) (2 ^ eventBits)) (eventAllowed (eventIn (e .event))) r) (or-left (outOfQuarter c (dayFor (e .event))) _ h),
+        one (e .event) (number-allowed e r) (or-left (outOfQuarter c (dayFor (e .event))) _ h),
         each es (and-right (eventReadable e) (all eventReadable es) w) (or-right (outOfQuarter c (dayFor (e .event))) _ h),
       )
 

@@ -1,5 +1,5 @@
 -- An accepted record leaves a sound state sound.
-use Prim.Native.Nat.{ℕ, _+_, _≤_, _<_, _^_}
+use Prim.Native.Nat.{ℕ, _+_, _≤_}
 use mathlib.Core.Path.{_≡_, refl, sym, ap, _∙_, subst}
 use mathlib.Core.Logic.{⊎-elim}
 use mathlib.Core.Bool.{Bool, true, false, cond, not, _&&_, _||_}
@@ -8,7 +8,7 @@ use mathlib.Core.Option.{Option, none}
 use native.Mathlib.Decide.{ℕ-discrete}
 use lib.Dec.{eqb, ltb}
 use lib.ListN.{length}
-use borrow.Author.Tests.{eqb-true, ltb-true, not-true, not-false}
+use borrow.Author.Tests.{eqb-true, not-true, not-false}
 use Rattle.laws.specs.Lists.{all, any}
 use Rattle.laws.proofs.Truth.{and-left, and-right, or-left, or-right}
 use Rattle.laws.proofs.Every.{and-tell}
@@ -25,10 +25,10 @@ use Rattle.register.specs.Layout.{caseNamed}
 use Rattle.register.specs.RoomAndEmptying.{room}
 use Rattle.register.specs.Sound.{eventsOf, valid}
 use Rattle.register.specs.Stored.{Fits, cases as caseGroup, events as eventGroup}
-use Rattle.home_care.specs.Row.{eventBits, keyNumber, siad, takenIn, eventNumberIn, eventRow, dateOf, endOf, eventIn}
+use Rattle.home_care.specs.Row.{keyNumber, siad, takenIn, eventNumberIn, eventRow, dateOf, endOf}
 use Rattle.home_care.proofs.Table.{key-lt}
 use Rattle.home_care.specs.Anomalies.{isSuspension, t23, t25, Context}
-use Rattle.home_care.specs.Allowed.{caseRowAllowed, eventAllowed, eventRowAllowed}
+use Rattle.home_care.specs.Allowed.{caseRowAllowed, eventRowAllowed}
 use Rattle.home_care.specs.Record.{Head, Admission, Said, Record, admission, events, eventNumbers, typeOf}
 use Rattle.home_care.proofs.ReadBack.{taken-read, event-read}
 use Rattle.soundness.specs.Sound.{eventsFree, siadRules}
@@ -37,7 +37,7 @@ use Rattle.checks.specs.CheckOrder.{checksOf, afterwards}
 use Rattle.checks.specs.Readable.{Readable, KeyReadable, CaseReadable, eventReadable}
 use Rattle.checks.proofs.Accepted.{numbered, lawful, not17}
 use Rattle.checks.proofs.RowTests.{all-cases, all-events, keep-within, sized, sized-fits, fits-sized, kept-all}
-use Rattle.checks.proofs.RowsAllowed.{case-row-sized, case-row-allowed, each-row, event-row-allowed, event-row-sized, row-case}
+use Rattle.checks.proofs.RowsAllowed.{case-row-sized, case-row-allowed, number-lt, evaluation-lt, each-row, passes, all-pass, event-row-allowed, event-row-sized, row-case}
 use Rattle.checks.proofs.Valid.{Sound, Parts, parts-of, valid-of, freeOf, free-any, ends, all-ends, five, free-23}
 
 -- Track 2: nothing is carried away besides
@@ -61,11 +61,10 @@ unfolding all any eventNumbers eventRows
 new-ends c q f [] w h = refl
 new-ends c q f (e ∷ es) w h =
     let r : eventReadable e ≡ true = and-left (eventReadable e) (all eventReadable es) w in
-    let l : e .event < 2 ^ eventBits = ltb-true (e .event) (2 ^ eventBits) (and-left (ltb (e .event) (2 ^ eventBits)) (eventAllowed (eventIn (e .event))) r) in
     let now : Bool = isSuspension (e .event) && ltb (endOf (e .event)) (dateOf (e .event)) in
-    and-tell (q (eventRow c (e .event))) (all q (eventRows c es))
-    (f (eventRow c (e .event))
-    (ap (λ (x : ℕ). not (isSuspension x && ltb (endOf x) (dateOf x))) (event-read c (e .event) l) ∙ ap not (or-left now (t23 (eventNumbers es)) h)))
+    and-tell (q (eventRow c (e .event) (e .evaluation))) (all q (eventRows c es))
+    (f (eventRow c (e .event) (e .evaluation))
+    (ap (λ (x : ℕ). not (isSuspension x && ltb (endOf x) (dateOf x))) (event-read c (e .event) (e .evaluation) (number-lt e r) (evaluation-lt e r)) ∙ ap not (or-left now (t23 (eventNumbers es)) h)))
     (new-ends c q f es (and-right (eventReadable e) (all eventReadable es) w) (or-right now (t23 (eventNumbers es)) h))
 
 module _ (n : ℕ) (s : State ℕ ℕ) (p : Parts n s) where
@@ -227,7 +226,7 @@ module _ (c : Context) (n : ℕ) (r-is : c .room ≡ room siad n) (s : State ℕ
           few = g .1;
           cases-allowed = ap (all caseRowAllowed) sc ∙ p .cases-allowed;
           events-allowed =
-              all-events [] rows nothing s eventRowAllowed t2 (each-row own eventRowAllowed es w (event-row-allowed own)) (p .events-allowed);
+              all-events [] rows nothing s eventRowAllowed t2 (each-row own eventRowAllowed passes (event-row-allowed own) es (all-pass es w (passed2 21) (passed2 13))) (p .events-allowed);
           good = g .0;
           tied = λ k q. ap (λ (m : Map ℕ). has (caseNamed siad k) m) sc ∙ tied2 n s p own es w t2 (passed2 24) k q;
           free = λ k q. all-free k (ℕ-discrete k own);
@@ -237,7 +236,7 @@ module _ (c : Context) (n : ℕ) (r-is : c .room ≡ room siad n) (s : State ℕ
     fits2 f =
         sized-fits eventGroup (next (events h es) s .events)
         (all-events [] rows nothing s (sized eventGroup) t2
-        (each-row own (sized eventGroup) es w (event-row-sized own (key-lt (h .key) (kr .fits))))
+        (each-row own (sized eventGroup) eventReadable (event-row-sized own (key-lt (h .key) (kr .fits))) es w)
         (fits-sized eventGroup (s .events) f))
 
   -- an accepted record that was read leaves a valid state

@@ -1,8 +1,9 @@
 pub mod RecordTypes
 pub mod Accepted
-pub mod Declared
 pub mod RowTests
 pub mod RowsAllowed
+pub mod Declared
+pub mod Evaluated
 pub mod Valid
 pub mod Kept
 pub mod WellReadable

@@ -43,7 +43,7 @@ abbrev review : ℕ → ℕ → Event
 review motive d = eventWith revaluation (day d) motive never 0 1
 
 abbrev row : Event → Row ℕ
-row e = eventRow (keyNumber key) (eventNumber e)
+row e = eventRow (keyNumber key) (eventNumber e) 0
 
 abbrev standing : List Event → State ℕ ℕ
 standing es = record { cases = caseRow key (caseSaid "0000") ∷ []; events = rows es }
@@ -97,7 +97,7 @@ visit-fits code h = record { kind = omega arith; date = omega arith; code = h; e
 -- two operators, two keys, by what the records say
 pub two-keys : row (nurse 10) .key ≡ row (physio 10) .key → ⊥
 two-keys e =
-    let q : _≡_ {A = ℕ} 2 7 = key-words key key (nurse 10) (physio 10) key-fits key-fits (visit-fits 2 (omega arith)) (visit-fits 7 (omega arith)) .0 e .own .operator refl in
+    let q : _≡_ {A = ℕ} 2 7 = key-words key key (nurse 10) (physio 10) 0 0 key-fits key-fits (visit-fits 2 (omega arith)) (visit-fits 7 (omega arith)) (omega arith) (omega arith) .0 e .own .operator refl in
     omega arith
 
 small : keyNumber key < 2 ^ keyBits
@@ -105,7 +105,7 @@ unfolding packs firstOf
 small = ltb-true (keyNumber key) (2 ^ keyBits) refl
 
 sized : (e : Event) → eventNumber e < 2 ^ eventBits → Sized stored.events siad (row e)
-sized e h = event-sized (keyNumber key) (eventNumber e) h small
+sized e h = event-sized (keyNumber key) (eventNumber e) 0 h (omega arith) small
 
 -- two motives, one key, by the rows
 pub one-key : row (review 1 12) .key ≡ row (review 2 12) .key

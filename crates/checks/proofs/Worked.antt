@@ -63,7 +63,7 @@ abbrev conclusion : ℕ → Event
 conclusion d = eventWith 3 (day d) 1 never 0 0
 
 abbrev pub said : Event → Said
-said e = record { event = eventNumber e; valued = false; prevalente = [] }
+said e = record { event = eventNumber e; valued = false; prevalente = []; evaluation = 0 }
 
 abbrev pub send : Char → List Event → Record
 send t es = events (head t) (map said es)
@@ -115,7 +115,7 @@ abbrev before : State ℕ ℕ
 before =
     record {
       cases = caseRow key (caseSaid "0000") ∷ [];
-      events = eventRow (keyNumber key) (eventNumber (visit 10 1)) ∷ eventRow (keyNumber key) (eventNumber (visit 11 1)) ∷ [];
+      events = eventRow (keyNumber key) (eventNumber (visit 10 1)) 0 ∷ eventRow (keyNumber key) (eventNumber (visit 11 1)) 0 ∷ [];
     }
 
 pub stood : run (siadMachine context) empty (case "I" "0000" ∷ send "I" (visit 10 1 ∷ visit 11 1 ∷ []) ∷ []) ≡ before

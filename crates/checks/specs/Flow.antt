@@ -20,7 +20,7 @@ caseRow k c = record { key = keyNumber k; val = caseNumber c * 2 ^ (caseRest sia
 -- the rows of the events of the case c
 unfoldable pub eventRows : ℕ → List Said → Map ℕ
 eventRows c [] = []
-eventRows c (e ∷ es) = eventRow c (e .event) ∷ eventRows c es
+eventRows c (e ∷ es) = eventRow c (e .event) (e .evaluation) ∷ eventRows c es
 
 abbrev pub caseRowsIn : Record → Map ℕ
 caseRowsIn (admission h a) = caseRow (h .key) (a .case) ∷ []

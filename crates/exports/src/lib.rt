@@ -6,6 +6,8 @@ ghost use Rattle.soundness.specs.Finding.{found};
 ghost use Rattle.intake.specs.FileAnswers.{callOf, submitted};
 ghost use Rattle.cancellation.specs.FileText.{caseTexts};
 ghost use Rattle.cancellation.specs.CancelFile.{cancelFile, CancelTold};
+ghost use Rattle.evaluation.specs.InForce.{evaluated};
+ghost use Rattle.widening.specs.Converted.{converted};
 ghost use Rattle.exports.specs.Told.{laidOver, Told};
 use soundness::find::Lookup;
 
@@ -115,4 +117,31 @@ pub extern "C" fn siad_cancel_file(
     let written = cancellation::write::cancel_file(reg, region, asl, date, id, year, quarter, out);
     *length = written.length as u64;
     written.answer
+}
+
+// The evaluation of a case in force on a day: 0 with six numbers and the prevalente's five characters; or 3 or 30, as finding answers, 30 also for a day that is
+// none or is before the taking in, and then zeros.
+#[no_mangle]
+pub extern "C" fn siad_evaluation(
+    reg: &[u8],
+    region: &[u8],
+    asl: &[u8],
+    date: &[u8],
+    id: &[u8],
+    day: &[u8],
+    fields: &mut [u8; 11],
+) -> u64
+    ensures { λ r. ⌜ (r ≡ evaluated (now (reg .entry)) (now (region .entry)) (now (asl .entry)) (now (date .entry)) (now (id .entry)) (now (day .entry)) .answer)
+        × (now (fields .exit) ≡ evaluated (now (reg .entry)) (now (region .entry)) (now (asl .entry)) (now (date .entry)) (now (id .entry)) (now (day .entry)) .fields) ⌝ }
+{
+    let t = days::table::make();
+    evaluation::in_force::evaluation(&t, reg, region, asl, date, id, day, fields)
+}
+
+// A register in rows of 91 bytes converted into a new one: 0; or 3 for any other register, 33 where the new one is too short, and then no byte changes.
+#[no_mangle]
+pub extern "C" fn siad_convert(old: &[u8], new: &mut [u8]) -> u64
+    ensures { λ r. ⌜ (r ≡ converted (now (old .entry)) (now (new .entry)) .answer) × (now (new .exit) ≡ converted (now (old .entry)) (now (new .entry)) .register) ⌝ }
+{
+    widening::convert::convert(old, new)
 }

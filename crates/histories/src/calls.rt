@@ -1,4 +1,5 @@
 // A script's commands: what each lends to the exported calls.
+use crate::rows;
 use crate::shown;
 use crate::words::number;
 use crate::words::size;
@@ -28,19 +29,19 @@ pub fn read(path: &[u8], buf: &mut [u8]) -> usize {
     n
 }
 
-// Blanks from a place on.
-fn blank(buf: &mut [u8], from: usize) {
+// One byte from a place on.
+pub fn fill(buf: &mut [u8], from: usize, b: u8) {
     let mut i = from;
     while i < buf.len() {
-        buf[i] = b' ';
+        buf[i] = b;
         i += 1;
     }
 }
 
-fn is_blank(s: &[u8], from: usize) -> bool {
+pub fn is_filled(s: &[u8], from: usize, b: u8) -> bool {
     let mut i = from;
     while i < s.len() {
-        if s[i] != b' ' {
+        if s[i] != b {
             return false;
         }
         i += 1;
@@ -110,7 +111,7 @@ fn submit_file(line: &[u8], list: usize, reg: &mut [u8], sub: &mut [u8]) {
 // With blanks behind the file, up to so many bytes.
 fn submit_padded(line: &[u8], list: usize, reg: &mut [u8], sub: &mut [u8]) {
     let n = read(word(line, 5), sub);
-    blank(sub, n);
+    fill(sub, n, b' ');
     submit(
         part(sub, 0, size(line, 1)),
         number(line, 2),
@@ -141,7 +142,7 @@ fn find(line: &[u8], id: &[u8], reg: &[u8]) {
 }
 
 // An Id_Rec of one character is written for 88 of it.
-fn in_full<'a>(id: &'a [u8], whole: &'a [u8]) -> &'a [u8] {
+pub fn in_full<'a>(id: &'a [u8], whole: &'a [u8]) -> &'a [u8] {
     if id.len() == 1 { whole } else { id }
 }
 
@@ -171,7 +172,7 @@ fn cancel(line: &[u8], id: &[u8], reg: &[u8], out: &mut [u8]) -> usize {
 
 // The output is blank before.
 fn cancel_case(line: &[u8], reg: &[u8], out: &mut [u8]) -> usize {
-    blank(out, 0);
+    fill(out, 0, b' ');
     let id = word(line, 5);
     let whole = [peek(id, 0); 88];
     cancel(line, in_full(id, &whole), reg, out)
@@ -197,7 +198,7 @@ fn write(line: &[u8], held: Held, reg: &[u8], out: &mut [u8]) -> Held {
 fn compare(path: &[u8], held: Held, sub: &mut [u8], out: &[u8]) {
     let n = read(path, sub);
     let written = (n == held.file) & same(part(sub, 0, n), part(out, 0, n));
-    if written & is_blank(part(out, 0, held.output), n) {
+    if written & is_filled(part(out, 0, held.output), n, b' ') {
         shown::put(b"same\n");
     } else {
         shown::put(b"differs\n");
@@ -229,6 +230,8 @@ fn call(line: &[u8], held: Held, reg: &mut [u8], sub: &mut [u8], out: &[u8]) {
         shown::answer(exports::siad_sound(reg));
     } else if same(name, b"find") {
         find_case(line, reg);
+    } else if same(name, b"evaluation") {
+        rows::evaluation_of(line, reg);
     } else if same(name, b"empty") {
         shown::answer(exports::siad_empty(reg));
         shown::standing(reg);
@@ -252,7 +255,7 @@ fn load(path: &[u8], reg: &mut [u8]) -> usize {
 }
 
 // The same with a register of so many bytes.
-fn lending(held: Held, register: usize) -> Held {
+pub fn lending(held: Held, register: usize) -> Held {
     Held {
         register,
         list: held.list,
@@ -281,6 +284,9 @@ pub fn command(line: &[u8], held: Held, reg: &mut [u8], sub: &mut [u8], out: &mu
             output: held.output,
             file: held.file,
         };
+    }
+    if same(name, b"convert") {
+        return rows::convert(size(line, 1), held, reg, sub);
     }
     let n = held.register;
     if reg.len() < n {

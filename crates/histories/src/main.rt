@@ -10,8 +10,11 @@
 //   cancel N REGION ASL DATE ID YEAR QUARTER   writes a cancellation file into an output of N blanks; answer and length
 //   text FILE                              whether that output is now the file's bytes and the blanks that were behind them: `same` or `differs`
 //   undo YEAR QUARTER                      submits what was written as Track 2, as `submit` does
+//   evaluation REGION ASL DATE ID DAY      the evaluation in force: answer and eleven numbers (77 before)
+//   convert N                              converts into a new register of N bytes 77, held from then on; else whether these stayed
 //   # ...                                  a comment
 mod calls;
+mod rows;
 mod shown;
 mod words;
 

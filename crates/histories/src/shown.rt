@@ -47,6 +47,34 @@ pub fn length(answer: u64, n: u64) {
     answer_with(answer, b" length ", n);
 }
 
+// An answer and the eleven bytes of an evaluation.
+pub fn evaluation(answer: u64, fields: &[u8; 11]) {
+    put(b"evaluation ");
+    number(answer);
+    let mut i = 0;
+    while i < 11 {
+        put(b" ");
+        number(wide(fields[i]));
+        i += 1;
+    }
+    put(b"\n");
+}
+
+pub fn converted() {
+    put(b"convert 0\n");
+}
+
+// A conversion that was refused: whether the new register stayed.
+pub fn refused(answer: u64, stayed: bool) {
+    put(b"convert ");
+    number(answer);
+    if stayed {
+        put(b" same\n");
+    } else {
+        put(b" differs\n");
+    }
+}
+
 // The register's bytes as one number, the first byte the most significant, by the prime: every byte counts, and its place too.
 fn sum(reg: &[u8]) -> u64 {
     let mut s: u64 = 0;

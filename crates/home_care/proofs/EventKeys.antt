@@ -18,7 +18,7 @@ use Rattle.register.specs.Layout.{eventRest, caseNamed}
 use Rattle.register.specs.State.{unsplit, keyBy}
 use Rattle.register.specs.Stored.{events, splitOf, Sized}
 use Rattle.register.proofs.MixedKeys.{number-of, split-by, key-below, key-same}
-use Rattle.home_care.specs.Row.{eventWidths, eventBits, ownBits, pastOwn, codeBits, dayBits, kindBits, siad, homeCare, eventZerosWide, kindOf, dateOf, codeOf, kindIn, spareBits, eventNumberInWide, eventKeyOf}
+use Rattle.home_care.specs.Row.{eventWidths, eventBits, ownBits, pastOwn, codeBits, dayBits, kindBits, siad, homeCare, tailBitsWide, kindOf, dateOf, codeOf, kindIn, spareBits, eventNumberInWide, eventKeyOf}
 use Rattle.home_care.specs.EventRows.{ownBitsOf}
 use Rattle.home_care.specs.Fits.{RowWidth}
 use Rattle.home_care.proofs.Laid.{laid-wide, laid-siad}
@@ -107,7 +107,7 @@ module _ (a p : ℕ) where
 
 -- ---- in a row: the case's key, then the event's own
 
--- the first bits of a row, without the zero bits: its key
+-- the first bits of a row, without its tail: its key
 key-first-by : (f : ℕ) (b : Bool) → keyBy (cond b 0 codeBits) (f / 2 ^ pastOwn) ≡ f / 2 ^ eventBits * 2 ^ ownBits + keyBy (cond b 0 codeBits) (f % 2 ^ eventBits / 2 ^ pastOwn)
 key-first-by f true = omega arith
 key-first-by f false = omega arith
@@ -119,25 +119,25 @@ key-first f =
 
 -- the event that is read in a row has 52 bits
 pub narrow : (w : ℕ) (r : Row ℕ) → eventNumberInWide w r < 2 ^ eventBits
-narrow w r = mod-lt (unsplit (eventRest (homeCare w)) r / 2 ^ eventZerosWide w) (pow-pos eventBits)
+narrow w r = mod-lt (unsplit (eventRest (homeCare w)) r / 2 ^ tailBitsWide w) (pow-pos eventBits)
 
 module _ (w : ℕ) (h : RowWidth w) where
   -- a row cut behind its key
-  pub key-cut : (n : ℕ) → splitOf events (homeCare w) n .key ≡ n / 2 ^ eventZerosWide w / 2 ^ eventBits * 2 ^ ownBits + eventKeyOf (fieldAt (eventZerosWide w) eventBits n)
+  pub key-cut : (n : ℕ) → splitOf events (homeCare w) n .key ≡ n / 2 ^ tailBitsWide w / 2 ^ eventBits * 2 ^ ownBits + eventKeyOf (fieldAt (tailBitsWide w) eventBits n)
   key-cut n =
-      let e : eventRest (homeCare w) ≡ eventZerosWide w + pastOwn = omega arith in
-      ap (λ (q : ℕ). keyBy (homeCare w .spare q) q) (ap (λ (k : ℕ). n / 2 ^ k) e ∙ sym (shr-shr n (eventZerosWide w) pastOwn))
-      ∙ key-first (n / 2 ^ eventZerosWide w)
+      let e : eventRest (homeCare w) ≡ tailBitsWide w + pastOwn = omega arith in
+      ap (λ (q : ℕ). keyBy (homeCare w .spare q) q) (ap (λ (k : ℕ). n / 2 ^ k) e ∙ sym (shr-shr n (tailBitsWide w) pastOwn))
+      ∙ key-first (n / 2 ^ tailBitsWide w)
 
   -- a row's key is that of its case and the own one of its event
   pub cut-parts : (n : ℕ) → splitOf events (homeCare w) n .key ≡
       caseNamed (homeCare w) (splitOf events (homeCare w) n .key) * 2 ^ ownBits + eventKeyOf (eventNumberInWide w (splitOf events (homeCare w) n))
   cut-parts n =
-      let e : ℕ = fieldAt (eventZerosWide w) eventBits n in
+      let e : ℕ = fieldAt (tailBitsWide w) eventBits n in
       let k = key-cut n in
-      let l : eventKeyOf e < 2 ^ ownBits = own-lt e (mod-lt (n / 2 ^ eventZerosWide w) (pow-pos eventBits)) in
+      let l : eventKeyOf e < 2 ^ ownBits = own-lt e (mod-lt (n / 2 ^ tailBitsWide w) (pow-pos eventBits)) in
       let c : splitOf events (homeCare w) n .key ≡ caseNamed (homeCare w) (splitOf events (homeCare w) n .key) * 2 ^ ownBits + eventKeyOf e = omega arith in
-      c ∙ ap (λ (m : ℕ). caseNamed (homeCare w) (splitOf events (homeCare w) n .key) * 2 ^ ownBits + eventKeyOf (fieldAt (eventZerosWide w) eventBits m)) (sym (number-of events (homeCare w) n))
+      c ∙ ap (λ (m : ℕ). caseNamed (homeCare w) (splitOf events (homeCare w) n .key) * 2 ^ ownBits + eventKeyOf (fieldAt (tailBitsWide w) eventBits m)) (sym (number-of events (homeCare w) n))
 
   pub row-parts : (r : Row ℕ) → Sized events (homeCare w) r → r .key ≡ caseNamed (homeCare w) (r .key) * 2 ^ ownBits + eventKeyOf (eventNumberInWide w r)
   row-parts r s =

@@ -12,31 +12,31 @@ use Rattle.register.specs.Search.{keyAt, Rises, Placed}
 use Rattle.register.specs.Stored.{events, splitOf}
 use Rattle.register.proofs.MixedKeys.{number-of}
 use Rattle.register.proofs.Places.{under-by, over-by}
-use Rattle.home_care.specs.Row.{rowBytes, keyBits, eventBits, eventZeros, ownBits, siad, eventKeyOf}
+use Rattle.home_care.specs.Row.{rowBytes, keyBits, eventBits, tailBits, ownBits, siad, eventKeyOf}
 use Rattle.home_care.specs.EventRows.{eventAt, eventKeyAt, Climbs, OwnPlaced, ownBitsOf}
 use Rattle.home_care.proofs.Laid.{row-width}
 use Rattle.home_care.proofs.EventKeys.{own-below, own-rise, key-cut}
 
 module _ (reg : List ℕ) where
-  pub event-bits : (i : ℕ) → eventAt reg i ≡ fieldAt eventZeros eventBits (rowIn siad reg i)
-  event-bits i = ap (fieldAt eventZeros eventBits) (number-of events siad (rowIn siad reg i))
+  pub event-bits : (i : ℕ) → eventAt reg i ≡ fieldAt tailBits eventBits (rowIn siad reg i)
+  event-bits i = ap (fieldAt tailBits eventBits) (number-of events siad (rowIn siad reg i))
 
   -- the first k bits behind the case's key
   pub first-bits : (k i : ℕ) → k ≤ eventBits → fieldIn rowBytes keyBits k reg i ≡ eventAt reg i / 2 ^ (eventBits - k)
   unfolding fieldIn rowIn
   first-bits k i h =
       let n : ℕ = rowIn siad reg i in
-      let e : 8 * rowBytes - (keyBits + k) ≡ eventZeros + (eventBits - k) = omega arith in
+      let e : 8 * rowBytes - (keyBits + k) ≡ tailBits + (eventBits - k) = omega arith in
       let f : eventBits ≡ k + (eventBits - k) = omega arith in
       ap (λ (j : ℕ). n / 2 ^ j % 2 ^ k) e
-      ∙ ap (λ (m : ℕ). m % 2 ^ k) (sym (shr-shr n eventZeros (eventBits - k)))
-      ∙ sym (ap (λ (j : ℕ). n / 2 ^ eventZeros % 2 ^ j / 2 ^ (eventBits - k)) f ∙ field (n / 2 ^ eventZeros) k (eventBits - k))
+      ∙ ap (λ (m : ℕ). m % 2 ^ k) (sym (shr-shr n tailBits (eventBits - k)))
+      ∙ sym (ap (λ (j : ℕ). n / 2 ^ tailBits % 2 ^ j / 2 ^ (eventBits - k)) f ∙ field (n / 2 ^ tailBits) k (eventBits - k))
       ∙ ap (λ (e : ℕ). e / 2 ^ (eventBits - k)) (sym (event-bits i))
 
   -- a row's key is that of its case and the own one
-  case-bits : (i : ℕ) → rowIn siad reg i / 2 ^ eventZeros / 2 ^ eventBits ≡ keyAt rowBytes keyBits reg i
+  case-bits : (i : ℕ) → rowIn siad reg i / 2 ^ tailBits / 2 ^ eventBits ≡ keyAt rowBytes keyBits reg i
   unfolding keyAt rowIn
-  case-bits i = shr-shr (rowIn siad reg i) eventZeros eventBits
+  case-bits i = shr-shr (rowIn siad reg i) tailBits eventBits
 
   pub key-at-row : (i : ℕ) → splitOf events siad (rowIn siad reg i) .key ≡ keyAt rowBytes keyBits reg i * 2 ^ ownBits + eventKeyAt reg i
   key-at-row i =

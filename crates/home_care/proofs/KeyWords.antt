@@ -10,7 +10,7 @@ use Rattle.codes.specs.CodesAndCharacters.{service}
 use Rattle.model.specs.Map.{Row}
 use Rattle.register.specs.Layout.{caseNamed}
 use Rattle.register.specs.Stored.{events, Sized}
-use Rattle.home_care.specs.Row.{Key, Event, rowBytes, siad, keyNumber, eventNumber, eventRow, eventNumberIn, eventIn, eventBits, ownBits, codeBits, kindOf, codeOf, eventKeyOf}
+use Rattle.home_care.specs.Row.{Key, Event, rowBytes, siad, keyNumber, eventNumber, eventRow, eventNumberIn, eventIn, eventBits, evaluationBits, ownBits, codeBits, kindOf, codeOf, eventKeyOf}
 use Rattle.home_care.specs.Fits.{KeyFits, EventFits}
 use Rattle.home_care.specs.Keys.{OwnAgree, OneKey}
 use Rattle.home_care.proofs.Laid.{row-width}
@@ -56,8 +56,8 @@ module _ (a b : ℕ) (ha : a < 2 ^ eventBits) (hb : b < 2 ^ eventBits) where
 both-parts : (c d a b : ℕ) → a < 2 ^ ownBits → b < 2 ^ ownBits → c * 2 ^ ownBits + a ≡ d * 2 ^ ownBits + b → (c ≡ d) × (a ≡ b)
 both-parts c d a b h g e = (omega arith, omega arith)
 
--- of what records say
-module _ (k l : Key) (a b : Event) (hk : KeyFits k) (hl : KeyFits l) (ha : EventFits a) (hb : EventFits b) where
+-- of what records say, whatever evaluations are kept beside it
+module _ (k l : Key) (a b : Event) (u v : ℕ) (hk : KeyFits k) (hl : KeyFits l) (ha : EventFits a) (hb : EventFits b) (hu : u < 2 ^ evaluationBits) (hv : v < 2 ^ evaluationBits) where
   abbrev m : ℕ
   m = eventNumber a
 
@@ -67,19 +67,19 @@ module _ (k l : Key) (a b : Event) (hk : KeyFits k) (hl : KeyFits l) (ha : Event
   back : OwnAgree (eventIn m) (eventIn n) ≡ OwnAgree a b
   back = ap₂ OwnAgree (event-back a ha) (event-back b hb)
 
-  parts : (eventRow (keyNumber k) m .key ≡ keyNumber k * 2 ^ ownBits + eventKeyOf m) × (eventRow (keyNumber l) n .key ≡ keyNumber l * 2 ^ ownBits + eventKeyOf n)
-  parts = (event-key (keyNumber k) m (event-lt a ha), event-key (keyNumber l) n (event-lt b hb))
+  parts : (eventRow (keyNumber k) m u .key ≡ keyNumber k * 2 ^ ownBits + eventKeyOf m) × (eventRow (keyNumber l) n v .key ≡ keyNumber l * 2 ^ ownBits + eventKeyOf n)
+  parts = (event-key (keyNumber k) m u (event-lt a ha) hu, event-key (keyNumber l) n v (event-lt b hb) hv)
 
-  pub key-words : (eventRow (keyNumber k) m .key ≡ eventRow (keyNumber l) n .key) ↔ OneKey k l a b
+  pub key-words : (eventRow (keyNumber k) m u .key ≡ eventRow (keyNumber l) n v .key) ↔ OneKey k l a b
   key-words = (to, from)
     where
-      to : eventRow (keyNumber k) m .key ≡ eventRow (keyNumber l) n .key → OneKey k l a b
+      to : eventRow (keyNumber k) m u .key ≡ eventRow (keyNumber l) n v .key → OneKey k l a b
       to h =
           let w = both-parts (keyNumber k) (keyNumber l) (eventKeyOf m) (eventKeyOf n) (own-lt m (event-lt a ha)) (own-lt n (event-lt b hb)) (sym (parts .0) ∙ h ∙ parts .1) in
           let g = subst (λ (t : Type 0). t) back (own-words m n (event-lt a ha) (event-lt b hb) .0 (w .1)) in
           record { case = key-injective k l hk hl (w .0); own = g }
 
-      from : OneKey k l a b → eventRow (keyNumber k) m .key ≡ eventRow (keyNumber l) n .key
+      from : OneKey k l a b → eventRow (keyNumber k) m u .key ≡ eventRow (keyNumber l) n v .key
       from h =
           parts .0
           ∙ ap₂ (λ (c o : ℕ). c * 2 ^ ownBits + o) (ap keyNumber (h .case)) (own-words m n (event-lt a ha) (event-lt b hb) .1 (subst (λ (t : Type 0). t) (sym back) (h .own)))

@@ -6,7 +6,7 @@ use native.Mathlib.Omega.{arith}
 use lib.Dec.{eqb}
 use Rattle.codes.specs.CodesAndCharacters.{service}
 use Rattle.register.specs.Stored.{Laid}
-use Rattle.home_care.specs.Row.{rowBytes, codeBits, ownBits, spareBits, kindIn, homeCare, siad}
+use Rattle.home_care.specs.Row.{rowBytes, oldBytes, codeBits, ownBits, spareBits, kindIn, homeCare, siad}
 use Rattle.home_care.specs.Fits.{RowWidth}
 
 pub laid-wide : (w : ℕ) → RowWidth w → Laid (homeCare w)
@@ -31,12 +31,9 @@ laid-wide w h =
 pub row-width : RowWidth rowBytes
 row-width = record { least = omega arith; most = omega arith }
 
--- the widest rows that are read
-abbrev pub widest : ℕ
-widest = 96
-
-pub widest-width : RowWidth widest
-widest-width = record { least = omega arith; most = omega arith }
+-- so have those of before
+pub old-width : RowWidth oldBytes
+old-width = record { least = omega arith; most = omega arith }
 
 pub laid-siad : Laid siad
 laid-siad = laid-wide rowBytes row-width

@@ -1,15 +1,15 @@
 -- The fields of a row where `get` and `read_run` find them.
 use Prim.Native.Nat.{ℕ, _+_, _-_, _*_, _/_, _%_, _^_, _≤_, _<_}
 use mathlib.Core.Path.{_≡_, refl, sym, ap, ap₂, _∙_}
-use mathlib.Core.Bool.{Bool, true, false, not, _&&_, _||_}
+use mathlib.Core.Bool.{Bool, true, false, not, _&&_, _||_, and-true, and-false}
 use mathlib.Core.List.{List, [], _∷_, _++_}
 use native.Mathlib.Nat.{div-one}
 use native.Mathlib.Omega.{arith}
 use lib.Dec.{eqb, ltb, leb}
 use lib.ListN.{length, take, drop, getD, replicate}
 use lib.Pow.{field, mod-mod-pow, shr-shr}
-use lib.Seq.{take-at}
-use borrow.Author.Tests.{ltb-true}
+use lib.Seq.{take-at, drop-at}
+use borrow.Author.Tests.{ltb-true, eq-eqb, ne-eqb}
 use Rattle.laws.specs.Lists.{all}
 use Rattle.laws.proofs.Truth.{and-left, and-right}
 use Rattle.codes.specs.CodesAndCharacters.{inRanges, alnums, idChars, regions}
@@ -20,10 +20,10 @@ use Rattle.register.specs.Layout.{eventRest}
 use Rattle.register.specs.State.{unsplit}
 use Rattle.register.specs.Stored.{events}
 use Rattle.register.proofs.MixedKeys.{number-of}
-use Rattle.home_care.specs.Row.{Key, charBits, dayBits, keyWidths, caseWidths, keyBits, caseBits, eventBits, homeCare, caseZerosWide, eventZerosWide, keyIn, caseOf, caseInWide, casePadWide, eventNumberInWide, eventIn, eventPadWide}
+use Rattle.home_care.specs.Row.{Key, charBits, dayBits, keyWidths, caseWidths, evaluationWidths, keyBits, caseBits, eventBits, evaluationBits, rowBytes, homeCare, evaluationIn, caseZerosWide, tailBitsWide, zeroBitsWide, keyIn, caseOf, evaluationOf, evaluates, caseInWide, casePadWide, eventNumberInWide, eventIn, tailInWide}
 use Rattle.home_care.specs.Fits.{RowWidth, asCase, asEvent}
 use Rattle.home_care.specs.Anomalies.{firstBirth}
-use Rattle.home_care.specs.Allowed.{keyAllowed, prevalenteAllowed, caseRestAllowed, caseRowAllowedWide, eventAllowed, eventRowAllowedWide}
+use Rattle.home_care.specs.Allowed.{keyAllowed, prevalenteAllowed, evaluationAllowed, caseRestAllowed, caseRowAllowedWide, eventAllowed, roomToEvaluate, tailAllowedWide, eventRowAllowedWide}
 
 total-append : (xs ys : List ℕ) → total (xs ++ ys) ≡ total xs + total ys
 total-append [] ys = omega arith
@@ -90,6 +90,16 @@ prevalenteAt = keyBits + birthBits
 abbrev infectionAt : ℕ
 infectionAt = keyBits + total (take 11 caseWidths)
 
+-- of an evaluation behind an event
+abbrev prevalenteBits : ℕ
+prevalenteBits = total (drop 6 evaluationWidths)
+
+abbrev evaluatedPrevalenteAt : ℕ
+evaluatedPrevalenteAt = keyBits + eventBits + total (take 6 evaluationWidths)
+
+abbrev evaluatedInfectionAt : ℕ
+evaluatedInfectionAt = keyBits + eventBits + total (take 5 evaluationWidths)
+
 -- ---- a key
 
 pub asl-in : (n : ℕ) → keyIn n .asl ≡ eachAt (keyBits - takenAt) 3 charBits n
@@ -112,13 +122,27 @@ prevalente-first : (f : ℕ) → eachAt scalesBits 5 charBits f ≡ caseOf (f % 
 prevalente-first f =
     sym (unpacks-low (replicate 5 charBits) birthBits (f / 2 ^ scalesBits)) ∙ ap (unpacks (replicate 5 charBits)) (sym (field f (caseBits - scalesBits) scalesBits)) ∙ sym (prevalente-in (f % 2 ^ caseBits))
 
+-- the last characters and the last scale of an evaluation
+pub chars-in : (n : ℕ) → evaluationOf n .prevalente ≡ eachAt 0 5 charBits n
+chars-in n =
+    ap (λ (l : List ℕ). drop 6 l) (unpacks-append (replicate 6 2) (replicate 5 charBits) n)
+    ∙ drop-at (unpacks (replicate 6 2) (n / 2 ^ prevalenteBits)) (unpacks (replicate 5 charBits) n) 6 refl
+    ∙ ap (unpacks (replicate 5 charBits)) (sym (div-one n))
+
+chars-first : (f : ℕ) → eachAt 0 5 charBits f ≡ evaluationOf (f % 2 ^ evaluationBits) .prevalente
+chars-first f =
+    ap (unpacks (replicate 5 charBits)) (div-one f) ∙ sym (unpacks-low (replicate 5 charBits) (evaluationBits - prevalenteBits) f) ∙ ap (unpacks (replicate 5 charBits)) (sym (div-one (f % 2 ^ evaluationBits))) ∙ sym (chars-in (f % 2 ^ evaluationBits))
+
+scale-first : (f : ℕ) → fieldAt prevalenteBits 2 f ≡ getD (evaluationOf (f % 2 ^ evaluationBits) .scales) 5 0
+scale-first f = omega arith
+
 module _ (row : List ℕ) (h : RowWidth (length row)) where
   abbrev size : ℕ
   size = 8 * length row
 
-  -- the zero bits behind an event and behind a case, and the bits before them
+  -- the bits behind an event, its tail, and the zero bits behind a case
   abbrev ez : ℕ
-  ez = eventZerosWide (length row)
+  ez = tailBitsWide (length row)
 
   abbrev cz : ℕ
   cz = caseZerosWide (length row)
@@ -136,12 +160,74 @@ module _ (row : List ℕ) (h : RowWidth (length row)) where
   pub event-of : (r : ℕ) → r ≡ fieldAt (size - (keyBits + eventBits)) eventBits (num row) → r ≡ eventNumberInWide (length row) (asEvent row)
   event-of r e = e ∙ ap (fieldAt ez eventBits) (sym (whole-row))
 
-  pub event-row : (pad e : ℕ) (good : Bool) → pad ≡ fieldAt (size - (keyBits + eventBits + (size - (keyBits + eventBits)))) (size - (keyBits + eventBits)) (num row) →
-      e ≡ eventNumberInWide (length row) (asEvent row) → good ≡ eventAllowed (eventIn e) → good && eqb pad 0 ≡ eventRowAllowedWide (length row) (asEvent row)
-  event-row pad e good p q g =
-      let z : pad ≡ eventPadWide (length row) (asEvent row)
-      = p ∙ end-bits size (keyBits + eventBits) ez (num row) refl (omega arith) ∙ ap (λ (n : ℕ). n % 2 ^ ez) (sym whole-row) in
-      ap₂ (λ (b : Bool) (k : ℕ). b && eqb k 0) (g ∙ ap (λ (n : ℕ). eventAllowed (eventIn n)) q) z
+  abbrev tail : ℕ
+  tail = tailInWide (length row) (asEvent row)
+
+  abbrev zb : ℕ
+  zb = zeroBitsWide (length row)
+
+  tail-is : (t : ℕ) → t ≡ fieldAt (size - (keyBits + eventBits + (size - (keyBits + eventBits)))) (size - (keyBits + eventBits)) (num row) → t ≡ tail
+  tail-is t p = p ∙ end-bits size (keyBits + eventBits) ez (num row) refl (omega arith) ∙ ap (λ (n : ℕ). n % 2 ^ ez) (sym whole-row)
+
+  -- an event's row, by what stands behind the event
+  module _ (t e : ℕ) (good : Bool) (p : t ≡ fieldAt (size - (keyBits + eventBits + (size - (keyBits + eventBits)))) (size - (keyBits + eventBits)) (num row))
+      (q : e ≡ eventNumberInWide (length row) (asEvent row)) (g : good ≡ eventAllowed (eventIn e)) where
+    by-parts : (b : Bool) → tailAllowedWide (length row) e t ≡ b → good && b ≡ eventRowAllowedWide (length row) (asEvent row)
+    by-parts b s =
+        ap₂ _&&_ (g ∙ ap (λ (n : ℕ). eventAllowed (eventIn n)) q) (sym s ∙ ap₂ (λ (n m : ℕ). tailAllowedWide (length row) n m) q (tail-is t p))
+
+    pub row-bare : t ≡ 0 → good ≡ eventRowAllowedWide (length row) (asEvent row)
+    row-bare z =
+        sym (and-true good) ∙ by-parts true (ap (λ (b : Bool). b || ((evaluates e && roomToEvaluate (length row)) && (evaluationAllowed (evaluationOf (t / 2 ^ zb)) && eqb (t % 2 ^ zb) 0))) (eq-eqb t 0 z))
+
+    some-tail : (t ≡ 0 → ⊥) → (b : Bool) → (evaluates e && roomToEvaluate (length row)) && (evaluationAllowed (evaluationOf (t / 2 ^ zb)) && eqb (t % 2 ^ zb) 0) ≡ b →
+        tailAllowedWide (length row) e t ≡ b
+    some-tail n b s =
+        ap (λ (x : Bool). x || ((evaluates e && roomToEvaluate (length row)) && (evaluationAllowed (evaluationOf (t / 2 ^ zb)) && eqb (t % 2 ^ zb) 0))) (ne-eqb t 0 n) ∙ s
+
+    pub row-bad : (t ≡ 0 → ⊥) → evaluates e && roomToEvaluate (length row) ≡ false → false ≡ eventRowAllowedWide (length row) (asEvent row)
+    row-bad n s = sym (and-false good) ∙ by-parts false (some-tail n false (ap (λ (b : Bool). b && (evaluationAllowed (evaluationOf (t / 2 ^ zb)) && eqb (t % 2 ^ zb) 0)) s))
+
+    pub row-evaluated : (t ≡ 0 → ⊥) → evaluates e && roomToEvaluate (length row) ≡ true → (b : Bool) → b ≡ evaluationAllowed (evaluationOf (tail / 2 ^ zb)) && eqb (tail % 2 ^ zb) 0 →
+        good && b ≡ eventRowAllowedWide (length row) (asEvent row)
+    row-evaluated n s b x =
+        by-parts b
+        (some-tail n b
+        (ap (λ (y : Bool). y && (evaluationAllowed (evaluationOf (t / 2 ^ zb)) && eqb (t % 2 ^ zb) 0)) s
+        ∙ ap (λ (m : ℕ). evaluationAllowed (evaluationOf (m / 2 ^ zb)) && eqb (m % 2 ^ zb) 0) (tail-is t p) ∙ sym x))
+
+  -- an evaluation, where the row has room for it
+  module _ (room : keyBits + eventBits + evaluationBits ≤ size) where
+    -- the tail, without the zero bits, is the last of the row's first bits
+    tail-high : tail / 2 ^ zb ≡ num row / 2 ^ zb % 2 ^ evaluationBits
+    tail-high = ap (λ (n : ℕ). n % 2 ^ ez / 2 ^ zb) whole-row ∙ cut-low ez evaluationBits zb (num row) (omega arith)
+
+    tail-low : tail % 2 ^ zb ≡ num row % 2 ^ zb
+    tail-low =
+        let e : ez ≡ evaluationBits + zb = omega arith in
+        ap (λ (n : ℕ). n % 2 ^ ez % 2 ^ zb) whole-row ∙ ap (λ (j : ℕ). num row % 2 ^ j % 2 ^ zb) e ∙ mod-mod-pow (num row) evaluationBits zb
+
+    -- as it is kept in a row of the register's own width
+    pub evaluation-here : length row ≡ rowBytes → (r : ℕ) → r ≡ fieldAt (size - (keyBits + eventBits + evaluationBits)) evaluationBits (num row) → r ≡ evaluationIn (asEvent row)
+    evaluation-here l r e =
+        let same : size - (keyBits + eventBits + evaluationBits) ≡ zb = omega arith in
+        e ∙ ap (λ (j : ℕ). fieldAt j evaluationBits (num row)) same ∙ sym tail-high ∙ ap (λ (w : ℕ). tailInWide w (asEvent row) / 2 ^ zeroBitsWide w) l
+
+    pub evaluation-told : (prevalente : List ℕ) (infection zeros : ℕ) (good : Bool) →
+        prevalente ≡ eachAt (size - (evaluatedPrevalenteAt + charBits * 5)) 5 charBits (num row) → infection ≡ fieldAt (size - (evaluatedInfectionAt + 2)) 2 (num row) →
+        zeros ≡ fieldAt (size - (keyBits + eventBits + evaluationBits + (size - (keyBits + eventBits + evaluationBits)))) (size - (keyBits + eventBits + evaluationBits)) (num row) →
+        good ≡ prevalenteAllowed prevalente →
+        (good && leb infection 2) && eqb zeros 0 ≡ evaluationAllowed (evaluationOf (tail / 2 ^ zb)) && eqb (tail % 2 ^ zb) 0
+    evaluation-told prevalente infection zeros good p f z g =
+        let first = num row / 2 ^ zb in
+        let pa : prevalente ≡ evaluationOf (tail / 2 ^ zb) .prevalente =
+        p ∙ run-down _ 0 zb 5 charBits (num row) (omega arith) ∙ chars-first first ∙ ap (λ (n : ℕ). evaluationOf n .prevalente) (sym tail-high) in
+        let fa : infection ≡ getD (evaluationOf (tail / 2 ^ zb) .scales) 5 0 =
+        f ∙ field-down _ prevalenteBits zb 2 (num row) (omega arith) ∙ scale-first first ∙ ap (λ (n : ℕ). getD (evaluationOf n .scales) 5 0) (sym tail-high) in
+        let same : size - (keyBits + eventBits + evaluationBits) ≡ zb = omega arith in
+        let za : zeros ≡ tail % 2 ^ zb =
+        z ∙ end-bits size (keyBits + eventBits + evaluationBits) (size - (keyBits + eventBits + evaluationBits)) (num row) refl room ∙ ap (λ (j : ℕ). num row % 2 ^ j) same ∙ sym tail-low in
+        rw (g, pa, fa, za)
 
   pub taken-is : (r : ℕ) → r ≡ fieldAt (size - (takenAt + dayBits)) dayBits (num row) → r ≡ keyIn key .taken
   taken-is r e = e ∙ field-down _ (keyBits - idAt) (size - keyBits) dayBits (num row) (omega arith)

@@ -9,14 +9,14 @@ use Rattle.rows.specs.Packing.{Field, bits, each, total, width, widths, values,
 use Rattle.rows.proofs.Packing.{width-append, widths-append, values-append, fit-append, packs-lt, packs-injective}
 use Rattle.rows.proofs.Bytes.{each-width, each-widths, each-values}
 use Rattle.rows.proofs.Rows.{first-fields}
-use Rattle.home_care.specs.Row.{keyWidths, caseWidths, eventWidths, keyBits, caseBits, eventBits, ownBits, Key, Case, Event, keyFields, caseFields, eventFields, keyNumber, caseNumber, eventNumber}
-use Rattle.home_care.specs.Fits.{KeyFits, CaseFits, EventFits}
+use Rattle.home_care.specs.Row.{keyWidths, caseWidths, eventWidths, evaluationWidths, keyBits, caseBits, eventBits, evaluationBits, ownBits, Key, Case, Event, Evaluation, keyFields, caseFields, eventFields, evaluationFields, keyNumber, caseNumber, eventNumber, evaluationNumber}
+use Rattle.home_care.specs.Fits.{KeyFits, CaseFits, EventFits, EvaluationFits}
 
 -- ---- widths and sizes
 
 -- the sums that the table names are those of its widths; kind, date and code are an event's own part of its longest key
-pub widths-sum : (total keyWidths ≡ keyBits) × (total caseWidths ≡ caseBits) × (total eventWidths ≡ eventBits) × (total (take 3 eventWidths) ≡ ownBits)
-widths-sum = (refl, refl, refl, refl)
+pub widths-sum : (total keyWidths ≡ keyBits) × (total caseWidths ≡ caseBits) × (total eventWidths ≡ eventBits) × (total evaluationWidths ≡ evaluationBits) × (total (take 3 eventWidths) ≡ ownBits)
+widths-sum = (refl, refl, refl, refl, refl)
 
 pub key-width : (k : Key) → KeyFits k → width (keyFields k) ≡ keyBits
 key-width k h =
@@ -25,6 +25,16 @@ key-width k h =
 pub case-width : (c : Case) → CaseFits c → width (caseFields c) ≡ caseBits
 case-width c h =
     omega (arith, width-append (each 7 (c .prevalente)) (each 2 (c .scales)), each-width 7 (c .prevalente), each-width 2 (c .scales), h .prevalente-length, h .scales-length)
+
+pub evaluation-width : (v : Evaluation) → EvaluationFits v → width (evaluationFields v) ≡ evaluationBits
+evaluation-width v h =
+    omega (arith, width-append (each 2 (v .scales)) (each 7 (v .prevalente)), each-width 2 (v .scales), each-width 7 (v .prevalente), h .scales-length, h .prevalente-length)
+
+pub evaluation-fit : (v : Evaluation) → EvaluationFits v → Fit (evaluationFields v)
+evaluation-fit v h = fit-append (each 2 (v .scales)) (each 7 (v .prevalente)) (h .scales) (h .prevalente)
+
+pub evaluation-lt : (v : Evaluation) → EvaluationFits v → evaluationNumber v < 2 ^ evaluationBits
+evaluation-lt v h = subst (λ (z : ℕ). evaluationNumber v < 2 ^ z) (evaluation-width v h) (packs-lt (evaluationFields v) (evaluation-fit v h))
 
 pub key-fit : (k : Key) → KeyFits k → Fit (keyFields k)
 key-fit k h = (h .region, fit-append (each 7 (k .asl)) (bits 17 (k .taken) ∷ each 7 (k .id)) (h .asl) (h .taken, h .id))
@@ -94,6 +104,22 @@ case-injective c d h g e =
     let rest : c .prevalente ++ c .scales ≡ d .prevalente ++ d .scales = cc in
     let parts = cut 5 (c .prevalente) (d .prevalente) (c .scales) (d .scales) (h .prevalente-length) (g .prevalente-length) rest in
     λ i. record { birth = birth i; prevalente = parts .0 i; scales = parts .1 i }
+
+pub evaluation-values : (v : Evaluation) → values (evaluationFields v) ≡ v .scales ++ v .prevalente
+evaluation-values v =
+    values-append (each 2 (v .scales)) (each 7 (v .prevalente)) ∙ ap₂ (λ (x y : List ℕ). x ++ y) (each-values 2 (v .scales)) (each-values 7 (v .prevalente))
+
+pub evaluation-widths : (v : Evaluation) → EvaluationFits v → widths (evaluationFields v) ≡ replicate 6 2 ++ replicate 5 7
+evaluation-widths v h =
+    widths-append (each 2 (v .scales)) (each 7 (v .prevalente))
+    ∙ ap₂ (λ (x y : List ℕ). x ++ y) (each-widths 2 (v .scales) ∙ ap (λ (n : ℕ). replicate n 2) (h .scales-length)) (each-widths 7 (v .prevalente) ∙ ap (λ (n : ℕ). replicate n 7) (h .prevalente-length))
+
+pub evaluation-injective : (u v : Evaluation) → EvaluationFits u → EvaluationFits v → evaluationNumber u ≡ evaluationNumber v → u ≡ v
+evaluation-injective u v h g e =
+    let same : u .scales ++ u .prevalente ≡ v .scales ++ v .prevalente =
+    sym (evaluation-values u) ∙ packs-injective (evaluationFields u) (evaluationFields v) (evaluation-widths u h ∙ sym (evaluation-widths v g)) (evaluation-fit u h) (evaluation-fit v g) e ∙ evaluation-values v in
+    let parts = cut 6 (u .scales) (v .scales) (u .prevalente) (v .prevalente) (h .scales-length) (g .scales-length) same in
+    λ i. record { scales = parts .0 i; prevalente = parts .1 i }
 
 pub event-injective : (e f : Event) → EventFits e → EventFits f → eventNumber e ≡ eventNumber f → e ≡ f
 event-injective e f h g q =

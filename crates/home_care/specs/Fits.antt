@@ -8,7 +8,7 @@ use Rattle.model.specs.Map.{Row}
 use Rattle.rows.specs.Packing.{each, num, Fit}
 use Rattle.register.specs.Layout.{caseRest, eventRest}
 use Rattle.register.specs.State.{split, splitBy}
-use Rattle.home_care.specs.Row.{Key, Case, Event, keyBits, caseBits, homeCare, eventZerosWide, dayBits, charBits, regionBits, birthBits, scaleBits, kindBits, codeBits, accessesBits, confermaBits}
+use Rattle.home_care.specs.Row.{Key, Case, Event, Evaluation, keyBits, caseBits, homeCare, tailBitsWide, dayBits, charBits, regionBits, birthBits, scaleBits, kindBits, codeBits, accessesBits, confermaBits}
 
 -- a key's values have their fields' sizes
 pub record KeyFits (k : Key) : Type 0 where
@@ -27,6 +27,13 @@ pub record CaseFits (c : Case) : Type 0 where
   pub scales : Fit (each scaleBits (c .scales))
   pub scales-length : length (c .scales) ≡ 6
 
+-- an evaluation's values have their fields' sizes
+pub record EvaluationFits (v : Evaluation) : Type 0 where
+  pub scales : Fit (each scaleBits (v .scales))
+  pub scales-length : length (v .scales) ≡ 6
+  pub prevalente : Fit (each charBits (v .prevalente))
+  pub prevalente-length : length (v .prevalente) ≡ 5
+
 -- an event's values have their fields' sizes
 pub record EventFits (e : Event) : Type 0 where
   pub kind : e .kind < 2 ^ kindBits
@@ -44,6 +51,10 @@ keyWith region asl taken id = record { region = region; asl = asl; taken = taken
 abbrev pub caseWith : ℕ → List ℕ → List ℕ → Case
 caseWith birth prevalente scales = record { birth = birth; prevalente = prevalente; scales = scales }
 
+-- an evaluation of such values
+abbrev pub evaluationWith : List ℕ → List ℕ → Evaluation
+evaluationWith scales prevalente = record { scales = scales; prevalente = prevalente }
+
 -- an event of such values
 abbrev pub eventWith : ℕ → ℕ → ℕ → ℕ → ℕ → ℕ → Event
 eventWith kind date code end accesses conferma =
@@ -53,10 +64,10 @@ eventWith kind date code end accesses conferma =
 abbrev pub readBits : ℕ
 readBits = 56
 
--- w bytes have room for a row's fields, a case's being the longer ones, and for no more zero bits behind them than are read at once
+-- w bytes have room for a row's fields but an event's evaluation, a case's being the longer ones, and for no more bits behind an event than are read at once
 pub record RowWidth (w : ℕ) : Type 0 where
   pub least : keyBits + caseBits ≤ 8 * w
-  pub most : eventZerosWide w ≤ readBits
+  pub most : tailBitsWide w ≤ readBits
 
 -- the bytes of a row, as a case's and as an event's
 abbrev pub asCase : List ℕ → Row ℕ

@@ -29,11 +29,12 @@ pub record Admission : Type 0 where
   pub case : Case
   pub residence : Residence
 
--- Track 2: an event's 52 bits, whether it has a Valutazione, and that one's prevalente
+-- Track 2: an event's 52 bits, whether it has a Valutazione, that one's prevalente, and the evaluation's 47 bits that are kept of it
 pub record Said : Type 0 where
   pub event : ℕ
   pub valued : Bool
   pub prevalente : List ℕ
+  pub evaluation : ℕ
 
 pub data Record : Type 0 where
   admission : Head → Admission → Record
@@ -43,6 +44,11 @@ pub data Record : Type 0 where
 unfoldable pub eventNumbers : List Said → List ℕ
 eventNumbers [] = []
 eventNumbers (e ∷ es) = e .event ∷ eventNumbers es
+
+-- the evaluations' 47 bits
+unfoldable pub evaluations : List Said → List ℕ
+evaluations [] = []
+evaluations (e ∷ es) = e .evaluation ∷ evaluations es
 
 -- S11: "`tipo` is I (insertion), V (variation) or C (cancellation)"
 abbrev pub typeOf : ℕ → Kind

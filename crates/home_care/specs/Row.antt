@@ -1,11 +1,11 @@
--- The rows of the register (RULES.md, 4 The register, R6 to R29): their fields with the widths from the front of the row, packed, and read back by the
+-- The rows of the register (RULES.md, 4 The register, R6 to R34): their fields with the widths from the front of the row, packed, and read back by the
 -- same widths.
 use Prim.Native.Nat.{ℕ, suc, _+_, _-_, _*_, _/_, _%_, _^_}
-use mathlib.Core.Bool.{cond}
+use mathlib.Core.Bool.{Bool, cond, _&&_}
 use mathlib.Core.List.{List, [], _∷_, _++_}
 use lib.Dec.{eqb}
 use lib.ListN.{take, drop, getD, replicate}
-use Rattle.codes.specs.CodesAndCharacters.{service}
+use Rattle.codes.specs.CodesAndCharacters.{revaluation, service}
 use Rattle.model.specs.Map.{Row}
 use Rattle.rows.specs.Packing.{Field, bits, each, fields, packs, total, fieldAt, unpacks}
 use Rattle.register.specs.Layout.{Layout, eventRest}
@@ -35,11 +35,23 @@ pub record Event : Type 0 where
   pub accesses : ℕ
   pub conferma : ℕ
 
+-- R32, R33: the six fields in the order of R16 to R21 and the prevalente, of the Valutazione of a Rivalutazione; a case has them of its own
+pub record Evaluation : Type 0 where
+  pub scales : List ℕ
+  pub prevalente : List ℕ
+
+abbrev pub ownEvaluation : Case → Evaluation
+ownEvaluation c = record { scales = c .scales; prevalente = c .prevalente }
+
 -- ---- how wide the fields are
 
--- R2: "rows of 91 bytes"
+-- R2: "rows of 96 bytes"
 abbrev pub rowBytes : ℕ
-rowBytes = 91
+rowBytes = 96
+
+-- 16: "Rows had 91 bytes before R32 and R33"
+abbrev pub oldBytes : ℕ
+oldBytes = 91
 
 -- the bits of a day number, a character, a region, a birth year, a scale
 abbrev pub dayBits : ℕ
@@ -82,6 +94,10 @@ caseWidths = birthBits ∷ (replicate 5 charBits ++ replicate 6 scaleBits)
 abbrev pub eventWidths : List ℕ
 eventWidths = kindBits ∷ dayBits ∷ codeBits ∷ dayBits ∷ accessesBits ∷ confermaBits ∷ []
 
+-- R32, R33, in bits: six fields of 2 each, prevalente 5 x 7
+abbrev pub evaluationWidths : List ℕ
+evaluationWidths = replicate 6 scaleBits ++ replicate 5 charBits
+
 -- the sums of these widths (`widths-sum`). R8: "A case's key is its row's first 662 bits"; a case and an event after the case's key
 abbrev pub keyBits : ℕ
 keyBits = 662
@@ -91,6 +107,10 @@ caseBits = 59
 
 abbrev pub eventBits : ℕ
 eventBits = 52
+
+-- and an evaluation behind the event
+abbrev pub evaluationBits : ℕ
+evaluationBits = 47
 
 -- R9: "An event's key is its case's key, its kind and its date, 681 bits, and of an Erogazione its code, the operator, too: its row's first 688 bits":
 -- what the longest key has after the case's, and what the event has after that
@@ -119,15 +139,22 @@ homeCare w = record { bytes = w; caseKey = keyBits; eventKey = eventKeyBits; spa
 abbrev pub siad : Layout
 siad = homeCare rowBytes
 
--- the zero bits at the end of a row
+-- R22: the zero bits at the end of a case's row
 abbrev pub caseZerosWide : ℕ → ℕ
 caseZerosWide w = 8 * w - (keyBits + caseBits)
 
-abbrev pub eventZerosWide : ℕ → ℕ
-eventZerosWide w = 8 * w - (keyBits + eventBits)
+-- the bits of an event's row behind conferma, its tail; R29: the zero bits in it behind the evaluation
+abbrev pub tailBitsWide : ℕ → ℕ
+tailBitsWide w = 8 * w - (keyBits + eventBits)
 
-abbrev pub eventZeros : ℕ
-eventZeros = eventZerosWide rowBytes
+abbrev pub zeroBitsWide : ℕ → ℕ
+zeroBitsWide w = tailBitsWide w - evaluationBits
+
+abbrev pub tailBits : ℕ
+tailBits = tailBitsWide rowBytes
+
+abbrev pub zeroBits : ℕ
+zeroBits = zeroBitsWide rowBytes
 
 -- R26, of the end date: "all ones for none and in other kinds"
 abbrev pub never : ℕ
@@ -144,6 +171,9 @@ caseFields c = bits birthBits (c .birth) ∷ (each charBits (c .prevalente) ++ e
 abbrev pub eventFields : Event → List Field
 eventFields e = fields eventWidths (e .kind ∷ e .date ∷ e .code ∷ e .end ∷ e .accesses ∷ e .conferma ∷ [])
 
+abbrev pub evaluationFields : Evaluation → List Field
+evaluationFields v = each scaleBits (v .scales) ++ each charBits (v .prevalente)
+
 -- a key as a number
 abbrev pub keyNumber : Key → ℕ
 keyNumber k = packs (keyFields k) 0
@@ -156,13 +186,16 @@ caseNumber c = packs (caseFields c) 0
 abbrev pub eventNumber : Event → ℕ
 eventNumber e = packs (eventFields e) 0
 
--- the row of the event of that number, of the case c: the case's key, the event and the zero bits, cut behind the event's key
-abbrev pub eventRowWide : ℕ → ℕ → ℕ → Row ℕ
-eventRowWide w c e =
-    splitBy (homeCare w .spare) (eventRest (homeCare w)) ((c * 2 ^ eventBits + e) * 2 ^ eventZerosWide w)
+-- an evaluation as a number
+abbrev pub evaluationNumber : Evaluation → ℕ
+evaluationNumber v = packs (evaluationFields v) 0
 
-abbrev pub eventRow : ℕ → ℕ → Row ℕ
-eventRow c e = eventRowWide rowBytes c e
+-- a row of the case c: its key, an event's number, an evaluation's and the zero bits; and cut behind the event's key
+abbrev pub eventRowNumber : ℕ → ℕ → ℕ → ℕ
+eventRowNumber c e v = ((c * 2 ^ eventBits + e) * 2 ^ evaluationBits + v) * 2 ^ zeroBits
+
+abbrev pub eventRow : ℕ → ℕ → ℕ → Row ℕ
+eventRow c e v = splitBy (siad .spare) (eventRest siad) (eventRowNumber c e v)
 
 -- ---- read back
 
@@ -195,18 +228,28 @@ caseIn v = caseInWide rowBytes v
 abbrev pub casePad : ℕ → ℕ
 casePad v = casePadWide rowBytes v
 
--- the event's number in its row, and the zero bits behind it
-abbrev pub eventNumberInWide : ℕ → Row ℕ → ℕ
-eventNumberInWide w r = fieldAt (eventZerosWide w) eventBits (unsplit (eventRest (homeCare w)) r)
+-- an evaluation, from its number
+abbrev pub evaluationOf : ℕ → Evaluation
+evaluationOf n =
+    let vs = unpacks evaluationWidths n in
+    record { scales = take 6 vs; prevalente = drop 6 vs }
 
-abbrev pub eventPadWide : ℕ → Row ℕ → ℕ
-eventPadWide w r = unsplit (eventRest (homeCare w)) r % 2 ^ eventZerosWide w
+-- the event's number in its row, and the tail behind it
+abbrev pub eventNumberInWide : ℕ → Row ℕ → ℕ
+eventNumberInWide w r = fieldAt (tailBitsWide w) eventBits (unsplit (eventRest (homeCare w)) r)
+
+abbrev pub tailInWide : ℕ → Row ℕ → ℕ
+tailInWide w r = unsplit (eventRest (homeCare w)) r % 2 ^ tailBitsWide w
 
 abbrev pub eventNumberIn : Row ℕ → ℕ
 eventNumberIn r = eventNumberInWide rowBytes r
 
-abbrev pub eventPad : Row ℕ → ℕ
-eventPad r = eventPadWide rowBytes r
+abbrev pub tailIn : Row ℕ → ℕ
+tailIn r = tailInWide rowBytes r
+
+-- the evaluation's number in it; all zeros where none is kept
+abbrev pub evaluationIn : Row ℕ → ℕ
+evaluationIn r = tailIn r / 2 ^ zeroBits
 
 -- the first field of an event's number is all that stands above the others; a field after it, counted from the front
 abbrev pub kindOf : ℕ → ℕ
@@ -233,6 +276,13 @@ confermaOf e = eventField 5 e
 abbrev pub eventIn : ℕ → Event
 eventIn e =
     record { kind = kindOf e; date = dateOf e; code = codeOf e; end = endOf e; accesses = accessesOf e; conferma = confermaOf e }
+
+-- R34: "R32 and R33 are filled with conferma 2": by a Rivalutazione, which alone has one
+abbrev pub anew : ℕ
+anew = 2
+
+abbrev pub evaluates : ℕ → Bool
+evaluates e = eqb (kindOf e) revaluation && eqb (confermaOf e) anew
 
 -- the part of an event's key after its case's: kind, date and code, the code's bits zero where it is no part of the key
 abbrev pub eventKeyOf : ℕ → ℕ

@@ -1,7 +1,10 @@
-// The home-care register's rows (RULES.md, R10 to R29): where each field begins, counted from the front of the row, and how many bits it has.
+// The home-care register's rows (RULES.md, R10 to R34): where each field begins, counted from the front of the row, and how many bits it has.
 
 // The bytes of a row. Behind the fields that are named below zero bits stand, to the row's end.
-pub const ROW: usize = 91;
+pub const ROW: usize = 96;
+
+// And of one before events kept evaluations (RULES.md, 16 A register converted).
+pub const OLD_ROW: usize = 91;
 
 // A region, a character, a day number, a birth year, a scale.
 pub const REGION_BITS: usize = 8;
@@ -32,6 +35,8 @@ pub const BIRTH: usize = 662;
 
 pub const PREVALENTE: usize = 674;
 
+pub const SCALES: usize = 709;
+
 pub const INFECTION: usize = 719;
 
 pub const AFTER_CASE: usize = 721;
@@ -51,6 +56,16 @@ pub const ACCESSES: usize = 705;
 pub const CONFERMA: usize = 712;
 
 pub const AFTER_EVENT: usize = 714;
+
+// ---- behind that an evaluation: six scales, then a prevalente
+
+pub const EVALUATED_INFECTION: usize = 724;
+
+pub const EVALUATED_PREVALENTE: usize = 726;
+
+pub const AFTER_EVALUATION: usize = 761;
+
+pub const EVALUATION_BITS: usize = 47;
 
 pub const KIND_BITS: usize = 2;
 
@@ -74,6 +89,9 @@ pub const OWN_KEYS: u64 = 67108864;
 pub const DATED_BITS: usize = 19;
 
 // ---- values
+
+// R34: the conferma with which an evaluation is kept.
+pub const ANEW: u64 = 2;
 
 // The days of 1900 to 2099; all ones stands for no end.
 pub const DAYS: u64 = 73049;

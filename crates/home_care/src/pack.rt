@@ -4,7 +4,7 @@ ghost use Prim.Native.Nat.{_+_, _-_, _*_, _^_, _≤_, _<_};
 ghost use lib.ListN.{length};
 ghost use Rattle.rows.specs.Packing.{num, rowNumber};
 ghost use Rattle.rows.specs.Writer.{soFar, count, Tidy, Wrote, start};
-ghost use Rattle.home_care.specs.Row.{keyBits, caseBits, eventBits, keyFields, caseFields, caseNumber, eventNumber};
+ghost use Rattle.home_care.specs.Row.{keyBits, caseBits, eventBits, evaluationBits, keyFields, caseFields, caseNumber, eventNumber};
 ghost use Rattle.home_care.specs.Fits.{keyWith, caseWith, eventWith, KeyFits, CaseFits, EventFits};
 use crate::layout::ACCESSES_BITS;
 use crate::layout::BIRTH_BITS;
@@ -12,6 +12,7 @@ use crate::layout::CHAR_BITS;
 use crate::layout::CODE_BITS;
 use crate::layout::CONFERMA_BITS;
 use crate::layout::DAY_BITS;
+use crate::layout::EVALUATION_BITS;
 use crate::layout::EVENT_BITS;
 use crate::layout::REGION_BITS;
 use crate::layout::SCALE_BITS;
@@ -80,12 +81,14 @@ pub fn event_number(kind: u64, date: u64, code: u64, end: u64, accesses: u64, co
     (((ended << ACCESSES_BITS) + accesses) << CONFERMA_BITS) + conferma
 }
 
-// An event's row behind a key that a writer has written: the event's number, then zero bits. What was written stays, so that the key serves the next event too.
-pub fn set_event(out: &mut [u8], s: Bits, event: u64)
-    requires { ⌜ Tidy s × (event < 2 ^ eventBits) × (count s + eventBits ≤ 8 * length (now out)) ⌝ }
-    ensures { λ _. ⌜ (num (now (out .exit)) ≡ (soFar (now (out .entry)) s * 2 ^ eventBits + event) * 2 ^ (8 * length (now (out .entry)) - (count s + eventBits)))
+// An event's row behind a key that a writer has written: the event's number, its evaluation's, then zero bits. What was written stays, so that the key serves
+// the next event too.
+pub fn set_event(out: &mut [u8], s: Bits, event: u64, evaluation: u64)
+    requires { ⌜ Tidy s × (event < 2 ^ eventBits) × (evaluation < 2 ^ evaluationBits) × (count s + eventBits + evaluationBits ≤ 8 * length (now out)) ⌝ }
+    ensures { λ _. ⌜ (num (now (out .exit)) ≡ ((soFar (now (out .entry)) s * 2 ^ eventBits + event) * 2 ^ evaluationBits + evaluation) * 2 ^ (8 * length (now (out .entry)) - (count s + eventBits + evaluationBits)))
         × (soFar (now (out .exit)) s ≡ soFar (now (out .entry)) s) ⌝ }
 {
     let t = put(out, s, EVENT_BITS, event);
+    let t = put(out, t, EVALUATION_BITS, evaluation);
     finish(out, t);
 }

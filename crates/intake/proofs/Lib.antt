@@ -11,6 +11,7 @@ pub mod OnBytes
 pub mod Samples
 pub mod Excluded
 pub mod SampleHistory
+pub mod Renewed
 pub mod RecordRead
 pub mod RecordTaken
 pub mod EventsTaken

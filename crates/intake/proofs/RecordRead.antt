@@ -35,7 +35,7 @@ use Rattle.intake.specs.Taking.{Here, siadDriver}
 -- ---- a record of either track
 
 pub of-shape : {k : ℕ} {s : List ℕ} {top : Six} {a : Tree} → Here k s top a → OfShape k s top a
-of-shape x = record { at = x .at; tops = x .tops; clean = x .good .clean }
+of-shape x = record { at = x .at; tops = x .tops; clean = x .good .clean; well = x .good .well }
 
 -- tracks that are both 1, or both not
 module _ (j k : ℕ) (e : eqb j 1 ≡ eqb k 1) (a : Tree) where

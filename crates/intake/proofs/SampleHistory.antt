@@ -32,7 +32,7 @@ long : 4 ≤ n
 long = leb-true 4 n refl
 
 abbrev visitKey : ℕ
-visitKey = eventRow (keyNumber key) (eventNumber visit) .key
+visitKey = eventRow (keyNumber key) (eventNumber visit) 0 .key
 
 -- what a call adds to the log, by its answer list and its records
 adds : (xs : List Call) (x : Call) (ns : List ℕ) (rs : List Record) → submitted x (regAfter register xs) .answer ≡ 0 →
@@ -132,7 +132,7 @@ case-shown =
     (ap (λ (s : State ℕ ℕ). find (keyNumber key) (s .cases)) both-stand)
 
 abbrev visitFields : ℕ
-visitFields = eventRow (keyNumber key) (eventNumber visit) .val
+visitFields = eventRow (keyNumber key) (eventNumber visit) 0 .val
 
 pub visit-shown : EventSays (logOf n (admissions ∷ visits ∷ [])) visitKey visitFields
 unfolding find packs firstOf

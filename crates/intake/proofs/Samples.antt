@@ -153,7 +153,7 @@ caseSaid prevalente = caseWith 1951 (padded (bytes prevalente)) (1 ∷ 3 ∷ 1 �
 
 -- the events as they are said
 abbrev said : Event → Said
-said e = record { event = eventNumber e; valued = false; prevalente = [] }
+said e = record { event = eventNumber e; valued = false; prevalente = []; evaluation = 0 }
 
 abbrev pub visit : Event
 visit = eventWith 1 (dayNumber 2018 5 5) 3 never 2 0
@@ -177,7 +177,7 @@ abbrev pub held : string.String → State ℕ ℕ
 held prevalente = record { cases = caseRow key (caseSaid prevalente) ∷ []; events = [] }
 
 abbrev row : Event → Row ℕ
-row e = eventRow (keyNumber key) (eventNumber e)
+row e = eventRow (keyNumber key) (eventNumber e) 0
 
 abbrev pub standing : State ℕ ℕ
 standing =

@@ -16,26 +16,27 @@ use Rattle.model.specs.Log.{LastIs, Shown, EventStands, carriesAway, ofCase}
 use Rattle.model.specs.Flow.{State, empty, machine}
 use Rattle.model.proofs.MapLaws.{no-some}
 use Rattle.model.proofs.ChecksLaws.{clear}
-use Rattle.laws.proofs.Every.{Every, every-at}
+use Rattle.laws.proofs.Every.{Every, every-at, any-told, all-told}
 use Rattle.model.proofs.Histories.{AllTaken, all-at, takenAll-all, log-every}
 use Rattle.register.specs.Layout.{caseNamed}
 use Rattle.register.specs.State.{encode}
-use Rattle.home_care.specs.Row.{eventBits, keyNumber, siad, eventRow, keyIn, caseIn, eventIn, eventNumberIn}
-use Rattle.home_care.specs.Record.{Said, Record, admission, events}
-use Rattle.home_care.specs.Anomalies.{Context}
+use Rattle.home_care.specs.Row.{Evaluation, eventBits, keyNumber, siad, eventRow, keyIn, caseIn, eventIn, eventNumberIn, evaluationNumber, evaluationIn, evaluationOf, evaluates}
+use Rattle.home_care.specs.Record.{Said, Record, admission, events, padded}
+use Rattle.home_care.specs.Anomalies.{Context, badConferma, zeroWritten}
 use Rattle.home_care.proofs.Table.{event-lt}
-use Rattle.home_care.proofs.ReadBack.{key-read, case-read, event-case, event-read}
+use Rattle.home_care.proofs.ReadBack.{key-read, case-read, event-case, event-read, evaluation-read, evaluation-back}
 use Rattle.home_care.proofs.EventAllowed.{event-fits, event-back}
 use Rattle.tracks.specs.WellRead.{WellSaid, WellEach, WellRead}
-use Rattle.tracks.proofs.Fits.{key-fits}
+use Rattle.tracks.proofs.Fits.{key-fits, evaluation-fits}
 use Rattle.checks.specs.Flow.{flow, caseRow, eventRows}
 use Rattle.checks.specs.CheckOrder.{checksOf}
+use Rattle.checks.specs.Readable.{eventReadable}
 use Rattle.checks.proofs.Accepted.{numbered}
-use Rattle.checks.proofs.RowsAllowed.{case-fits}
+use Rattle.checks.proofs.RowsAllowed.{case-fits, evaluation-lt, none-kept, accepted-evaluation}
 use Rattle.checks.proofs.WellReadable.{readable}
 use Rattle.intake.specs.FileAnswers.{Call, Submitted, contextOf}
 use Rattle.intake.specs.RecordsIn.{recordsIn}
-use Rattle.intake.specs.Histories.{Entry, entry, entryFlow, entryMachine, entriesFor, logOf, CaseSays, EventSays}
+use Rattle.intake.specs.Histories.{Entry, entry, entryFlow, entryMachine, entriesFor, logOf, CaseSays, Renews, EventSays}
 use Rattle.intake.proofs.Outcome.{Outcome, stopped, passed, outcome}
 use Rattle.intake.proofs.Sound.{all-well}
 
@@ -83,15 +84,16 @@ record Found (c k v : ℕ) (es : List Said) : Type 0 where
   after : List Said
   list : es ≡ before ++ one ∷ after
   well : WellEach es → WellSaid one
-  key : k ≡ eventRow c (one .event) .key
-  val : eventRow c (one .event) .val ≡ v
+  each : (p : Said → Bool) (b : Bool) → Every (λ o. p o ≡ b) es → p one ≡ b
+  key : k ≡ eventRow c (one .event) (one .evaluation) .key
+  val : eventRow c (one .event) (one .evaluation) .val ≡ v
 
 found : (c k v : ℕ) (es : List Said) → find k (eventRows c es) ≡ some v → Found c k v es
 unfolding find eventRows
 found c k v [] e = absurd (no-some e)
 found c k v (s ∷ es) e =
     ⊎-elim
-    (λ p. record { before = []; one = s; after = es; list = refl; well = λ w. w .0; key = eqb-true k (eventRow c (s .event) .key) (p .0); val = p .1 })
+    (λ p. record { before = []; one = s; after = es; list = refl; well = λ w. w .0; each = λ p b w. w .0; key = eqb-true k (eventRow c (s .event) (s .evaluation) .key) (p .0); val = p .1 })
     (λ p.
     let f = found c k v es (p .1) in
     record {
@@ -100,12 +102,28 @@ found c k v (s ∷ es) e =
       after = f .after;
       list = ap (λ (l : List Said). s ∷ l) (f .list);
       well = λ w. f .well (w .1);
+      each = λ p b w. f .each p b (w .1);
       key = f .key;
       val = f .val;
     })
-    (here-or (eqb k (eventRow c (s .event) .key)) (eventRow c (s .event) .val) v (find k (eventRows c es)) e)
+    (here-or (eqb k (eventRow c (s .event) (s .evaluation) .key)) (eventRow c (s .event) (s .evaluation) .val) v (find k (eventRows c es)) e)
 
 -- ---- read back
+
+-- an event of an accepted record, with conferma 2
+renewing : (o : Said) → WellSaid o → eventReadable o ≡ true → badConferma o ≡ false → zeroWritten o ≡ false → evaluates (o .event) ≡ true → Renews o
+renewing o g r no21 no13 ev =
+    let good = accepted-evaluation o r no21 no13 ev in
+    let v : Evaluation = record { scales = g .scales; prevalente = padded (o .prevalente) } in
+    let is : o .evaluation ≡ evaluationNumber v = g .keeps ∙ ap (λ (b : Bool). cond b (evaluationNumber v) 0) ev in
+    record {
+      scales = g .scales;
+      scaled = g .scaled;
+      packs = is;
+      reads = ap evaluationOf is ∙ evaluation-back v (evaluation-fits o g);
+      allowed = good .allowed;
+      not-zero = good .not-zero;
+    }
 
 module _ (n : ℕ) (xs : List Call) (k v : ℕ) where
   pub case-says : Shown (entryFlow .kind) (λ e. find k (entryFlow .caseRows e)) (ofCase entryFlow k) (logOf n xs) v → CaseSays (logOf n xs) k v
@@ -151,6 +169,12 @@ module _ (n : ℕ) (xs : List Call) (k v : ℕ) where
           let fits = event-fits (g .event) (g .allowed) in
           let b : ℕ = f .one .event in
           let small : b < 2 ^ eventBits = rw (g .packs) (event-lt (g .event) fits) in
+          let s : State ℕ ℕ = run entryMachine empty (l .before) in
+          let z = log-accepted n xs (λ e. has k (entryFlow .eventRows e)) (entry c (events head said)) l in
+          let no21 = f .each badConferma false (any-told badConferma said (clear 21 (checksOf c (events head said)) s (numbered c (events head said)) z)) in
+          let no13 = f .each zeroWritten false (any-told zeroWritten said (clear 13 (checksOf c (events head said)) s (numbered c (events head said)) z)) in
+          let r = f .each eventReadable true (all-told eventReadable said (readable (events head said) w .1)) in
+          let narrow = evaluation-lt (f .one) r in
           record {
             context = c;
             head = head;
@@ -167,9 +191,14 @@ module _ (n : ℕ) (xs : List Call) (k v : ℕ) where
             packs = g .packs;
             key =
                 ap (λ (j : ℕ). keyIn (caseNamed siad j)) (f .key)
-                ∙ ap keyIn (event-case own b small) ∙ key-read (head .key) (key-fits (head .key) (w .0 .key));
+                ∙ ap keyIn (event-case own b (f .one .evaluation) small narrow) ∙ key-read (head .key) (key-fits (head .key) (w .0 .key));
             fields =
                 ap₂ (λ (j u : ℕ). eventIn (eventNumberIn (record { key = j; val = u }))) (f .key) (sym (f .val))
-                ∙ ap eventIn (event-read own b small ∙ g .packs)
+                ∙ ap eventIn (event-read own b (f .one .evaluation) small narrow ∙ g .packs)
                 ∙ event-back (g .event) fits;
+            evaluation =
+                ap₂ (λ (j u : ℕ). evaluationIn (record { key = j; val = u })) (f .key) (sym (f .val))
+                ∙ evaluation-read own b (f .one .evaluation) small narrow;
+            renews = λ ev. renewing (f .one) g r no21 no13 ev;
+            zeros = none-kept (f .one) r;
           }

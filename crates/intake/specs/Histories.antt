@@ -18,10 +18,11 @@ use Rattle.model.specs.Demands.{after, log}
 use Rattle.register.specs.Layout.{caseNamed}
 use Rattle.register.specs.State.{stateOf, encode}
 use Rattle.register.specs.RoomAndEmptying.{emptied}
-use Rattle.home_care.specs.Row.{Event, siad, eventNumber, keyIn, caseIn, eventIn, eventNumberIn}
-use Rattle.home_care.specs.Record.{Head, Admission, Said, Record, admission, events, typeOf}
-use Rattle.home_care.specs.Allowed.{eventAllowed}
+use Rattle.home_care.specs.Row.{Event, siad, eventNumber, keyIn, caseIn, eventIn, eventNumberIn, evaluationNumber, evaluationIn, evaluationOf, evaluates}
+use Rattle.home_care.specs.Record.{Head, Admission, Said, Record, admission, events, padded, typeOf}
+use Rattle.home_care.specs.Allowed.{eventAllowed, evaluationAllowed}
 use Rattle.home_care.specs.Anomalies.{Context}
+use Rattle.tracks.specs.WellRead.{WellScales}
 use Rattle.soundness.specs.Sound.{isSound}
 use Rattle.checks.specs.Flow.{flow}
 use Rattle.checks.specs.CheckOrder.{checksOf}
@@ -80,6 +81,15 @@ pub record CaseSays (log : List Entry) (k v : ℕ) : Type 0 where
   pub key : keyIn k ≡ head .key
   pub fields : caseIn v ≡ said .case
 
+-- R32 to R34: an event with conferma 2 keeps six scales and its Prevalente, filled up: an allowed evaluation, so never zeros
+pub record Renews (one : Said) : Type 0 where
+  pub scales : List ℕ
+  pub scaled : WellScales scales
+  pub packs : one .evaluation ≡ evaluationNumber (record { scales = scales; prevalente = padded (one .prevalente) })
+  pub reads : evaluationOf (one .evaluation) ≡ record { scales = scales; prevalente = padded (one .prevalente) }
+  pub allowed : evaluationAllowed (evaluationOf (one .evaluation)) ≡ true
+  pub not-zero : one .evaluation ≢ 0
+
 -- an event's row, read back, has the case's key and the fields of one of the events of the last accepted record with its key, after which no accepted
 -- cancellation of its case came
 pub record EventSays (log : List Entry) (k v : ℕ) : Type 0 where
@@ -99,6 +109,10 @@ pub record EventSays (log : List Entry) (k v : ℕ) : Type 0 where
   pub packs : one .event ≡ eventNumber event
   pub key : keyIn (caseNamed siad k) ≡ head .key
   pub fields : eventIn (eventNumberIn (record { key = k; val = v })) ≡ event
+  -- and the evaluation that this one keeps: whole with conferma 2, zeros with 1 and in other kinds
+  pub evaluation : evaluationIn (record { key = k; val = v }) ≡ one .evaluation
+  pub renews : evaluates (one .event) ≡ true → Renews one
+  pub zeros : evaluates (one .event) ≡ false → one .evaluation ≡ 0
 
 -- Demand 3, on the register's bytes
 pub record OnBytes (reg : List ℕ) : Type 0 where

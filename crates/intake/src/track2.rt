@@ -1,4 +1,4 @@
-// A record of Track 2: judged, and its events' rows stored where it is accepted.
+// A record of Track 2: judged by its events' 52 bits, and their rows stored where it is accepted, with the evaluations that are only kept.
 ghost use mathlib.Core.Path.{_≡_};
 ghost use mathlib.Core.Bool.{true};
 ghost use lib.ListN.{length};
@@ -30,7 +30,8 @@ pub fn take_events(t: &[u32; 2400], l: Limits, s: &[u8], top: Six, reg: &mut [u8
 {
     let h = head(t, s, top);
     let mut evs = [0u64; MOST_EVENTS];
-    let said = events(t, s, top, &mut evs);
+    let mut kept = [0u64; MOST_EVENTS];
+    let said = events(t, s, top, &mut evs, &mut kept);
     let n = said.count;
     let asl = part(s, h.asl, h.asl + 3);
     let id = part(s, h.id, h.id + 88);
@@ -47,7 +48,7 @@ pub fn take_events(t: &[u32; 2400], l: Limits, s: &[u8], top: Six, reg: &mut [u8
         said.zero_prevalente,
     );
     if answer == 0 {
-        apply_events(reg, h.tipo, &probe, &evs[..n]);
+        apply_events(reg, h.tipo, &probe, &evs[..n], &kept[..n]);
     }
     answer
 }

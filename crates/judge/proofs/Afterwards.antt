@@ -9,7 +9,7 @@ use lib.Dec.{eqb, ltb, leb}
 use borrow.Author.Tests.{eqb-true, eqb-false, ne-eqb, le-ltb, not-true}
 use Rattle.laws.specs.Lists.{all, any, somePair}
 use Rattle.laws.proofs.Truth.{or-left, or-right, and-left, and-right}
-use Rattle.laws.proofs.Every.{Every, both-false}
+use Rattle.laws.proofs.Every.{Every, every-map, all-told, all-tell, both-false}
 use Rattle.days.specs.DayNumbers.{dayCount}
 use Rattle.model.specs.Map.{Row, Map, isSome, orElse, find, has, putAll, delAll, keep, Asc, twice}
 use Rattle.model.specs.Transmission.{Kind, insert, vary, cancel, isCancel}
@@ -18,17 +18,17 @@ use Rattle.model.proofs.Lists.{any-same}
 use Rattle.model.proofs.MapLaws.{find-keep, find-putAll, asc-keep, asc-putAll, keep-true, ext}
 use Rattle.register.specs.Layout.{caseNamed}
 use Rattle.register.specs.Sound.{eventsOf}
-use Rattle.home_care.specs.Row.{never, keyNumber, siad, eventNumberIn, kindOf, dateOf, endOf, eventIn}
+use Rattle.home_care.specs.Row.{rowBytes, never, keyNumber, siad, eventNumberIn, tailIn, kindOf, dateOf, endOf, eventIn}
 use Rattle.home_care.specs.Anomalies.{isSuspension, isConclusion, afterConclusion, t23, t25, t26, t27, t28, Context}
-use Rattle.home_care.specs.Allowed.{eventAllowed, endAllowed, eventRowAllowed}
+use Rattle.home_care.specs.Allowed.{eventAllowed, endAllowed, tailAllowedWide, eventRowAllowed}
 use Rattle.home_care.specs.Record.{Head, Said, events, eventNumbers, typeOf}
-use Rattle.home_care.proofs.ReadBack.{taken-read}
+use Rattle.home_care.proofs.ReadBack.{taken-read, event-read}
 use Rattle.soundness.specs.Sound.{eventsFree}
 use Rattle.checks.specs.Flow.{eventRows, next}
 use Rattle.checks.specs.CheckOrder.{afterwards}
 use Rattle.checks.specs.Readable.{Readable, eventReadable}
 use Rattle.checks.proofs.RowTests.{all-keep, all-events}
-use Rattle.checks.proofs.RowsAllowed.{each-row, event-row-allowed, row-case}
+use Rattle.checks.proofs.RowsAllowed.{number-lt, number-allowed, evaluation-lt, each-row, row-case}
 use Rattle.checks.proofs.Valid.{Sound, Parts, parts-of, free-any}
 use Rattle.judge.specs.ByNumber.{wrong, clash, keyAmong, fresh}
 use Rattle.judge.proofs.Pairs.{any-agree, any-map, pair-map, all-pairs, any-keep, pair-keep, any-putAll, pair-putAll, fails-less}
@@ -70,13 +70,17 @@ not-after e h =
     go true a = refl
     go false a = absurd (false≢true a)
 
-none-after : (m : Map ℕ) → all eventRowAllowed m ≡ true → Every (λ e. afterConclusion e e ≡ false) (map eventNumberIn m)
+-- what is allowed of a row's 52 bits
+abbrev fieldsAllowed : Row ℕ → Bool
+fieldsAllowed r = eventAllowed (eventIn (eventNumberIn r))
+
+none-after : (m : Map ℕ) → all fieldsAllowed m ≡ true → Every (λ e. afterConclusion e e ≡ false) (map eventNumberIn m)
 unfolding all
 none-after [] h = tt
 none-after (r ∷ m) h =
-    (not-after (eventNumberIn r) (and-left (eventAllowed (eventIn (eventNumberIn r))) _ (and-left (eventRowAllowed r) (all eventRowAllowed m) h)), none-after m (and-right (eventRowAllowed r) (all eventRowAllowed m) h))
+    (not-after (eventNumberIn r) (and-left (fieldsAllowed r) (all fieldsAllowed m) h), none-after m (and-right (fieldsAllowed r) (all fieldsAllowed m) h))
 
-as-pair : (m : Map ℕ) → all eventRowAllowed m ≡ true → t28 (map eventNumberIn m) ≡ somePair (clash 28) (map eventNumberIn m)
+as-pair : (m : Map ℕ) → all fieldsAllowed m ≡ true → t28 (map eventNumberIn m) ≡ somePair (clash 28) (map eventNumberIn m)
 as-pair m h = all-pairs afterConclusion (map eventNumberIn m) (none-after m h)
 
 -- ---- the tests of two are the same both ways round
@@ -183,14 +187,24 @@ module _ (c : ℕ) (es : List Said) (w : all eventReadable es ≡ true) (n : ℕ
           (λ f m e. pair-map eventNumberIn p (keep f m) ∙ pair-keep q f m (sym (pair-map eventNumberIn p m) ∙ e))
           t
 
-  -- the rows of the case are allowed, those that stand and those afterwards
-  stood-allowed : all eventRowAllowed stood ≡ true
-  stood-allowed = all-keep eventRowAllowed (λ k. eqb (caseNamed siad k) c) (s .events) (parts .events-allowed)
+  -- the 52 bits of the case's rows are allowed, of those that stand and of those afterwards
+  before-allowed : all fieldsAllowed (s .events) ≡ true
+  before-allowed =
+      all-tell fieldsAllowed (s .events)
+      (every-map (s .events) (λ r h. and-left (fieldsAllowed r) (tailAllowedWide rowBytes (eventNumberIn r) (tailIn r)) h) (all-told eventRowAllowed (s .events) (parts .events-allowed)))
 
-  left-allowed : (t : Kind) → all eventRowAllowed (left t) ≡ true
+  stood-allowed : all fieldsAllowed stood ≡ true
+  stood-allowed = all-keep fieldsAllowed (λ k. eqb (caseNamed siad k) c) (s .events) before-allowed
+
+  brought-allowed : all fieldsAllowed rows ≡ true
+  brought-allowed =
+      each-row c fieldsAllowed eventReadable
+      (λ e h. ap (λ (n : ℕ). eventAllowed (eventIn n)) (event-read c (e .event) (e .evaluation) (number-lt e h) (evaluation-lt e h)) ∙ number-allowed e h) es w
+
+  left-allowed : (t : Kind) → all fieldsAllowed (left t) ≡ true
   left-allowed t =
-      all-keep eventRowAllowed (λ k. eqb (caseNamed siad k) c) (applied t [] rows (λ k. false) s .events)
-      (all-events [] rows (λ k. false) s eventRowAllowed t (each-row c eventRowAllowed es w (event-row-allowed c)) (parts .events-allowed))
+      all-keep fieldsAllowed (λ k. eqb (caseNamed siad k) c) (applied t [] rows (λ k. false) s .events)
+      (all-events [] rows (λ k. false) s fieldsAllowed t brought-allowed before-allowed)
 
 -- ---- 25 to 28 of a record: what it brings, unless it cancels
 

@@ -5,11 +5,10 @@ use mathlib.Core.Bool.{Bool, true, false, cond, not, _||_}
 use mathlib.Core.List.{List, [], _∷_, map}
 use mathlib.Core.Option.{some}
 use native.Mathlib.Omega.{arith}
-use lib.Dec.{eqb, ltb}
-use borrow.Author.Tests.{eqb-true, eq-eqb, ltb-true}
+use lib.Dec.{eqb}
+use borrow.Author.Tests.{eqb-true, eq-eqb}
 use Rattle.laws.specs.Lists.{all, any, somePair}
 use Rattle.laws.proofs.Order.{eqb-sym}
-use Rattle.laws.proofs.Truth.{and-left}
 use Rattle.laws.proofs.Every.{Every, every-map, all-told, same-truth}
 use Rattle.model.specs.Map.{Row, Map, isSome, find, has, keep, anyIn, allIn, twice}
 use Rattle.model.specs.Anomalies.{t22}
@@ -18,14 +17,14 @@ use Rattle.model.proofs.MapLaws.{find-keep}
 use Rattle.register.specs.Layout.{caseNamed}
 use Rattle.register.specs.Sound.{eventsOf}
 use Rattle.register.specs.Stored.{Sized, Fits, events as eventGroup}
-use Rattle.home_care.specs.Row.{rowBytes, ownBits, eventBits, keyNumber, siad, eventNumberIn, eventKeyOf, eventIn, eventRow}
-use Rattle.home_care.specs.Allowed.{eventAllowed}
+use Rattle.home_care.specs.Row.{rowBytes, ownBits, eventBits, evaluationBits, keyNumber, siad, eventNumberIn, eventKeyOf, eventRow}
 use Rattle.home_care.specs.Record.{Head, Said, events, eventNumbers}
 use Rattle.home_care.proofs.Laid.{row-width}
 use Rattle.home_care.proofs.EventKeys.{row-parts}
 use Rattle.home_care.proofs.ReadBack.{event-case, event-read, event-key}
 use Rattle.checks.specs.Flow.{flow, eventRows}
 use Rattle.checks.specs.Readable.{eventReadable}
+use Rattle.checks.proofs.RowsAllowed.{number-lt, evaluation-lt}
 use Rattle.judge.specs.ByNumber.{clash, keyAmong}
 use Rattle.judge.proofs.Pairs.{any-agree, any-map}
 
@@ -50,9 +49,9 @@ sized-own : (c : ℕ) (r : Row ℕ) → Sized eventGroup siad r → caseNamed si
 sized-own c r s e =
     record { of = e; parts = row-parts rowBytes row-width r s ∙ ap (λ (d : ℕ). d * 2 ^ ownBits + eventKeyOf (eventNumberIn r)) e }
 
-row-own : (c e : ℕ) → e < 2 ^ eventBits → Own c (eventRow c e)
-row-own c e h =
-    record { of = event-case c e h; parts = event-key c e h ∙ ap (λ (d : ℕ). c * 2 ^ ownBits + eventKeyOf d) (sym (event-read c e h)) }
+row-own : (c e v : ℕ) → e < 2 ^ eventBits → v < 2 ^ evaluationBits → Own c (eventRow c e v)
+row-own c e v h l =
+    record { of = event-case c e v h l; parts = event-key c e v h l ∙ ap (λ (d : ℕ). c * 2 ^ ownBits + eventKeyOf d) (sym (event-read c e v h l)) }
 
 pub own-standing : (c : ℕ) (m : Map ℕ) → Fits eventGroup siad m → Every (Own c) (eventsOf siad c m)
 unfolding Fits keep
@@ -63,24 +62,24 @@ own-standing c (r ∷ m) f = go (eqb (caseNamed siad (r .key)) c) refl (own-stan
     go true e ih = (sized-own c r (f .0) (eqb-true (caseNamed siad (r .key)) c e), ih)
     go false e ih = ih
 
--- of 52 bits each
+-- of 52 bits each, and 47 beside them
 abbrev Narrow : List Said → Type 0
-Narrow es = Every (λ e. e .event < 2 ^ eventBits) es
+Narrow es = Every (λ e. (e .event < 2 ^ eventBits) × (e .evaluation < 2 ^ evaluationBits)) es
 
 are-narrow : (es : List Said) → all eventReadable es ≡ true → Narrow es
 are-narrow es w =
-    every-map es (λ e r. ltb-true (e .event) (2 ^ eventBits) (and-left (ltb (e .event) (2 ^ eventBits)) (eventAllowed (eventIn (e .event))) r)) (all-told eventReadable es w)
+    every-map es (λ e r. (number-lt e r, evaluation-lt e r)) (all-told eventReadable es w)
 
 module _ (c : ℕ) where
   own-of : (es : List Said) → Narrow es → Every (Own c) (eventRows c es)
   unfolding eventRows
   own-of [] w = tt
-  own-of (e ∷ es) w = (row-own c (e .event) (w .0), own-of es (w .1))
+  own-of (e ∷ es) w = (row-own c (e .event) (e .evaluation) (w .0 .0) (w .0 .1), own-of es (w .1))
 
   back : (es : List Said) → Narrow es → map eventNumberIn (eventRows c es) ≡ eventNumbers es
   unfolding eventRows eventNumbers
   back [] w = refl
-  back (e ∷ es) w = ap₂ (λ (x : ℕ) (l : List ℕ). x ∷ l) (event-read c (e .event) (w .0)) (back es (w .1))
+  back (e ∷ es) w = ap₂ (λ (x : ℕ) (l : List ℕ). x ∷ l) (event-read c (e .event) (e .evaluation) (w .0 .0) (w .0 .1)) (back es (w .1))
 
   pub own-rows : (es : List Said) → all eventReadable es ≡ true → Every (Own c) (eventRows c es)
   own-rows es w = own-of es (are-narrow es w)

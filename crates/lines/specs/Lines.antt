@@ -40,7 +40,7 @@ linesOf v =
     ++ recordLines 1 (take (v .records) (v .answers))
     ++ standingLine (casesHeld (v .register)) (eventsHeld (v .register))
 
--- L4: "it submits to an emptied register of 14,564 bytes (R is 160) with an answer list of 512 bytes"
+-- L4: "it submits to an emptied register of 14,564 bytes (R is 151) with an answer list of 512 bytes"
 unfoldable pub registerBytes : ℕ
 registerBytes = 14564
 

@@ -84,7 +84,7 @@ fn standing_line(out: &mut [u8], at: usize, reg: &[u8]) -> usize
     put_text(out, b, b"\n")
 }
 
-// L4: "an emptied register of 14,564 bytes (R is 160) with an answer list of 512 bytes"
+// L4: "an emptied register of 14,564 bytes (R is 151) with an answer list of 512 bytes"
 fn submit(out: &mut [u8], sub: &[u8], track: u64, year: u64, quarter: u64) -> usize
     ensures { λ r. ⌜ PutUpTo mostPrinted 0 (printedFor (takes track year quarter (now (sub .entry)))) (now (out .entry)) (now (out .exit)) r ⌝ }
 {

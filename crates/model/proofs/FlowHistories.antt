@@ -15,9 +15,9 @@ use Rattle.laws.proofs.Every.{Every}
 use Rattle.model.proofs.MachineLaws.{run-append, step-taken, run-keeps, runAll-keeps, conserved, total-taken, total-same}
 use Rattle.model.proofs.Histories.{resolve, runAll-look, AllTaken, all-back, takenAll-all, log-run}
 use Rattle.model.proofs.FlowLaws.{same, case-found, event-found, good-applied, cases-size, events-size, fits-applied}
-use Rattle.model.specs.Map.{isSome, find, has, Asc, delAll, anyIn}
+use Rattle.model.specs.Map.{isSome, find, has, Asc, delAll, anyIn, lastOf}
 use Rattle.model.specs.Checks.{Check, first}
-use Rattle.model.specs.Log.{lastOf, sumOf, acceptedBy, total, runAll, takenAll, shown, Shown, ofCase, ofEvent, caseShown, eventShown, Lawful, Undoes, casesIn, casesOut, eventsIn, eventsOut, carried}
+use Rattle.model.specs.Log.{sumOf, acceptedBy, total, runAll, takenAll, shown, Shown, ofCase, ofEvent, caseShown, eventShown, Lawful, Undoes, casesIn, casesOut, eventsIn, eventsOut, carried}
 use Rattle.model.specs.Machine.{Machine, run}
 use Rattle.model.specs.Transmission.{Kind, insert, vary, cancel, isCancel}
 use Rattle.model.specs.Flow.{State, empty, Good, Flow, machine}

@@ -9,9 +9,9 @@ use borrow.Author.Tests.{eqb-true}
 use Rattle.model.proofs.Lists.{lastOf-append}
 use Rattle.laws.proofs.Every.{Every, every-append}
 use Rattle.model.proofs.MachineLaws.{run-append, taken-append, taken-every}
-use Rattle.model.specs.Map.{orElse}
+use Rattle.model.specs.Map.{orElse, lastOf}
 use Rattle.model.specs.Machine.{Machine, accepts, step, run}
-use Rattle.model.specs.Log.{lastOf, acceptedBy, runAll, takenAll}
+use Rattle.model.specs.Log.{acceptedBy, runAll, takenAll}
 
 -- what the last record to speak left, or else d
 abbrev pub resolve : {R O : Type 0} → (R → O) → Option R → O → O

@@ -8,8 +8,8 @@ use mathlib.Core.Option.{Option, none, some}
 use native.Mathlib.Omega.{arith}
 use Rattle.laws.proofs.Truth.{or-left, or-right}
 use Rattle.laws.specs.Lists.{all, any}
-use Rattle.model.specs.Map.{orElse}
-use Rattle.model.specs.Log.{lastOf, LastIs}
+use Rattle.model.specs.Map.{orElse, lastOf}
+use Rattle.model.specs.Log.{LastIs}
 
 pub not-and : (a b : Bool) → not (a && b) ≡ not a || not b
 not-and true b = refl

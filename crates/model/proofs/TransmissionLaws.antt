@@ -11,10 +11,10 @@ use Rattle.model.proofs.MapLaws.{find-nil, any-key, key-any}
 use Rattle.model.proofs.Lists.{not-and, not-all, any-same, last-passes}
 use Rattle.model.proofs.Histories.{resolve, run-look, AllTaken, all-front, all-at, all-same, takenAll-all, log-run}
 use Rattle.model.proofs.FlowHistories.{case-law, event-law}
-use Rattle.model.specs.Map.{Map, isSome, find, has, anyIn, allIn}
+use Rattle.model.specs.Map.{Map, isSome, find, has, anyIn, allIn, lastOf}
 use Rattle.model.specs.Checks.{Check}
 use Rattle.model.specs.Machine.{Machine, run}
-use Rattle.model.specs.Log.{lastOf, shown, sent, ofCase, ofEvent, caseShown, eventShown, caseSent, eventSent, Lawful}
+use Rattle.model.specs.Log.{shown, sent, ofCase, ofEvent, caseShown, eventShown, caseSent, eventSent, Lawful}
 use Rattle.model.specs.Transmission.{Kind, insert, vary, cancel, isInsert, isCancel, Sent, nothing, last, admitted, standing}
 use Rattle.model.specs.Flow.{State, empty, Flow, machine}
 use Rattle.model.specs.Anomalies.{t14, t15}

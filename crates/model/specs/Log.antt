@@ -8,17 +8,12 @@ use mathlib.Core.Option.{Option, none, some}
 use lib.Dec.{eqb}
 use lib.ListN.{length}
 use Rattle.laws.specs.Lists.{any}
-use Rattle.model.specs.Map.{Map, orElse, find, has, keep, delAll}
+use Rattle.model.specs.Map.{Map, lastOf, find, has, keep, delAll}
 use Rattle.model.specs.Checks.{Check, first}
 use Rattle.model.specs.Machine.{Machine, accepts, step, run}
 use Rattle.model.specs.Transmission.{Kind, insert, vary, cancel, isInsert, isCancel, Sent, nothing, last}
 use Rattle.model.specs.Flow.{State, Flow}
 use Rattle.model.specs.Anomalies.{t14, t15, t22}
-
--- the last element of a list that passes a test
-unfoldable pub lastOf : {R : Type 0} → (R → Bool) → List R → Option R
-lastOf p [] = none
-lastOf p (r ∷ rs) = orElse (lastOf p rs) (cond (p r) (some r) none)
 
 -- r is the last element of l that passes the test: it does, and none after it
 pub record LastIs {R : Type 0} (p : R → Bool) (l : List R) (r : R) : Type 0 where

@@ -18,7 +18,12 @@ abbrev pub orElse : {A : Type 0} → Option A → Option A → Option A
 orElse none b = b
 orElse (some a) b = some a
 
--- R2: "rows of 91 bytes": a key, and the fields past it
+-- the last element of a list that passes a test
+unfoldable pub lastOf : {R : Type 0} → (R → Bool) → List R → Option R
+lastOf p [] = none
+lastOf p (r ∷ rs) = orElse (lastOf p rs) (cond (p r) (some r) none)
+
+-- R2: "rows of 96 bytes": a key, and the fields past it
 pub record Row (F : Type 0) : Type 0 where
   pub key : ℕ
   pub val : F

@@ -31,7 +31,7 @@ abbrev pub eventsHeld : List ℕ → ℕ
 eventsHeld reg = num (take 2 (drop 2 reg))
 
 module _ (l : Layout) where
-  -- R2: "row i, from 0, begins at 4 + 91 i"; and its number
+  -- R2: "row i, from 0, begins at 4 + 96 i"; and its number
   abbrev pub rowAt : ℕ → ℕ
   rowAt i = 4 + l .bytes * i
 

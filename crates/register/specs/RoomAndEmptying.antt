@@ -10,7 +10,7 @@ use lib.Dec.{ltb}
 abbrev pub mostRows : ℕ
 mostRows = 4096
 
--- R4: "Room R, which cases and events share, is the smaller of 4,096 and (length - 4) / 91 rounded down"
+-- R4: "Room R, which cases and events share, is the smaller of 4,096 and (length - 4) / 96 rounded down"
 abbrev pub room : Layout → ℕ → ℕ
 room l n = min mostRows ((n - 4) / l .bytes)
 

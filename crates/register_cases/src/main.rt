@@ -128,7 +128,7 @@ fn clear(reg: &mut [u8], case: &[u8]) {
 
 // Room for three rows.
 fn story(put_case: &[u8], put_event: &[u8], case: &[u8]) {
-    let mut reg = [255u8; 277];
+    let mut reg = [255u8; 292];
     begin(&mut reg);
     fill(&mut reg, put_case, put_event);
     clear(&mut reg, case);
@@ -158,7 +158,7 @@ fn from_files() {
     story(
         part(&put_case, 0, c),
         part(&put_event, 0, e),
-        part(&cases, 4, 95),
+        part(&cases, 4, 100),
     );
 }
 

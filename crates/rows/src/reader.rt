@@ -85,14 +85,14 @@ pub fn compare(a: &[u8], b: &[u8], k: usize) -> Order
     }
 }
 
-// The 7-bit fields after a row's first `at` bits, as many as `out` has bytes.
-pub fn read_run(row: &[u8], at: usize, out: &mut [u8])
-    requires { ⌜ (length (now row) < 65536) × (at + 7 * length (now out) ≤ 8 * length (now row)) ⌝ }
-    ensures { λ _. ⌜ now (out .exit) ≡ eachAt (8 * length (now (row .entry)) - (at + 7 * length (now (out .entry)))) (length (now (out .entry))) 7 (num (now (row .entry))) ⌝ }
+// The fields of w bits each after a row's first `at` bits, as many as `out` has bytes.
+pub fn read_run(row: &[u8], at: usize, w: usize, out: &mut [u8])
+    requires { ⌜ (length (now row) < 65536) × (w ≤ 8) × (at + w * length (now out) ≤ 8 * length (now row)) ⌝ }
+    ensures { λ _. ⌜ now (out .exit) ≡ eachAt (8 * length (now (row .entry)) - (at + w * length (now (out .entry)))) (length (now (out .entry))) w (num (now (row .entry))) ⌝ }
 {
     let mut i = 0;
     while i < out.len() {
-        out[i] = get(row, at + 7 * i, 7) as u8;
+        out[i] = get(row, at + w * i, w) as u8;
         i += 1;
     }
 }

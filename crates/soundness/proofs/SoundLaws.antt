@@ -16,9 +16,9 @@ use Rattle.register.specs.Sound.{ascending, valid}
 use Rattle.register.specs.Stored.{Stored}
 use Rattle.register.proofs.States.{stored-empty}
 use Rattle.register.proofs.SoundLaws.{sound-of, sound-stored, sound-valid}
-use Rattle.home_care.specs.Row.{rowBytes, homeCare, siad}
+use Rattle.home_care.specs.Row.{rowBytes, oldBytes, homeCare, siad}
 use Rattle.home_care.specs.Fits.{RowWidth}
-use Rattle.home_care.proofs.Laid.{laid-wide, row-width, widest, widest-width}
+use Rattle.home_care.proofs.Laid.{laid-wide, row-width, old-width}
 use Rattle.soundness.specs.Sound.{homeCareRules, siadRules, isSoundWide, isSound}
 
 -- in rows of any width that has the fields
@@ -50,6 +50,6 @@ pub zero-sound : (n : ℕ) → 4 ≤ n → isSound (replicate n 0) ≡ true
 unfolding isSound
 zero-sound n h = wide-zero rowBytes row-width n h
 
--- and in the widest
-pub zero-widest : (n : ℕ) → 4 ≤ n → isSoundWide widest (replicate n 0) ≡ true
-zero-widest n h = wide-zero widest widest-width n h
+-- and in the rows of before
+pub zero-old : (n : ℕ) → 4 ≤ n → isSoundWide oldBytes (replicate n 0) ≡ true
+zero-old n h = wide-zero oldBytes old-width n h

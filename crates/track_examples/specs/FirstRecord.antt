@@ -8,5 +8,5 @@ use Rattle.track_examples.specs.declared.First.the-variants as first
 
 -- where there is one, it is of its track's shape
 abbrev pub IsFirst : ℕ → List ℕ → First → Type 0
-IsFirst track s (first.Record top next) = (a : Tree) × OfShape track s top a
+IsFirst track s (first.Record top) = (a : Tree) × OfShape track s top a
 IsFirst track s first.Nothing = Unit

@@ -1,5 +1,6 @@
 // The XML examples of SIAD 6.4 (4.5.1 and 4.6.1), one after the other on the input, with the line breaks that the page put into long values removed and
-// `PresaInCarico` for `PresainCarico`: prints the fields that a person reads there. Each is held against its schema first, as a file that is taken is.
+// `PresaInCarico` for `PresainCarico`: prints the fields that a person reads there. Each is taken by the markup and held against its schema first, as a file
+// that is taken is.
 use home_care::event_bits::accesses_of;
 use home_care::event_bits::code_of;
 use home_care::event_bits::conferma_of;
@@ -7,8 +8,10 @@ use home_care::event_bits::date_of;
 use home_care::event_bits::end_of;
 use home_care::event_bits::kind_of;
 use markup::Cursor;
+use markup::Document;
 use markup::Move;
 use markup::bytes::part;
+use markup::file::document;
 use nodes::Node;
 use nodes::Six;
 use nodes::Span;
@@ -25,9 +28,9 @@ use tracks::shapes::shape_of;
 ghost use Rattle.days.specs.Table.{Firsts};
 ghost use Rattle.track_examples.specs.FirstRecord.{IsFirst};
 
-// The children of a file's first record, and the place past the file's root.
+// The children of a file's first record.
 pub enum First {
-    Record { top: Six, next: usize },
+    Record(Six),
     Nothing,
 }
 
@@ -110,40 +113,41 @@ fn show_admission(s: &[u8], a: AdmissionRead) {
     show_span(s, a.stato);
 }
 
-fn show_event(w: u64) {
+// An event's fields, and the number of its evaluation.
+fn show_event(w: u64, evaluation: u64) {
     show_part(kind_of(w), false);
     show_part(date_of(w), false);
     show_part(code_of(w), false);
     show_part(end_of(w), false);
     show_part(accesses_of(w), false);
-    show_part(conferma_of(w), true);
+    show_part(conferma_of(w), false);
+    show_part(evaluation, true);
 }
 
-fn show_events(e: EventsRead, out: [u64; 128]) {
+fn show_events(e: EventsRead, out: [u64; 128], beside: [u64; 128]) {
     show_number(e.count as u64);
     show_flag(e.bad_conferma);
     show_flag(e.zero_prevalente);
     let n = e.count;
     for i in 0..128 {
         if i < n {
-            show_event(out[i]);
+            show_event(out[i], beside[i]);
         }
     }
 }
 
-// The first record of the file whose root stands at a place, where that file is of a track's shape.
-fn first_record(track: u64, s: &[u8], root: usize) -> First
+// The first record of a file, where that file is in the markup and of a track's shape.
+fn first_record(track: u64, s: &[u8]) -> First
     ensures { λ r. ⌜ IsFirst track (now (s .entry)) r ⌝ }
 {
-    let here = Cursor { at: root };
-    let Move::To(end) = here.element(s, 12) else {
+    let Document::Root(root) = document(s) else {
         return First::Nothing;
     };
-    let ShapeAnswer::Fine(_) = shape_of(track, s, root) else {
+    let ShapeAnswer::Fine(_) = shape_of(track, s, root.at) else {
         return First::Nothing;
     };
     let root_node = Node {
-        at: root,
+        at: root.at,
         levels: 12,
     };
     let one = child(s, root_node, b"Assistenza");
@@ -152,28 +156,42 @@ fn first_record(track: u64, s: &[u8], root: usize) -> First
     }
     let walked = top_of(s, one.at);
     let top = walked.found;
-    First::Record { top, next: end.at }
+    First::Record(top)
 }
 
-fn run(t: &[u32; 2400], s: &[u8])
+fn show_taken(t: &[u32; 2400], s: &[u8])
     requires { ⌜ Firsts (now t) ⌝ }
 {
-    let First::Record { top, next } = first_record(1, s, 0) else {
+    let First::Record(top) = first_record(1, s) else {
         return;
     };
     show_head(s, head(t, s, top));
     show_admission(s, admission(s, top));
-    let between = Cursor { at: next };
-    let Move::To(second) = between.misc(s) else {
+}
+
+fn show_happened(t: &[u32; 2400], s: &[u8])
+    requires { ⌜ Firsts (now t) ⌝ }
+{
+    let First::Record(top) = first_record(2, s) else {
         return;
     };
-    let First::Record { top: other, .. } = first_record(2, s, second.at) else {
-        return;
-    };
-    show_head(s, head(t, s, other));
+    show_head(s, head(t, s, top));
     let mut out = [0u64; 128];
-    let e = events(t, s, other, &mut out);
-    show_events(e, out);
+    let mut beside = [0u64; 128];
+    let e = events(t, s, top, &mut out, &mut beside);
+    show_events(e, out, beside);
+}
+
+// The two files, the second from the end of the first one's root.
+fn run(t: &[u32; 2400], s: &[u8])
+    requires { ⌜ Firsts (now t) ⌝ }
+{
+    let start = Cursor { at: 0 };
+    let Move::To(end) = start.element(s, 12) else {
+        return;
+    };
+    show_taken(t, part(s, 0, end.at));
+    show_happened(t, part(s, end.at, s.len()));
 }
 
 fn main() {

@@ -1,18 +1,14 @@
 -- A record of Track 1 that is without a fault, by its paths.
-use Prim.Native.Nat.{ℕ, _-_, _<_}
-use Prim.Native.Char.{code}
+use Prim.Native.Nat.{ℕ, _<_}
 use mathlib.Core.Path.{_≡_, refl, ap}
-use mathlib.Core.Bool.{Bool, true}
-use mathlib.Core.List.{List, [], _∷_}
+use mathlib.Core.Bool.{true}
+use mathlib.Core.List.{List, []}
 use mathlib.Core.Logic.{_⊎_, inl, inr}
-use native.Mathlib.Omega.{arith}
-use lib.Dec.{leb}
-use borrow.Author.Tests.{leb-true, le-leb}
-use Rattle.laws.specs.Decimal.{decimalAfter, decimal}
-use Rattle.laws.specs.Lists.{all, same, bytes}
-use Rattle.codes.specs.CodesAndCharacters.{Range, inRanges, letters, alnums}
+use Rattle.laws.specs.Decimal.{decimal}
+use Rattle.laws.specs.Lists.{same, bytes}
+use Rattle.codes.specs.CodesAndCharacters.{inRanges, letters, alnums}
 use Rattle.markup.specs.Elements.{Tree}
-use Rattle.schema.specs.Texts.{Texts, chars, fitsText}
+use Rattle.schema.specs.Texts.{Texts, fitsText}
 use Rattle.schema.specs.Schema.{Particle, Node, leaf, group, another, Nodes, none, _▸_}
 use Rattle.nodes.specs.Lookup.{childOf, textOf}
 use Rattle.nodes.proofs.Present.{nodeOf, only, owed, MayLack, lacks, has, child-one, child-maybe}
@@ -21,28 +17,13 @@ use Rattle.nodes.proofs.Legible.{Legible}
 use Rattle.schemas.specs.FieldTexts
 use Rattle.schemas.specs.Parts
 use Rattle.schemas.specs.Track1
-use Rattle.tracks.specs.RecordFields.{_▹_, admissionOf, headOf}
+use Rattle.tracks.specs.RecordFields.{_▹_, mainOf, admissionOf, headOf}
 use Rattle.tracks.specs.WellRead.{WellHead, WellCase, WellResidence, WellAdmission, WellPrevalente, Spelled}
-use Rattle.tracks.proofs.Sets.{written-below}
-use Rattle.tracks.proofs.Texts.{spelled, one-digit, wide-fit, four-digits}
+use Rattle.tracks.proofs.Scales.{graded-1, rated, well-scales}
+use Rattle.tracks.proofs.Texts.{spelled, wide-fit, four-digits}
 use Rattle.tracks.proofs.Paths.{Clean, far, text-fits, head-read, prevalente-read}
 
--- a scale that may be missing: its number passes a test that 0 passes
-scale-read : {h : Particle} {ns : Nodes} {t : Tree} (m : Clean (group h ns) t) (x : List ℕ) (d : Particle) (rs : List Range) (q : ℕ → Bool) → nodeOf x ns ≡ only (leaf d (chars rs 1 1))
-    → ((b : ℕ) → inRanges rs b ≡ true → q (b - code "0") ≡ true) → q 0 ≡ true → q (decimal (textOf (childOf x t))) ≡ true
-unfolding decimalAfter
-scale-read {t = t} m x d rs q e h z = go (child-maybe Legible far m x (leaf d (chars rs 1 1)) e)
-  where
-    go : MayLack Legible (leaf d (chars rs 1 1)) x t → q (decimal (textOf (childOf x t))) ≡ true
-    go (lacks u v) = rw v z
-    go (has u v) = one-digit rs q (textOf (childOf x t)) h (text-fits v)
-
-six-below : (a b c d e f : ℕ) → leb a 3 ≡ true → leb b 3 ≡ true → leb c 3 ≡ true → leb d 3 ≡ true → leb e 3 ≡ true → leb f 3 ≡ true
-    → all (λ n. leb n 3) (a ∷ b ∷ c ∷ d ∷ e ∷ f ∷ []) ≡ true
-unfolding all
-six-below a b c d e f u v w x y z = rw (u, v, w, x, y, z)
-
--- the nodes in a Residenza, in a Valutazione
+-- the nodes in a Residenza
 abbrev inside : Node → Nodes
 inside (leaf h x) = none
 inside (group h ns) = ns
@@ -50,9 +31,6 @@ inside (another h) = none
 
 abbrev residence-nodes : Nodes
 residence-nodes = inside Track1.residenza
-
-abbrev valued-nodes : Nodes
-valued-nodes = inside Track1.valutazione
 
 -- ---- the groups on the way
 
@@ -79,10 +57,6 @@ module _ (a : Tree) (m : Clean Track1.assistenza a) where
   value : Clean Track1.valutazione (a ▹ "Eventi" ▹ "Valutazione")
   unfolding nodeOf owed same
   value = child-one Legible far events (bytes "Valutazione") Track1.valutazione refl refl
-
-  disturbi : Clean (Parts.all-of "Disturbi" [] Parts.disturbi) (a ▹ "Eventi" ▹ "Valutazione" ▹ "Disturbi")
-  unfolding nodeOf owed same
-  disturbi = child-one Legible far value (bytes "Disturbi") (Parts.all-of "Disturbi" [] Parts.disturbi) refl refl
 
   assistito : Clean Track1.assistito (a ▹ "Assistito")
   unfolding nodeOf owed same
@@ -144,33 +118,10 @@ module _ (a : Tree) (m : Clean Track1.assistenza a) where
         stato = stato;
       }
 
-  three : (x : List ℕ) (d : Particle) → nodeOf x valued-nodes ≡ only (leaf d FieldTexts.autonomia) → leb (decimal (textOf (childOf x (a ▹ "Eventi" ▹ "Valutazione")))) 3 ≡ true
-  three x d e = scale-read value x d _ (λ n. leb n 3) e (written-below 1 3) refl
-
-  troubled : (x : List ℕ) (d : Particle) → nodeOf x Parts.disturbi ≡ only (leaf d FieldTexts.disturbo)
-      → leb (decimal (textOf (childOf x (a ▹ "Eventi" ▹ "Valutazione" ▹ "Disturbi")))) 3 ≡ true
-  troubled x d e = scale-read disturbi x d _ (λ n. leb n 3) e (written-below 1 3) refl
-
-  risk : leb (decimal (textOf (a ▹ "Eventi" ▹ "Valutazione" ▹ "RischioInfettivo"))) 2 ≡ true
-  unfolding nodeOf same
-  risk = scale-read value (bytes "RischioInfettivo") _ _ (λ n. leb n 2) refl (written-below 1 2) refl
-
-  risk-three : leb (decimal (textOf (a ▹ "Eventi" ▹ "Valutazione" ▹ "RischioInfettivo"))) 3 ≡ true
-  risk-three =
-      let n = decimal (textOf (a ▹ "Eventi" ▹ "Valutazione" ▹ "RischioInfettivo")) in
-      let r = leb-true n 2 risk in
-      le-leb n 3 (omega arith)
-
   birth : decimal (textOf (a ▹ "Assistito" ▹ "DatiAnagrafici" ▹ "AnnoNascita")) < 10000
   birth = four-digits (textOf (a ▹ "Assistito" ▹ "DatiAnagrafici" ▹ "AnnoNascita")) (text-fits anno)
 
-  scales-read : all (λ n. leb n 3) (admissionOf a .case .scales) ≡ true
-  unfolding nodeOf same
-  scales-read =
-      six-below _ _ _ _ _ _ (three (bytes "Autonomia") _ refl) (three (bytes "GradoMobilita") _ refl) (troubled (bytes "Cognitivi") _ refl)
-      (troubled (bytes "Comportamentali") _ refl) (three (bytes "SupportoSociale") _ refl) risk-three
-
-  prevalente : WellPrevalente (textOf (a ▹ "Eventi" ▹ "Valutazione" ▹ "Patologia" ▹ "Prevalente"))
+  prevalente : WellPrevalente (mainOf (a ▹ "Eventi" ▹ "Valutazione"))
   unfolding nodeOf same
   prevalente = prevalente-read value refl
 
@@ -178,12 +129,10 @@ module _ (a : Tree) (m : Clean Track1.assistenza a) where
   case-read =
       record {
         birth = birth;
-        written = textOf (a ▹ "Eventi" ▹ "Valutazione" ▹ "Patologia" ▹ "Prevalente");
+        written = mainOf (a ▹ "Eventi" ▹ "Valutazione");
         prevalente = prevalente;
         fills = refl;
-        six = refl;
-        scales = scales-read;
-        last = leb-true _ 2 risk;
+        scaled = well-scales (a ▹ "Eventi" ▹ "Valutazione") (rated Legible far graded-1 value);
       }
 
   -- A RECORD OF TRACK 1

@@ -1,16 +1,16 @@
 -- The four kinds of event as Track 2's schema tells them, and what holds of each holds of any event.
-use Prim.Native.Nat.{ℕ}
+use Prim.Native.Nat.{ℕ, _<_}
 use mathlib.Core.Path.{_≡_, refl}
 use mathlib.Core.Bool.{Bool, true, false, cond, _||_, false≢true}
 use mathlib.Core.List.{List, [], _∷_}
 use Rattle.laws.specs.Lists.{any, same, bytes}
 use Rattle.codes.specs.CodesAndCharacters.{revaluation}
-use Rattle.markup.specs.Elements.{Tree}
+use Rattle.markup.specs.Elements.{Tree, kids}
 use Rattle.reading.specs.Everywhere.{Every}
 use Rattle.reading.proofs.Places.{every-map}
 use Rattle.schema.specs.Schema.{Particle, group, Nodes}
 use Rattle.nodes.proofs.Taken.{Meets, Taken}
-use Rattle.nodes.proofs.Present.{nodeOf, only, absent, owed, by-node}
+use Rattle.nodes.proofs.Present.{nodeOf, only, absent, owed, by-node, MayLack, lacks, child-maybe, child-none, first-missing}
 use Rattle.nodes.proofs.Fields.{attrNamed}
 use Rattle.schemas.specs.Track2
 use Rattle.tracks.specs.EventElements
@@ -22,6 +22,14 @@ use Rattle.tracks.proofs.Worded.{Field, in-child, in-attribute, Tells}
 pub data Valued (k : ℕ) (ns : Nodes) : Type 0 where
   unvalued : nodeOf (bytes "Valutazione") ns ≡ absent → Valued k ns
   valued : k ≡ revaluation → nodeOf (bytes "Valutazione") ns ≡ only Track2.valutazione → Valued k ns
+
+-- so an event's Valutazione is missing, or without a fault
+pub value-in : (p : Tree → Type 0) (far : (c : Tree) → p c → 0 < c .from) {k : ℕ} {h : Particle} {ns : Nodes} {t : Tree} → Valued k ns → Meets p (group h ns) t
+    → MayLack p Track2.valutazione (bytes "Valutazione") t
+value-in p far {t = t} (unvalued e) m =
+    let n = child-none p far m (bytes "Valutazione") e in
+    lacks n (first-missing (bytes "Valutazione") (kids (t .inside)) n)
+value-in p far (valued k e) m = child-maybe p far m (bytes "Valutazione") Track2.valutazione e
 
 pub record Kind (w : Wording) : Type 0 where
   pub head : Particle
@@ -89,7 +97,7 @@ by-name q x (w ∷ ws) h e = go (same (w .element) x) (h .0) (by-name q x ws (h 
     go true f g e = f refl
     go false f g e = g e
 
-every-both : (a b : Tree → Type 0) (ts : List Tree) → Every a ts → Every b ts → Every (λ t. a t × b t) ts
+pub every-both : (a b : Tree → Type 0) (ts : List Tree) → Every a ts → Every b ts → Every (λ t. a t × b t) ts
 every-both a b [] f g = tt
 every-both a b (t ∷ ts) f g = ((f .0, g .0), every-both a b ts (f .1) (g .1))
 

@@ -1,66 +1,63 @@
 -- A record of Track 2 that is without a fault, by its paths: any event with its prevalente, then all of them.
+use Prim.Native.Nat.{ℕ}
 use mathlib.Core.Path.{_≡_, refl, sym, ap, _∙_}
 use mathlib.Core.Bool.{Bool, true, false, cond, true≢false}
 use mathlib.Core.List.{List, [], _∷_}
 use Rattle.laws.specs.Lists.{same, bytes}
+use Rattle.codes.specs.CodesAndCharacters.{revaluation}
 use Rattle.markup.specs.Elements.{Tree, kids}
 use Rattle.reading.specs.Everywhere.{Every}
 use Rattle.schema.specs.Schema.{Particle, group, Nodes}
-use Rattle.nodes.specs.Lookup.{missing, firstNamed, hasChild, textOf}
-use Rattle.nodes.proofs.Present.{nodeOf, owed, MayLack, lacks, has, child-one, child-maybe, child-none, first-missing, group-taken}
+use Rattle.nodes.specs.Lookup.{missing, firstNamed, hasChild}
+use Rattle.nodes.proofs.Present.{nodeOf, owed, MayLack, lacks, has, child-one, child-none, first-missing, group-taken}
 use Rattle.nodes.proofs.Fields.{attrNamed}
 use Rattle.nodes.proofs.Legible.{Legible}
 use Rattle.schemas.specs.Parts
 use Rattle.schemas.specs.Track2
 use Rattle.home_care.specs.Row.{eventNumber}
 use Rattle.tracks.specs.EventElements.{Wording, wordings}
-use Rattle.tracks.specs.RecordFields.{_▹_, headOf, eventBy, saidWith, saidOf, isEvent, saidIn, allSaid}
-use Rattle.tracks.specs.WellRead.{WellHead, WellSaid, WellEach}
+use Rattle.tracks.specs.RecordFields.{_▹_, headOf, mainOf, scalesOf, eventBy, saidWith, saidOf, isEvent, saidIn, allSaid}
+use Rattle.tracks.specs.WellRead.{WellHead, WellPrevalente, WellSaid, WellEach}
 use Rattle.tracks.proofs.Paths.{Clean, far, head-read, prevalente-read}
-use Rattle.tracks.specs.Typed.{Worded, Each}
-use Rattle.tracks.proofs.Worded.{worded}
-use Rattle.tracks.proofs.EachKind.{Valued, Kind, kinds, by-name, each-child}
+use Rattle.tracks.specs.Typed.{Each}
+use Rattle.tracks.proofs.Scales.{graded-2, rated-maybe, well-scales}
+use Rattle.tracks.proofs.Worded.{allowed}
+use Rattle.tracks.proofs.EachKind.{Valued, value-in, Kind, kinds, by-name, each-child}
 
 -- ---- an event with its prevalente
 
 -- what is missing has no text
-no-text : (t : Tree) → t ▹ "Valutazione" ≡ missing → textOf (t ▹ "Valutazione" ▹ "Patologia" ▹ "Prevalente") ≡ []
+no-text : (t : Tree) → t ▹ "Valutazione" ≡ missing → mainOf (t ▹ "Valutazione") ≡ []
 unfolding firstNamed
-no-text t e = ap (λ (v : Tree). textOf (v ▹ "Patologia" ▹ "Prevalente")) e
+no-text t e = ap mainOf e
 
 -- a kind's event
 abbrev saidBy : Wording → Tree → Type 0
 saidBy w t = WellSaid (saidWith (eventNumber (eventBy w t)) t)
 
-module _ (w : Wording) (t : Tree) (r : Worded w t) where
-  alone : hasChild (bytes "Valutazione") t ≡ false → saidBy w t
-  alone v =
-      record {
-        event = eventBy w t;
-        packs = refl;
-        allowed = r .allowed;
-        valued = λ u. absurd (true≢false (sym u ∙ v));
-        unvalued = λ u. no-text t (first-missing (bytes "Valutazione") (kids (t .inside)) v);
-      }
-
-  with-value : {h : Particle} {ns : Nodes} → Valued (w .kind) ns → Clean (group h ns) t → saidBy w t
-  unfolding nodeOf same
-  with-value (Valued.unvalued e) m = alone (child-none Legible far m (bytes "Valutazione") e)
-  with-value (Valued.valued k e) m = go (child-maybe Legible far m (bytes "Valutazione") Track2.valutazione e)
-    where
-      go : MayLack Legible Track2.valutazione (bytes "Valutazione") t → saidBy w t
-      go (lacks u v) = alone u
-      go (has u v) =
-          record {
-            event = eventBy w t;
-            packs = refl;
-            allowed = r .allowed;
-            valued = λ _. (k, prevalente-read v refl);
-            unvalued = λ q. absurd (true≢false (sym u ∙ q));
-          }
+-- only a Rivalutazione has a Valutazione
+of-kind : {k : ℕ} {h : Particle} {ns : Nodes} {t : Tree} → Valued k ns → Clean (group h ns) t → hasChild (bytes "Valutazione") t ≡ true → k ≡ revaluation
+of-kind (Valued.unvalued e) m u = absurd (true≢false (sym u ∙ child-none Legible far m (bytes "Valutazione") e))
+of-kind (Valued.valued k e) m u = k
 
 kind-read : (w : Wording) (k : Kind w) (t : Tree) → Clean (group (k .head) (k .nodes)) t → saidBy w t
-kind-read w k t m = with-value w t (worded Legible far (k .tells) m) (k .values) m
+unfolding nodeOf same
+kind-read w k t m =
+    let v = value-in Legible far (k .values) m in
+    record {
+      event = eventBy w t;
+      packs = refl;
+      allowed = allowed Legible far (k .tells) m;
+      valued = λ u. (of-kind (k .values) m u, written v u);
+      unvalued = λ u. no-text t (first-missing (bytes "Valutazione") (kids (t .inside)) u);
+      scales = scalesOf (t ▹ "Valutazione");
+      scaled = well-scales (t ▹ "Valutazione") (rated-maybe Legible far (bytes "Valutazione") t graded-2 v);
+      keeps = refl;
+    }
+  where
+    written : MayLack Legible Track2.valutazione (bytes "Valutazione") t → hasChild (bytes "Valutazione") t ≡ true → WellPrevalente (mainOf (t ▹ "Valutazione"))
+    written (lacks u v) q = absurd (true≢false (sym q ∙ u))
+    written (has u v) q = prevalente-read v refl
 
 each-read : (ts : List Tree) → Every (λ t. Each (λ w. same (w .element) (t .named) ≡ true → saidBy w t) wordings) ts → WellEach (saidIn ts)
 unfolding saidIn

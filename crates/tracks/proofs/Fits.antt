@@ -1,10 +1,10 @@
--- What is well read fits a row's fields (RULES.md, R10 to R29).
+-- What is well read fits a row's fields (RULES.md, R10 to R33).
 use Prim.Native.Nat.{ℕ, _^_, _≤_, _<_}
 use Prim.Native.Char.{code}
 use mathlib.Core.Path.{_≡_, refl}
-use mathlib.Core.Bool.{Bool, true, not, _&&_, _||_}
+use mathlib.Core.Bool.{Bool, true, false, not, _&&_, _||_}
 use mathlib.Core.List.{List, [], _∷_, _++_}
-use mathlib.Core.Logic.{_⊎_, ⊎-elim}
+use mathlib.Core.Logic.{⊎-elim}
 use native.Mathlib.Omega.{arith}
 use lib.Dec.{eqb, ltb, leb}
 use lib.ListN.{length, drop, replicate, take-append-drop, length-append, length-take, length-replicate}
@@ -17,9 +17,9 @@ use Rattle.codes.proofs.Ranges.{ranges-below}
 use Rattle.markup.specs.Bytes.{isAllowed, inFile, isText}
 use Rattle.rows.specs.Packing.{each, Fit}
 use Rattle.home_care.specs.Row.{Key, Case}
-use Rattle.home_care.specs.Fits.{KeyFits, CaseFits}
-use Rattle.home_care.specs.Record.{padded}
-use Rattle.tracks.specs.WellRead.{WellKey, WellPrevalente, WellCase}
+use Rattle.home_care.specs.Fits.{KeyFits, CaseFits, EvaluationFits, evaluationWith}
+use Rattle.home_care.specs.Record.{Said, padded}
+use Rattle.tracks.specs.WellRead.{WellKey, WellPrevalente, WellScales, WellCase, WellSaid}
 
 fit-each : (w : ℕ) (p : ℕ → Bool) → ((b : ℕ) → p b ≡ true → b < 2 ^ w) → (t : List ℕ) → all p t ≡ true → Fit (each w t)
 unfolding all
@@ -82,6 +82,9 @@ prevalente-fits t r =
     fit-each 7 small is-small (padded t)
     (padded-small t (all-map (λ b. inFile b && isText b) small (λ b e. lt-ltb b (2 ^ 7) (text-small b e)) t (r .bytes)))
 
+pub scales-fit : (ss : List ℕ) → WellScales ss → Fit (each 2 ss)
+scales-fit ss r = fit-each 2 (λ n. leb n 3) (λ n e. let k = leb-true n 3 e in omega arith) ss (r .scales)
+
 -- the birth year is in question alone: 11 bounds it
 pub case-fits : (c : Case) → WellCase c → c .birth < 2 ^ 12 → CaseFits c
 case-fits c r b =
@@ -89,6 +92,26 @@ case-fits c r b =
       birth = b;
       prevalente = rw (r .fills) (prevalente-fits (r .written) (r .prevalente));
       prevalente-length = rw (r .fills) (padded-length (r .written));
-      scales = fit-each 2 (λ n. leb n 3) (λ n e. let k = leb-true n 3 e in omega arith) (c .scales) (r .scales);
-      scales-length = r .six;
+      scales = scales-fit (c .scales) (r .scaled);
+      scales-length = r .scaled .six;
+    }
+
+-- ---- an event's evaluation
+
+-- its prevalente, even a missing one
+pub said-main-fits : (s : Said) → WellSaid s → Fit (each 7 (padded (s .prevalente)))
+unfolding all
+said-main-fits s r = go (s .valued) refl
+  where
+    go : (b : Bool) → s .valued ≡ b → Fit (each 7 (padded (s .prevalente)))
+    go true u = prevalente-fits (s .prevalente) (r .valued u .1)
+    go false u = rw (r .unvalued u) (fit-each 7 small is-small (padded []) zeros-small)
+
+pub evaluation-fits : (s : Said) (r : WellSaid s) → EvaluationFits (evaluationWith (r .scales) (padded (s .prevalente)))
+evaluation-fits s r =
+    record {
+      scales = scales-fit (r .scales) (r .scaled);
+      scales-length = r .scaled .six;
+      prevalente = said-main-fits s r;
+      prevalente-length = padded-length (s .prevalente);
     }

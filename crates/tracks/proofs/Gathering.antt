@@ -1,4 +1,4 @@
--- The events of Eventi's children one after the other: a tally and a buffer that each child moves on, and the children ahead worded as their names say.
+-- The events of Eventi's children one after the other: a tally and two buffers that each child moves on, and the children ahead worded as their names say.
 use Prim.Native.Nat.{ℕ, suc, _+_}
 use mathlib.Core.Path.{_≡_, refl, sym, ap, _∙_, subst}
 use mathlib.Core.Bool.{Bool, true, false, cond, _||_}
@@ -17,7 +17,7 @@ use Rattle.home_care.specs.Record.{Said}
 use Rattle.home_care.specs.Anomalies.{zeroWritten, badConferma}
 use Rattle.tracks.specs.RecordFields.{saidOf, isEvent, saidIn}
 use Rattle.tracks.specs.Typed.{WordedByName}
-use Rattle.tracks.specs.View.{laid, IsEvents, told, happenedAt, counted, kept}
+use Rattle.tracks.specs.View.{laid, IsEvents, told, happenedAt, counted, kept, keptBeside}
 use Rattle.tracks.specs.declared.events.EventsRead.{EventsRead}
 use Rattle.tracks.specs.declared.events.Happened.{Happened}
 use Rattle.tracks.specs.declared.events.Happened.the-variants as happened
@@ -25,29 +25,31 @@ use Rattle.tracks.specs.declared.events.Happened.the-variants as happene
 pub record Gathered : Type 0 where
   pub tally : EventsRead
   pub buffer : List ℕ
+  pub beside : List ℕ
 
-abbrev pub gathered : EventsRead → List ℕ → Gathered
-gathered r b = record { tally = r; buffer = b }
+abbrev pub gathered : EventsRead → List ℕ → List ℕ → Gathered
+gathered r b v = record { tally = r; buffer = b; beside = v }
 
 abbrev tallied : ℕ → Bool → Bool → EventsRead
 tallied n p q = record { count = n; «bad_conferma» = p; «zero_prevalente» = q }
 
-unfoldable pub gather : EventsRead → List ℕ → List Tree → Gathered
-gather r b [] = gathered r b
-gather r b (t ∷ ts) = gather (counted (happenedAt t) r) (kept (happenedAt t) (r .count) b) ts
+unfoldable pub gather : EventsRead → List ℕ → List ℕ → List Tree → Gathered
+gather r b v [] = gathered r b v
+gather r b v (t ∷ ts) = gather (counted (happenedAt t) r) (kept (happenedAt t) (r .count) b) (keptBeside (happenedAt t) (r .count) v) ts
 
-pub gather-end : (r : EventsRead) (b : List ℕ) → gather r b [] ≡ gathered r b
+pub gather-end : (r : EventsRead) (b v : List ℕ) → gather r b v [] ≡ gathered r b v
 unfolding gather
-gather-end r b = refl
+gather-end r b v = refl
 
-pub gather-on : (r : EventsRead) (b : List ℕ) (t : Tree) {h : Happened} {m : EventsRead} {a : List ℕ} (ts : List Tree) → h ≡ happenedAt t → m ≡ counted h r → a ≡ kept h (r .count) b
-    → gather r b (t ∷ ts) ≡ gather m a ts
+pub gather-on : (r : EventsRead) (b v : List ℕ) (t : Tree) {h : Happened} {m : EventsRead} {a u : List ℕ} (ts : List Tree) → h ≡ happenedAt t → m ≡ counted h r → a ≡ kept h (r .count) b
+    → u ≡ keptBeside h (r .count) v → gather r b v (t ∷ ts) ≡ gather m a u ts
 unfolding gather
-gather-on r b t ts e m a = rw (← e, ← m, ← a)
+gather-on r b v t ts e m a u = rw (← e, ← m, ← a, ← u)
 
-pub kept-length : (h : Happened) (n : ℕ) (b : List ℕ) → length (kept h n b) ≡ length b
-kept-length (happened.Event w p q) n b = length-set b n w
-kept-length happened.Other n b = refl
+-- a buffer stays as long as it is
+pub kept-length : (h : Happened) (n : ℕ) (b : List ℕ) → (length (kept h n b) ≡ length b) × (length (keptBeside h n b) ≡ length b)
+kept-length (happened.Event w p q v) n b = (length-set b n w, length-set b n v)
+kept-length happened.Other n b = (refl, refl)
 
 -- numbers stored from place n on
 unfoldable stored : ℕ → List ℕ → List ℕ → List ℕ
@@ -62,20 +64,23 @@ pub or-false : (a : Bool) → (a || false) ≡ a
 or-false true = refl
 or-false false = refl
 
-same-tally : {n m : ℕ} {p q u v : Bool} (b : List ℕ) → n ≡ m → p ≡ q → u ≡ v → gathered (tallied n p u) b ≡ gathered (tallied m q v) b
-same-tally b e f g = rw (e, f, g)
+same-tally : {n m : ℕ} {p q u w : Bool} (b v : List ℕ) → n ≡ m → p ≡ q → u ≡ w → gathered (tallied n p u) b v ≡ gathered (tallied m q w) b v
+same-tally b v e f g = rw (e, f, g)
 
 abbrev numbers : List Said → List ℕ
 numbers es = map (λ e. e .event) es
 
-abbrev sum : EventsRead → List ℕ → List Said → Gathered
-sum r b es =
-    gathered (tallied (r .count + length es) (r .«bad_conferma» || any badConferma es) (r .«zero_prevalente» || any zeroWritten es)) (stored (r .count) b (numbers es))
+abbrev evaluations : List Said → List ℕ
+evaluations es = map (λ e. e .evaluation) es
 
-gather-is : (r : EventsRead) (b : List ℕ) (ts : List Tree) → gather r b ts ≡ sum r b (saidIn ts)
+abbrev sum : EventsRead → List ℕ → List ℕ → List Said → Gathered
+sum r b v es =
+    gathered (tallied (r .count + length es) (r .«bad_conferma» || any badConferma es) (r .«zero_prevalente» || any zeroWritten es)) (stored (r .count) b (numbers es)) (stored (r .count) v (evaluations es))
+
+gather-is : (r : EventsRead) (b v : List ℕ) (ts : List Tree) → gather r b v ts ≡ sum r b v (saidIn ts)
 unfolding gather saidIn stored any happenedAt
-gather-is r b [] = let z : r .count ≡ r .count + 0 = omega arith in same-tally b z (sym (or-false (r .«bad_conferma»))) (sym (or-false (r .«zero_prevalente»)))
-gather-is r b (t ∷ ts) = go (isEvent t) (λ q c. gather-is q c ts)
+gather-is r b v [] = let z : r .count ≡ r .count + 0 = omega arith in same-tally b v z (sym (or-false (r .«bad_conferma»))) (sym (or-false (r .«zero_prevalente»)))
+gather-is r b v (t ∷ ts) = go (isEvent t) (λ q c w. gather-is q c w ts)
   where
     e : Said
     e = saidOf t
@@ -83,13 +88,13 @@ gather-is r b (t ∷ ts) = go (isEvent t) (λ q c. gather-is q c ts)
     es : List Said
     es = saidIn ts
 
-    go : (p : Bool) → ((q : EventsRead) (c : List ℕ) → gather q c ts ≡ sum q c es)
-        → gather (counted (cond p (told e) happened.Other) r) (kept (cond p (told e) happened.Other) (r .count) b) ts ≡ sum r b (cond p (e ∷ es) es)
+    go : (p : Bool) → ((q : EventsRead) (c w : List ℕ) → gather q c w ts ≡ sum q c w es)
+        → gather (counted (cond p (told e) happened.Other) r) (kept (cond p (told e) happened.Other) (r .count) b) (keptBeside (cond p (told e) happened.Other) (r .count) v) ts ≡ sum r b v (cond p (e ∷ es) es)
     go true h =
         let k : r .count + 1 + length es ≡ r .count + suc (length es) = omega arith in
-        h (counted (told e) r) (set b (r .count) (e .event))
-        ∙ same-tally (stored (r .count + 1) (set b (r .count) (e .event)) (numbers es)) k (or-assoc (r .«bad_conferma») (badConferma e) (any badConferma es)) (or-assoc (r .«zero_prevalente») (zeroWritten e) (any zeroWritten es))
-    go false h = h r b
+        h (counted (told e) r) (set b (r .count) (e .event)) (set v (r .count) (e .evaluation))
+        ∙ same-tally (stored (r .count + 1) (set b (r .count) (e .event)) (numbers es)) (stored (r .count + 1) (set v (r .count) (e .evaluation)) (evaluations es)) k (or-assoc (r .«bad_conferma») (badConferma e) (any badConferma es)) (or-assoc (r .«zero_prevalente») (zeroWritten e) (any zeroWritten es))
+    go false h = h r b v
 
 stored-suc : (n x : ℕ) (b es : List ℕ) → stored (suc n) (x ∷ b) es ≡ x ∷ stored n b es
 unfolding stored
@@ -108,13 +113,14 @@ stored-is [] (e ∷ es) = stored-none 1 es
 stored-is (x ∷ b) [] = refl
 stored-is (x ∷ b) (e ∷ es) = stored-suc 0 e b es ∙ ap (λ (l : List ℕ). e ∷ l) (stored-is b es)
 
-pub gather-all : {r : EventsRead} {a : List ℕ} (b : List ℕ) (ts : List Tree) → gather (tallied 0 false false) b ts ≡ gathered r a → IsEvents r b a (saidIn ts)
-gather-all {r} {a} b ts e =
-    let k : gathered r a ≡ sum (tallied 0 false false) b (saidIn ts) = sym e ∙ gather-is (tallied 0 false false) b ts in
+pub gather-all : {r : EventsRead} {a u : List ℕ} (b v : List ℕ) (ts : List Tree) → gather (tallied 0 false false) b v ts ≡ gathered r a u → IsEvents r b a v u (saidIn ts)
+gather-all {r} {a} {u} b v ts e =
+    let k : gathered r a u ≡ sum (tallied 0 false false) b v (saidIn ts) = sym e ∙ gather-is (tallied 0 false false) b v ts in
     let z : 0 + length (saidIn ts) ≡ length (saidIn ts) = omega arith in
     record {
       count = ap (λ (g : Gathered). g .tally .count) k ∙ z;
       numbers = ap (λ (g : Gathered). g .buffer) k ∙ stored-is b (numbers (saidIn ts));
+      evaluations = ap (λ (g : Gathered). g .beside) k ∙ stored-is v (evaluations (saidIn ts));
       bad = ap (λ (g : Gathered). g .tally .«bad_conferma») k;
       zero = ap (λ (g : Gathered). g .tally .«zero_prevalente») k;
     }
@@ -124,9 +130,9 @@ nil-laid : (b : List ℕ) → b ≡ laid [] b
 nil-laid [] = refl
 nil-laid (x ∷ xs) = refl
 
-pub none-told : {i : Inside} (b : List ℕ) → i ≡ end → IsEvents (tallied 0 false false) b b (saidIn (kids i))
+pub none-told : {i : Inside} (b v : List ℕ) → i ≡ end → IsEvents (tallied 0 false false) b b v v (saidIn (kids i))
 unfolding saidIn any
-none-told b e = rw e (record { count = refl; numbers = nil-laid b; bad = refl; zero = refl })
+none-told b v e = rw e (record { count = refl; numbers = nil-laid b; evaluations = nil-laid v; bad = refl; zero = refl })
 
 -- ---- the children ahead
 

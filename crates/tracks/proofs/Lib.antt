@@ -1,5 +1,6 @@
 pub mod Sets
 pub mod Texts
+pub mod Scales
 pub mod Paths
 pub mod Worded
 pub mod EachKind
@@ -8,6 +9,7 @@ pub mod EventsRead
 pub mod WellRead
 pub mod Fits
 pub mod Padded
+pub mod Evaluations
 pub mod Examples
 pub mod Written
 pub mod Happening

@@ -1,25 +1,22 @@
 -- What a record without a fault has at the places that are read: each text is of its type.
-use Prim.Native.Nat.{ℕ, _-_, _<_}
-use Prim.Native.Char.{code}
+use Prim.Native.Nat.{ℕ, _<_}
 use mathlib.Core.Path.{_≡_, refl}
 use mathlib.Core.Bool.{Bool, true, false, cond}
 use mathlib.Core.List.{List, [], _∷_}
 use native.Mathlib.Omega.{arith}
-use lib.Dec.{leb, eqb}
+use lib.Dec.{eqb}
 use lib.ListN.{length}
-use borrow.Author.Tests.{leb-true}
-use Rattle.laws.specs.Decimal.{isDigit, decimalAfter, decimal}
-use Rattle.laws.specs.Lists.{all, same, bytes}
-use Rattle.codes.specs.CodesAndCharacters.{Range, inRanges, alnums, idChars}
+use Rattle.laws.specs.Lists.{same, bytes}
+use Rattle.codes.specs.CodesAndCharacters.{alnums, idChars}
 use Rattle.days.specs.Dates.{isDate}
 use Rattle.markup.specs.NamesAndValues.Read.{read}
 use Rattle.markup.specs.Elements.{Tree, element}
-use Rattle.schema.specs.Texts.{Texts, chars, date, fitsText}
+use Rattle.schema.specs.Texts.{Texts, date, fitsText}
 use Rattle.schema.specs.Schema.{Attr, Particle, Node, leaf, group, Nodes, none, _▸_}
 use Rattle.schema.specs.Shape.{faultOf}
 use Rattle.nodes.specs.Lookup.{childOf, attrOf, textOf}
 use Rattle.nodes.proofs.Taken.{Meets}
-use Rattle.nodes.proofs.Present.{nodeOf, only, owed, MayLack, lacks, has, child-one, child-maybe, group-attrs}
+use Rattle.nodes.proofs.Present.{nodeOf, only, owed, child-one, group-attrs}
 use Rattle.nodes.proofs.Fields.{given, attrNamed, leaf-text, leaf-attrs, attr-one}
 use Rattle.nodes.proofs.Placed.{Placed, all-placed}
 use Rattle.schemas.specs.FieldTexts
@@ -27,9 +24,9 @@ use Rattle.schemas.specs.Parts
 use Rattle.schemas.specs.Track1
 use Rattle.schemas.specs.Track2
 use Rattle.tracks.specs.RecordFields.{_▹_}
-use Rattle.tracks.specs.Typed.{IsNumber, IsScale}
+use Rattle.tracks.specs.Typed.{IsNumber}
 use Rattle.tracks.specs.View.{eachOf}
-use Rattle.tracks.proofs.Texts.{chars-fit, spelled, chars-digits, one-digit, region-number, date-is}
+use Rattle.tracks.proofs.Texts.{chars-fit, spelled, region-number, date-is}
 
 -- an element that was read, without a fault by its node
 abbrev pub Clean : Node → Tree → Type 0
@@ -50,19 +47,6 @@ module _ {h : Particle} {ns : Nodes} {t : Tree} (m : Clean (group h ns) t) where
 
   pub value-in : (a : Attr) → attrNamed (a .named) (h .attrs) ≡ given a → a .required ≡ true → fitsText (a .texts) (attrOf (a .named) t) ≡ true
   value-in a e r = attr-one (h .attrs) t (group-attrs Placed far m) (a .named) a e r
-
-  -- a scale that may be missing
-  pub scale-in : (x : List ℕ) (d : Particle) (rs : List Range) → nodeOf x ns ≡ only (leaf d (chars rs 1 1))
-      → ((b : ℕ) → inRanges rs b ≡ true → (isDigit b ≡ true) × (leb (b - code "0") 3 ≡ true)) → IsScale (textOf (childOf x t))
-  unfolding decimalAfter all
-  scale-in x d rs e h = go (child-maybe Placed far m x (leaf d (chars rs 1 1)) e)
-    where
-      go : MayLack Placed (leaf d (chars rs 1 1)) x t → IsScale (textOf (childOf x t))
-      go (lacks u v) = rw v (record { number = record { digits = refl; small = omega arith }; most = omega arith })
-      go (has u v) =
-          let y = leaf-text Placed far v in
-          let l = leb-true (decimal (textOf (childOf x t))) 3 (one-digit rs (λ n. leb n 3) (textOf (childOf x t)) (λ b i. h b i .1) y) in
-          record { number = record { digits = chars-digits rs 1 1 (textOf (childOf x t)) (λ b i. h b i .0) y; small = omega (arith, l) }; most = l }
 
 -- ---- the head
 

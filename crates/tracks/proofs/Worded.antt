@@ -14,7 +14,7 @@ use Rattle.codes.proofs.Ranges.{ranges-below}
 use Rattle.days.specs.DayNumbers.{dayCount}
 use Rattle.days.specs.Dates.{isDate, dayOf}
 use Rattle.markup.specs.Elements.{Tree}
-use Rattle.schema.specs.Texts.{Texts, number, plain, date}
+use Rattle.schema.specs.Texts.{Texts, number, plain, date, fitsText}
 use Rattle.schema.specs.Schema.{Attr, Particle, leaf, group, Nodes}
 use Rattle.schema.specs.Shape.{attrsFit}
 use Rattle.nodes.specs.Lookup.{childOf, attrOf, textOf}
@@ -23,10 +23,11 @@ use Rattle.nodes.proofs.Present.{nodeOf, only, owed, child-one, group-attrs}
 use Rattle.nodes.proofs.Fields.{given, attrNamed, leaf-text, attr-one, AttrMayLack, attr-maybe}
 use Rattle.schemas.specs.FieldTexts
 use Rattle.home_care.specs.Row.{never}
+use Rattle.home_care.specs.Allowed.{eventAllowed}
 use Rattle.home_care.proofs.EventAllowed.{event-allowed, event-fits}
 use Rattle.tracks.specs.EventElements.{Wording, valueAt, standsAt, textAt}
-use Rattle.tracks.specs.RecordFields.{eventBy}
-use Rattle.tracks.specs.Typed.{Worded}
+use Rattle.tracks.specs.RecordFields.{_▹_, eventBy}
+use Rattle.tracks.specs.Typed.{Evaluable, Worded}
 use Rattle.tracks.proofs.Sets.{written, written-digit}
 use Rattle.tracks.proofs.Texts.{one-digit, chars-digits, plain-fit, plain-digits, date-fit, date-is}
 
@@ -54,7 +55,7 @@ pub record Tells (w : Wording) (h : Particle) (ns : Nodes) : Type 0 where
 
 -- ---- so its fields are of their types
 
-or-true : (a : Bool) → a || true ≡ true
+pub or-true : (a : Bool) → a || true ≡ true
 or-true true = refl
 or-true false = refl
 
@@ -137,18 +138,24 @@ module _ (p : Tree → Type 0) (far : (c : Tree) → p c → 0 < c .from) {w : W
       chars-digits _ 1 1 (attrOf (b ∷ x) t) (written-digit 1 2 (omega arith))
       (attr-one (h .attrs) t fits (b ∷ x) (attr (b ∷ x) true FieldTexts.confermaPrecedente) e refl)
 
-  pub worded : Worded w t
-  worded =
-      let d = attr-one (h .attrs) t fits (w .date) (attr (w .date) true date) (k .day) refl in
-      let e =
-      event-allowed (eventBy w t) (date-fit (attrOf (w .date) t) d) (ends (w .end) (k .end) .0) (coded (w .child) (w .code) (k .code))
-      (visits (w .accesses) (k .accesses)) (confirmed (w .conferma) (k .conferma)) in
-      let f = event-fits (eventBy w t) e in
+  dated : fitsText date (attrOf (w .date) t) ≡ true
+  dated = attr-one (h .attrs) t fits (w .date) (attr (w .date) true date) (k .day) refl
+
+  pub allowed : eventAllowed (eventBy w t) ≡ true
+  allowed =
+      event-allowed (eventBy w t) (date-fit (attrOf (w .date) t) dated) (ends (w .end) (k .end) .0) (coded (w .child) (w .code) (k .code))
+      (visits (w .accesses) (k .accesses)) (confirmed (w .conferma) (k .conferma))
+
+  -- with what is known of its Valutazione
+  pub worded : Evaluable (t ▹ "Valutazione") → Worded w t
+  worded v =
+      let f = event-fits (eventBy w t) allowed in
       record {
-        dated = date-is (attrOf (w .date) t) d;
+        dated = date-is (attrOf (w .date) t) dated;
         ended = ends (w .end) (k .end) .1;
         code = record { digits = coded-digits (w .child) (w .code) (k .code); small = omega (arith, f .code) };
         accesses = record { digits = visits-digits (w .accesses) (k .accesses); small = omega (arith, f .accesses) };
         conferma = record { digits = confirmed-digits (w .conferma) (k .conferma); small = omega (arith, f .conferma) };
-        allowed = e;
+        allowed = allowed;
+        evaluable = λ _. v;
       }

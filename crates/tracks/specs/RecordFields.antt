@@ -1,4 +1,4 @@
--- The fields of a record that is of the shape, by paths on its tree (RULES.md, S23, S27 and R10 to R29).
+-- The fields of a record that is of the shape, by paths on its tree (RULES.md, S23, S27 and R10 to R34).
 use Prim.Native.Nat.{ℕ}
 use Prim.Native.String as string
 use mathlib.Core.Bool.{Bool, cond}
@@ -11,7 +11,7 @@ use Rattle.days.specs.Dates.{dayOf}
 use Rattle.markup.specs.Elements.{Tree, kids}
 use Rattle.nodes.specs.Lookup.{childOf, hasChild, attrOf, textOf}
 use Rattle.home_care.specs.Record.{Head, padded, Admission, Said, Record, admission, events}
-use Rattle.home_care.specs.Row.{Event, never, eventNumber}
+use Rattle.home_care.specs.Row.{Event, never, eventNumber, evaluationNumber, evaluates}
 use Rattle.tracks.specs.EventElements.{Wording, wordings, wordingIn, valueAt, standsAt, textAt}
 
 -- a path of names from an element down
@@ -33,6 +33,16 @@ headOf a =
           };
     }
 
+-- of a Valutazione: the Prevalente as it is written, and the six evaluation fields
+abbrev pub mainOf : Tree → List ℕ
+mainOf value = textOf (value ▹ "Patologia" ▹ "Prevalente")
+
+abbrev pub scalesOf : Tree → List ℕ
+scalesOf value =
+    decimal (textOf (value ▹ "Autonomia")) ∷ decimal (textOf (value ▹ "GradoMobilita")) ∷
+    decimal (textOf (value ▹ "Disturbi" ▹ "Cognitivi")) ∷ decimal (textOf (value ▹ "Disturbi" ▹ "Comportamentali")) ∷
+    decimal (textOf (value ▹ "SupportoSociale")) ∷ decimal (textOf (value ▹ "RischioInfettivo")) ∷ []
+
 abbrev pub admissionOf : Tree → Admission
 admissionOf a =
     let person = a ▹ "Assistito" ▹ "DatiAnagrafici" in
@@ -42,11 +52,8 @@ admissionOf a =
       case =
           record {
             birth = decimal (textOf (person ▹ "AnnoNascita"));
-            prevalente = padded (textOf (value ▹ "Patologia" ▹ "Prevalente"));
-            scales =
-                decimal (textOf (value ▹ "Autonomia")) ∷ decimal (textOf (value ▹ "GradoMobilita")) ∷
-                decimal (textOf (value ▹ "Disturbi" ▹ "Cognitivi")) ∷ decimal (textOf (value ▹ "Disturbi" ▹ "Comportamentali")) ∷
-                decimal (textOf (value ▹ "SupportoSociale")) ∷ decimal (textOf (value ▹ "RischioInfettivo")) ∷ [];
+            prevalente = padded (mainOf value);
+            scales = scalesOf value;
           };
       residence =
           record {
@@ -72,13 +79,19 @@ eventBy w t =
 abbrev pub eventOf : Tree → Event
 eventOf t = eventBy (wordingIn wordings (t .named)) t
 
+-- R34: "R32 and R33 are filled with conferma 2; with conferma 1, and in other kinds, they are zero": of an event of those bits
+abbrev pub evaluationFor : ℕ → Tree → ℕ
+evaluationFor e value =
+    cond (evaluates e) (evaluationNumber (record { scales = scalesOf value; prevalente = padded (mainOf value) })) 0
+
 -- an event of those bits, with its Valutazione
 abbrev pub saidWith : ℕ → Tree → Said
 saidWith e t =
     record {
       event = e;
       valued = hasChild (bytes "Valutazione") t;
-      prevalente = textOf (t ▹ "Valutazione" ▹ "Patologia" ▹ "Prevalente");
+      prevalente = mainOf (t ▹ "Valutazione");
+      evaluation = evaluationFor e (t ▹ "Valutazione");
     }
 
 abbrev pub saidOf : Tree → Said

@@ -46,26 +46,31 @@ pub record IsAdmission (s : List ℕ) (r : AdmissionRead) (a : Admission) : Type
 abbrev pub laid : List ℕ → List ℕ → List ℕ
 laid es b = take (length b) es ++ drop (length es) b
 
--- the events' 52 bits in order, their number, and the two tests
-pub record IsEvents (r : EventsRead) (before after : List ℕ) (es : List Said) : Type 0 where
+-- the events' 52 bits and their evaluations in order, their number, and the two tests
+pub record IsEvents (r : EventsRead) (before after before-kept after-kept : List ℕ) (es : List Said) : Type 0 where
   pub count : r .count ≡ length es
   pub numbers : after ≡ laid (map (λ e. e .event) es) before
+  pub evaluations : after-kept ≡ laid (map (λ e. e .evaluation) es) before-kept
   pub bad : r .«bad_conferma» ≡ any badConferma es
   pub zero : r .«zero_prevalente» ≡ any zeroWritten es
 
 -- what the code tells of an event, of any child of Eventi
 abbrev pub told : Said → Happened
-told e = happened.Event (e .event) (badConferma e) (zeroWritten e)
+told e = happened.Event (e .event) (badConferma e) (zeroWritten e) (e .evaluation)
 
 unfoldable pub happenedAt : Tree → Happened
 happenedAt t = cond (isEvent t) (told (saidOf t)) happened.Other
 
--- what the code has of the events after one more child, and the buffer; past the buffer's end nothing is kept
+-- what the code has of the events after one more child, and the two buffers; past a buffer's end nothing is kept
 abbrev pub counted : Happened → EventsRead → EventsRead
-counted (happened.Event w b z) r =
+counted (happened.Event w b z v) r =
     record { count = r .count + 1; «bad_conferma» = r .«bad_conferma» || b; «zero_prevalente» = r .«zero_prevalente» || z }
 counted happened.Other r = r
 
 abbrev pub kept : Happened → ℕ → List ℕ → List ℕ
-kept (happened.Event w b z) n out = set out n w
+kept (happened.Event w b z v) n out = set out n w
 kept happened.Other n out = out
+
+abbrev pub keptBeside : Happened → ℕ → List ℕ → List ℕ
+keptBeside (happened.Event w b z v) n out = set out n v
+keptBeside happened.Other n out = out

@@ -14,8 +14,8 @@ ghost use Rattle.nodes.specs.Stands.{Stands};
 ghost use Rattle.nodes.specs.Several.{Unfinished};
 ghost use Rattle.nodes.specs.Lookup.{textOf};
 ghost use Rattle.home_care.specs.Record.{padded};
-ghost use Rattle.tracks.specs.RecordFields.{_▹_, headOf, admissionOf};
-ghost use Rattle.tracks.specs.Typed.{Found, IsScale, Scaled, scalesOf};
+ghost use Rattle.tracks.specs.RecordFields.{headOf, mainOf, scalesOf, admissionOf};
+ghost use Rattle.tracks.specs.Typed.{Found, IsScale, Scaled};
 ghost use Rattle.tracks.specs.Top.{TopOf, OfShape};
 ghost use Rattle.tracks.specs.View.{IsHead, IsAdmission};
 use crate::fields::attr_byte;
@@ -102,7 +102,7 @@ pub fn head(t: &[u32; 2400], s: &[u8], top: Six) -> HeadRead
 }
 
 // A text of at most five bytes, filled up with zeros.
-fn filled(x: &[u8]) -> [u8; 5]
+pub fn filled(x: &[u8]) -> [u8; 5]
     ensures { λ r. ⌜ r ≡ padded (now (x .entry)) ⌝ }
 {
     [peek(x, 0), peek(x, 1), peek(x, 2), peek(x, 3), peek(x, 4)]
@@ -125,9 +125,9 @@ pub struct ValueRead {
     pub scales: [u8; 6],
 }
 
-fn valued(s: &[u8], value: Node) -> ValueRead
+pub fn valued(s: &[u8], value: Node) -> ValueRead
     requires { ⌜ Found (now s) value Scaled ⌝ }
-    ensures { λ r. ⌜ ((tree : Tree) → Stands (value .levels) (drop (value .at) (now (s .entry))) tree → (part (now (s .entry)) (r .main .start) (r .main .end) ≡ textOf (tree ▹ "Patologia" ▹ "Prevalente")) × (r .scales ≡ scalesOf tree)) ⌝ }
+    ensures { λ r. ⌜ ((tree : Tree) → Stands (value .levels) (drop (value .at) (now (s .entry))) tree → (part (now (s .entry)) (r .main .start) (r .main .end) ≡ mainOf tree) × (r .scales ≡ scalesOf tree)) ⌝ }
 {
     let v = several(
         s,

@@ -66,8 +66,8 @@ module _ (c : ℕ) where
       (climbs-own m (g .1) (and-right (all (λ s. ltb (r .key) (s .key)) m) (ascending m) h))
 
   -- a row of the case, and the row that its event makes, have one key
-  same-key : (r : Row ℕ) → Own c r → eventRow c (eventNumberIn r) .key ≡ r .key
-  same-key r o = event-key c (eventNumberIn r) (narrow rowBytes r) ∙ sym (o .parts)
+  same-key : (r : Row ℕ) → Own c r → eventRow c (eventNumberIn r) 0 .key ≡ r .key
+  same-key r o = event-key c (eventNumberIn r) 0 (narrow rowBytes r) (omega arith) ∙ sym (o .parts)
 
   -- the rows that the events of rows make
   abbrev again : Map ℕ → Map ℕ
@@ -77,10 +77,10 @@ module _ (c : ℕ) where
   same-keys : (k : ℕ) (m : Map ℕ) → Every (Own c) m → has k (again m) ≡ has k m
   unfolding find eventRows
   same-keys k [] g = refl
-  same-keys k (r ∷ m) g = go (eqb k (eventRow c (eventNumberIn r) .key)) (ap (eqb k) (same-key r (g .0))) (same-keys k m (g .1))
+  same-keys k (r ∷ m) g = go (eqb k (eventRow c (eventNumberIn r) 0 .key)) (ap (eqb k) (same-key r (g .0))) (same-keys k m (g .1))
     where
       go : (b : Bool) → b ≡ eqb k (r .key) → has k (again m) ≡ has k m →
-          isSome (cond b (some (eventRow c (eventNumberIn r) .val)) (find k (again m))) ≡ isSome (cond (eqb k (r .key)) (some (r .val)) (find k m))
+          isSome (cond b (some (eventRow c (eventNumberIn r) 0 .val)) (find k (again m))) ≡ isSome (cond (eqb k (r .key)) (some (r .val)) (find k m))
       go true e ih = rw (← e)
       go false e ih = rw (← e) ih
 

@@ -1,7 +1,7 @@
 -- A record of type C that names events of a standing case: it is accepted, and takes out their rows and nothing else.
 use Prim.Native.Nat.{ℕ, _^_, _<_}
-use mathlib.Core.Path.{_≡_, refl, sym, ap, _∙_, subst}
-use mathlib.Core.Bool.{Bool, true, false, not, _&&_, _||_, and-true, and-false}
+use mathlib.Core.Path.{_≡_, refl, sym, ap, ap₂, _∙_, subst}
+use mathlib.Core.Bool.{Bool, true, false, cond, not, _&&_, _||_, and-true, and-false}
 use mathlib.Core.List.{List, [], _∷_, _++_, map}
 use native.Mathlib.Omega.{arith}
 use lib.Dec.{eqb, ltb}
@@ -15,13 +15,13 @@ use Rattle.model.specs.Flow.{State, machine}
 use Rattle.model.proofs.Lists.{not-all, any-same}
 use Rattle.model.proofs.MapLaws.{keep-true}
 use Rattle.register.specs.RoomAndEmptying.{room}
-use Rattle.home_care.specs.Row.{siad, eventBits, eventIn, eventRow, kindOf, confermaOf}
+use Rattle.home_care.specs.Row.{siad, eventBits, eventIn, eventRow, kindOf, confermaOf, evaluates}
 use Rattle.home_care.specs.Allowed.{eventAllowed}
 use Rattle.home_care.specs.Anomalies.{Context, badConferma, zeroWritten, t23}
 use Rattle.home_care.specs.Record.{events, eventNumbers}
 use Rattle.checks.specs.Flow.{eventRows}
 use Rattle.checks.specs.CheckOrder.{siadMachine}
-use Rattle.checks.specs.Readable.{KeyReadable, eventReadable}
+use Rattle.checks.specs.Readable.{KeyReadable, eventReadable, keptReadable}
 use Rattle.checks.proofs.Valid.{Sound}
 use Rattle.judge.specs.ByNumber.{wrong, clash, keyAmong}
 use Rattle.judge.specs.Asked.{againstStanding}
@@ -44,11 +44,20 @@ unfolding eventNumbers
 said-numbers [] = refl
 said-numbers (e ∷ es) = ap (λ (l : List ℕ). e ∷ l) (said-numbers es)
 
+-- nothing is kept beside them
+none-beside : (e : ℕ) → keptReadable (said e) ≡ true
+none-beside e = go (evaluates e)
+  where
+    go : (b : Bool) → cond b true true ≡ true
+    go true = refl
+    go false = refl
+
 -- the bits and values that a row asks for
 pub said-readable : (es : List ℕ) → all eventReadable (map said es) ≡ all bitsAllowed es
 unfolding all
 said-readable [] = refl
-said-readable (e ∷ es) = ap (λ (b : Bool). (ltb e (2 ^ eventBits) && eventAllowed (eventIn e)) && b) (said-readable es)
+said-readable (e ∷ es) =
+    ap₂ _&&_ (ap (λ (b : Bool). ltb e (2 ^ eventBits) && b) (ap (λ (b : Bool). eventAllowed (eventIn e) && b) (none-beside e) ∙ and-true (eventAllowed (eventIn e)))) (said-readable es)
 
 -- 21: lessChosen a Valutazione, conferma 2 alone is bad
 said-bad : (es : List ℕ) → any badConferma (map said es) ≡ any replaces es
@@ -83,7 +92,7 @@ rowsSaid x es = eventRows (caseTold x) (map said es)
 pub rows-append : (x : CaseTexts) (a b : List ℕ) → rowsSaid x (a ++ b) ≡ rowsSaid x a ++ rowsSaid x b
 unfolding eventRows
 rows-append x [] b = refl
-rows-append x (e ∷ a) b = ap (λ (m : Map ℕ). eventRow (caseTold x) e ∷ m) (rows-append x a b)
+rows-append x (e ∷ a) b = ap (λ (m : Map ℕ). eventRow (caseTold x) e 0 ∷ m) (rows-append x a b)
 
 -- the state lessChosen them
 abbrev pub lessSaid : CaseTexts → List ℕ → State ℕ ℕ → State ℕ ℕ

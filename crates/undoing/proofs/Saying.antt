@@ -1,7 +1,7 @@
 -- What the records of a cancellation file say: the case, and the events that it names.
 use Prim.Native.Nat.{ℕ, _+_, _%_, _^_, _<_}
 use mathlib.Core.Path.{_≡_, refl, ap, ap₂, _∙_}
-use mathlib.Core.Bool.{false}
+use mathlib.Core.Bool.{Bool, true, false, cond}
 use mathlib.Core.List.{List, [], _∷_, map}
 use native.Mathlib.Omega.{arith}
 use lib.Dec.{ltb}
@@ -19,9 +19,9 @@ use Rattle.schema.specs.Shape.{namedIn}
 use Rattle.schemas.specs.Parts.{mostEvents}
 use Rattle.schemas.specs.Track2.{track2}
 use Rattle.nodes.specs.Lookup.{firstNamed, valueIn}
-use Rattle.rows.specs.Packing.{total, fieldAt}
+use Rattle.rows.specs.Packing.{total, fieldAt, packs}
 use Rattle.rows.proofs.Packing.{packs-unpacks}
-use Rattle.home_care.specs.Row.{Event, kindBits, eventWidths, eventBits, eventIn, eventNumber, kindOf, dateOf, codeOf, endOf, accessesOf, confermaOf}
+use Rattle.home_care.specs.Row.{Event, kindBits, eventWidths, eventBits, eventIn, eventNumber, kindOf, dateOf, codeOf, endOf, accessesOf, confermaOf, evaluates}
 use Rattle.home_care.specs.Fits.{eventWith}
 use Rattle.home_care.specs.Record.{Said, Record, events}
 use Rattle.tracks.specs.EventElements.{wordingIn}
@@ -40,16 +40,24 @@ event-again e h =
     let s : e % 2 ^ eventBits ≡ e = omega arith in
     ap (λ (n : ℕ). eventNumber (eventWith n (dateOf e) (codeOf e) (endOf e) (accessesOf e) (confermaOf e))) k ∙ packs-unpacks eventWidths e ∙ s
 
+-- without a Valutazione nothing is kept, whatever the event
+zero-either : (b : Bool) → _≡_ {A = ℕ} (cond b 0 0) 0
+zero-either true = refl
+zero-either false = refl
+
+as-said : (e : ℕ) → record { event = e; valued = false; prevalente = []; evaluation = cond (evaluates e) 0 0 } ≡ said e
+as-said e = λ i. record { event = e; valued = false; prevalente = []; evaluation = zero-either (evaluates e) i }
+
 -- an event of a form is read as it was written
 form-said : {v : Event} {n : List ℕ} {ps : List Pair} {i : Inside} → Form v n ps i → (y : ℕ) (r : List ℕ) (ts : List Tree) →
     saidIn (mk y n ps (placed r i) ∷ ts) ≡ said (eventNumber v) ∷ saidIn ts
-unfolding saidIn wordingIn any same valueIn firstNamed decimalAfter
-form-said (revalued {d} {c} {f} h l g) y r ts = rw (date-spelled d h .1, spelled-reads c, spelled-reads f)
-form-said (served {d} {c} h l) y r ts = rw (date-spelled d h .1, spelled-reads c)
-form-said (counted {d} {c} {a} h l g m) y r ts = rw (date-spelled d h .1, spelled-reads c, spelled-reads a)
-form-said (suspended {d} {c} h l) y r ts = rw (date-spelled d h .1, spelled-reads c)
-form-said (ended {d} {c} {n} h l g) y r ts = rw (date-spelled d h .1, date-spelled n g .1, spelled-reads c)
-form-said (concluded {d} {c} h l) y r ts = rw (date-spelled d h .1, spelled-reads c)
+unfolding saidIn wordingIn any same valueIn firstNamed decimalAfter packs
+form-said (revalued {d} {c} {f} h l g) y r ts = rw (date-spelled d h .1, spelled-reads c, spelled-reads f) (ap (λ (s : Said). s ∷ saidIn ts) (as-said _))
+form-said (served {d} {c} h l) y r ts = rw (date-spelled d h .1, spelled-reads c) (ap (λ (s : Said). s ∷ saidIn ts) (as-said _))
+form-said (counted {d} {c} {a} h l g m) y r ts = rw (date-spelled d h .1, spelled-reads c, spelled-reads a) (ap (λ (s : Said). s ∷ saidIn ts) (as-said _))
+form-said (suspended {d} {c} h l) y r ts = rw (date-spelled d h .1, spelled-reads c) (ap (λ (s : Said). s ∷ saidIn ts) (as-said _))
+form-said (ended {d} {c} {n} h l g) y r ts = rw (date-spelled d h .1, date-spelled n g .1, spelled-reads c) (ap (λ (s : Said). s ∷ saidIn ts) (as-said _))
+form-said (concluded {d} {c} h l) y r ts = rw (date-spelled d h .1, spelled-reads c) (ap (λ (s : Said). s ∷ saidIn ts) (as-said _))
 
 -- so are the events of a record
 events-said : (es : List ℕ) (j : ℕ) (r : List ℕ) → InOrder j es → saidIn (kids (placed r (eventsOn es))) ≡ map said es

@@ -56,7 +56,7 @@ abbrev pub headSaid : CaseTexts → Head
 headSaid x = record { tipo = code "C"; key = keyOfTexts (x .region) (x .asl) (x .date) (x .id) }
 
 abbrev pub said : ℕ → Said
-said e = record { event = e; valued = false; prevalente = [] }
+said e = record { event = e; valued = false; prevalente = []; evaluation = 0 }
 
 abbrev pub recordSaid : CaseTexts → List ℕ → Record
 recordSaid x es = events (headSaid x) (map said es)

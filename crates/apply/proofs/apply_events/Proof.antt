@@ -18,10 +18,10 @@ same-length c = search needs
 
 returns : tie.Need-returns
 returns c =
-    let a = c .before .before .before .before .before .before .before .before .before .args in
+    let a = c .before .before .before .before .before .before .before .before .before .before .args in
     let b = c .before .before .insert-events .last .0 in
     let k = probeKey rowBytes keyBits (a .probe .now) in
-    (events-applied (a .reg .now) b (a .tipo) k (a .evs .now) (done-in k (a .evs .now) (a .reg .now) b (typeOf (a .tipo)) (sym (c .before .before .before .before .before .inserts .ensures) ∙ c .before .before .before .before .if1 .taken) (c .before .before .insert-events .ensures)), c .before .before .insert-events .kept .0)
+    (events-applied (a .reg .now) b (a .tipo) k (a .evs .now) (a .kept .now) (c .before .before .before .before .before .before .before .before .before .before .pre .2) (done-in k (a .evs .now) (a .kept .now) (a .reg .now) b (typeOf (a .tipo)) (sym (c .before .before .before .before .before .inserts .ensures) ∙ c .before .before .before .before .if1 .taken) (c .before .before .insert-events .ensures)), c .before .before .insert-events .kept .0)
 
 cancels-requires : tie.Need-cancels-requires
 cancels-requires c κs = search needs
@@ -34,10 +34,10 @@ same-length-2 c = search needs
 
 returns-2 : tie.Need-returns-2
 returns-2 c =
-    let a = c .before .before .before .before .before .before .before .before .before .before .before .args in
+    let a = c .before .before .before .before .before .before .before .before .before .before .before .before .args in
     let b = c .before .before .cancel-events .last .0 in
     let k = probeKey rowBytes keyBits (a .probe .now) in
-    (events-applied (a .reg .now) b (a .tipo) k (a .evs .now) (done-out k (a .evs .now) (a .reg .now) b (typeOf (a .tipo)) (sym (c .before .before .before .before .before .cancels .ensures) ∙ c .before .before .before .before .if2 .taken) (c .before .before .cancel-events .ensures)), c .before .before .cancel-events .kept .0)
+    (events-applied (a .reg .now) b (a .tipo) k (a .evs .now) (a .kept .now) (c .before .before .before .before .before .before .before .before .before .before .before .before .pre .2) (done-out k (a .evs .now) (a .kept .now) (a .reg .now) b (typeOf (a .tipo)) (sym (c .before .before .before .before .before .cancels .ensures) ∙ c .before .before .before .before .if2 .taken) (c .before .before .cancel-events .ensures)), c .before .before .cancel-events .kept .0)
 
 vary-events-requires : tie.Need-vary-events-requires
 vary-events-requires c κs = search needs
@@ -47,10 +47,10 @@ same-length-3 c = search needs
 
 returns-3 : tie.Need-returns-3
 returns-3 c =
-    let a = c .before .before .before .before .before .before .before .before .before .before .before .args in
+    let a = c .before .before .before .before .before .before .before .before .before .before .before .before .args in
     let b = c .before .before .vary-events .last .0 in
     let k = probeKey rowBytes keyBits (a .probe .now) in
-    (events-applied (a .reg .now) b (a .tipo) k (a .evs .now) (done-over k (a .evs .now) (a .reg .now) b (typeOf (a .tipo)) (sym (c .before .before .before .before .before .before .before .inserts .ensures) ∙ c .before .before .before .before .before .before .if1 .left) (sym (c .before .before .before .before .before .cancels .ensures) ∙ c .before .before .before .before .if2 .left) (c .before .before .vary-events .ensures)), c .before .before .vary-events .kept .0)
+    (events-applied (a .reg .now) b (a .tipo) k (a .evs .now) (a .kept .now) (c .before .before .before .before .before .before .before .before .before .before .before .before .pre .2) (done-over k (a .evs .now) (a .kept .now) (a .reg .now) b (typeOf (a .tipo)) (sym (c .before .before .before .before .before .before .before .inserts .ensures) ∙ c .before .before .before .before .before .before .if1 .left) (sym (c .before .before .before .before .before .cancels .ensures) ∙ c .before .before .before .before .if2 .left) (c .before .before .vary-events .ensures)), c .before .before .vary-events .kept .0)
 
 pub apply-events-spec : {M : Type 1} → statement M
 apply-events-spec =

@@ -1,16 +1,16 @@
 use denote.Ref.{now}
 use Rattle.nodes.specs.Stands.{stands}
-use Rattle.track_examples.proofs.FirstOfShape.{was-read, first-here}
+use Rattle.track_examples.proofs.FirstOfShape.{root-read, first-here}
 use native.Mathlib.Omega.{arith}
 use borrow.Author.Needs.{needs}
 use Rattle.track_examples.proofs.first_record.Statement.{statement}
 use Rattle.track_examples.proofs.first_record.Tie as tie
 
-element-requires : tie.Need-element-requires
-element-requires c κs = search needs
+document-requires : tie.Need-document-requires
+document-requires c κs = search needs
 
-enum-known-end : tie.Need-enum-known-end
-enum-known-end c = search needs
+enum-known-root : tie.Need-enum-known-root
+enum-known-root c = search needs
 
 enum-told : tie.Need-enum-told
 enum-told c = search needs
@@ -41,16 +41,18 @@ top-of-requires c κs = search needs
 
 returns-4 : tie.Need-returns-4
 returns-4 c =
-    let e = was-read _ (rw (c .before .before .before .before .before .before .before .before .before .before .end .given .1) at (c .before .before .before .before .before .before .before .before .before .before .before .before .element .ensures .0)) in
+    let d = rw (c .before .before .before .before .before .before .before .before .before .before .root .given .1) at (c .before .before .before .before .before .before .before .before .before .before .before .before .document .ensures) in
+    let e = root-read (now (c .before .before .before .before .before .before .before .before .before .before .before .before .before .before .args .s)) _ (d .0) (d .2 .1) in
+    let r = stands (e .1) (e .2) in
     let g = rw (c .before .before .before .before .before .before .enum-told2 .given .1) at (c .before .before .before .before .before .before .before .before .shape-of .ensures .0 (e .0) (e .1) (e .2) .0) in
-    first-here (c .before .before .before .before .before .before .before .before .before .before .before .before .before .before .args .track) (now (c .before .before .before .before .before .before .before .before .before .before .before .before .before .before .args .s)) (c .before .before .before .before .before .before .before .before .before .before .before .before .before .before .args .root) (e .2) g (c .before .before .before .before .child .ensures (e .0) (stands (e .1) (e .2))) (omega (arith, c .before .before .if1 .left)) (λ a k q. c .before .top-of .ensures .0 a k q .0)
+    first-here (c .before .before .before .before .before .before .before .before .before .before .before .before .before .before .args .track) (now (c .before .before .before .before .before .before .before .before .before .before .before .before .before .before .args .s)) r (e .3) g (c .before .before .before .before .child .ensures (e .0) r) (omega (arith, c .before .before .if1 .left)) (λ a k q. c .before .top-of .ensures .0 a k q .0)
 
 pub first-record-spec : {M : Type 1} → statement M
 first-record-spec =
     tie.close
     (tie.spec
-    element-requires
-    enum-known-end
+    document-requires
+    enum-known-root
     enum-told
     returns
     shape-of-requires

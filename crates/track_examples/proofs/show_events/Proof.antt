@@ -4,10 +4,10 @@ use Rattle.track_examples.proofs.show_events.Statement.{statement}
 use Rattle.track_examples.proofs.show_events.Tie as tie
 
 abbrev Inv-loop : tie.InvT-loop
-Inv-loop out n i₀ i = i ≤ 128
+Inv-loop out beside n i₀ i = i ≤ 128
 
 abbrev μ-loop : tie.MeasureT-loop
-μ-loop out n i₀ i = 128 - i
+μ-loop out beside n i₀ i = 128 - i
 
 show-number-requires : tie.Need-show-number-requires Inv-loop μ-loop
 show-number-requires c κs = search needs
@@ -26,6 +26,12 @@ mul-show-event c = search needs
 
 array-read-show-event : tie.Need-array-read-show-event Inv-loop μ-loop
 array-read-show-event c = search needs
+
+mul-show-event-2 : tie.Need-mul-show-event-2 Inv-loop μ-loop
+mul-show-event-2 c = search needs
+
+array-read-show-event-2 : tie.Need-array-read-show-event-2 Inv-loop μ-loop
+array-read-show-event-2 c = search needs
 
 show-event-requires : tie.Need-show-event-requires Inv-loop μ-loop
 show-event-requires c κs = search needs
@@ -54,6 +60,8 @@ show-events-spec =
     loop-holds
     mul-show-event
     array-read-show-event
+    mul-show-event-2
+    array-read-show-event-2
     show-event-requires
     add-i
     loop-less

@@ -53,7 +53,7 @@ same-length-2 : tie.Need-same-length-2 Inv-loop μ-loop
 same-length-2 c = search needs
 
 returns-3 : tie.Need-returns-3 Inv-loop μ-loop
-returns-3 c = none-left (c .before .before .before .before .before .before .before .before .before .before .before .before .before .before .before .before .before .args .reg .now) (probeKey rowBytes keyBits (c .before .before .before .before .before .before .before .before .before .before .before .before .before .before .before .before .before .args .probe .now)) (c .before .before .before .before .before .before .before .before .before .before .before .before .before .before .before .before .before .args .evs .now) (c .before .before .before .before .before .before .before .before .before .before .before .count .result) (c .before .before .before .before .before .before .before .before .before .before .before .count .result + c .before .before .before .before .before .before .before .before .before .count2 .result) (c .before .before .before .before .case-range .result .lo) (c .before .before .before .loop .reg) (c .before .before .before .loop .i) (c .before .before .before .loop .j) (c .before .before .before .loop .bound) (c .before .before .before .loop .inv) (λ s st. standing (probeKey rowBytes keyBits (c .before .before .before .before .before .before .before .before .before .before .before .before .before .before .before .before .before .args .probe .now)) (c .before .before .before .before .before .before .before .before .before .before .before .before .before .before .before .before .before .args .evs .now) (c .before .before .before .before .before .before .before .before .before .before .before .before .before .before .before .before .before .args .reg .now) (c .before .before .before .before .before .before .before .before .before .before .before .count .result) (c .before .before .before .before .before .before .before .before .before .count2 .result) (c .before .before .before .before .before .before .before .before .before .before .before .count .ensures .0) (c .before .before .before .before .before .before .before .before .before .count2 .ensures .0) s st .1) (c .before .before .before .before .before .before .before .before .before .before .before .before .before .before .before .before .before .pre .1) (omega arith) (c .before .next-below .result) (c .before .next-below .ensures) (c .if3 .taken)
+returns-3 c = none-left (c .before .before .before .before .before .before .before .before .before .before .before .before .before .before .before .before .before .args .reg .now) (probeKey rowBytes keyBits (c .before .before .before .before .before .before .before .before .before .before .before .before .before .before .before .before .before .args .probe .now)) (c .before .before .before .before .before .before .before .before .before .before .before .before .before .before .before .before .before .args .evs .now) (c .before .before .before .before .before .before .before .before .before .before .before .count .result) (c .before .before .before .before .before .before .before .before .before .before .before .count .result + c .before .before .before .before .before .before .before .before .before .count2 .result) (c .before .before .before .before .case-range .result .lo) (c .before .before .before .loop .reg) (c .before .before .before .loop .i) (c .before .before .before .loop .j) (c .before .before .before .loop .bound) (c .before .before .before .loop .inv) (λ s st. standing (c .before .before .before .before .before .before .before .before .before .before .before .before .before .before .before .before .before .args .reg .now) (c .before .before .before .before .before .before .before .before .before .before .before .count .result) (c .before .before .before .before .before .before .before .before .before .count2 .result) (c .before .before .before .before .before .before .before .before .before .before .before .count .ensures .0) (c .before .before .before .before .before .before .before .before .before .count2 .ensures .0) s st .1) (c .before .before .before .before .before .before .before .before .before .before .before .before .before .before .before .before .before .pre .1) (omega arith) (c .before .next-below .result) (c .before .next-below .ensures) (c .if3 .taken)
 
 mul-e : tie.Need-mul-e Inv-loop μ-loop
 mul-e c = search needs
@@ -74,7 +74,7 @@ same-length-3 : tie.Need-same-length-3 Inv-loop μ-loop
 same-length-3 c = search needs
 
 returns-4 : tie.Need-returns-4 Inv-loop μ-loop
-returns-4 c = not-there (c .before .before .before .before .before .before .before .before .before .before .before .before .before .before .before .before .before .before .before .before .before .before .args .reg .now) (probeKey rowBytes keyBits (c .before .before .before .before .before .before .before .before .before .before .before .before .before .before .before .before .before .before .before .before .before .before .args .probe .now)) (c .before .before .before .before .before .before .before .before .before .before .before .before .before .before .before .before .before .before .before .before .before .before .args .evs .now) (c .before .before .before .before .before .before .before .before .before .before .before .before .before .before .before .before .count .result) (c .before .before .before .before .before .before .before .before .before .before .before .before .before .before .before .before .count .result + c .before .before .before .before .before .before .before .before .before .before .before .before .before .before .count2 .result) (c .before .before .before .before .before .before .before .before .before .case-range .result .lo) (c .before .before .before .before .before .before .before .before .loop .reg) (c .before .before .before .before .before .before .before .before .loop .i) (c .before .before .before .before .before .before .before .before .loop .j) (c .before .before .before .before .before .before .before .before .loop .bound) (c .before .before .before .before .before .before .before .before .loop .inv) (λ s st. standing (probeKey rowBytes keyBits (c .before .before .before .before .before .before .before .before .before .before .before .before .before .before .before .before .before .before .before .before .before .before .args .probe .now)) (c .before .before .before .before .before .before .before .before .before .before .before .before .before .before .before .before .before .before .before .before .before .before .args .evs .now) (c .before .before .before .before .before .before .before .before .before .before .before .before .before .before .before .before .before .before .before .before .before .before .args .reg .now) (c .before .before .before .before .before .before .before .before .before .before .before .before .before .before .before .before .count .result) (c .before .before .before .before .before .before .before .before .before .before .before .before .before .before .count2 .result) (c .before .before .before .before .before .before .before .before .before .before .before .before .before .before .before .before .count .ensures .0) (c .before .before .before .before .before .before .before .before .before .before .before .before .before .before .count2 .ensures .0) s st .1) (c .before .before .before .before .before .before .before .before .before .before .before .before .before .before .before .before .before .before .before .before .before .before .pre .1) (c .before .before .before .before .before .before .before .before .before .case-range .ensures .low) (c .before .before .before .before .before .before .next-below .result) (c .before .before .before .before .before .before .next-below .ensures) (c .before .before .before .before .before .if3 .left) (c .before .place-event .result) (c .before .place-event .ensures) (c .if4 .taken)
+returns-4 c = not-there (c .before .before .before .before .before .before .before .before .before .before .before .before .before .before .before .before .before .before .before .before .before .before .args .reg .now) (probeKey rowBytes keyBits (c .before .before .before .before .before .before .before .before .before .before .before .before .before .before .before .before .before .before .before .before .before .before .args .probe .now)) (c .before .before .before .before .before .before .before .before .before .before .before .before .before .before .before .before .before .before .before .before .before .before .args .evs .now) (c .before .before .before .before .before .before .before .before .before .before .before .before .before .before .before .before .count .result) (c .before .before .before .before .before .before .before .before .before .before .before .before .before .before .before .before .count .result + c .before .before .before .before .before .before .before .before .before .before .before .before .before .before .count2 .result) (c .before .before .before .before .before .before .before .before .before .case-range .result .lo) (c .before .before .before .before .before .before .before .before .loop .reg) (c .before .before .before .before .before .before .before .before .loop .i) (c .before .before .before .before .before .before .before .before .loop .j) (c .before .before .before .before .before .before .before .before .loop .bound) (c .before .before .before .before .before .before .before .before .loop .inv) (λ s st. standing (c .before .before .before .before .before .before .before .before .before .before .before .before .before .before .before .before .before .before .before .before .before .before .args .reg .now) (c .before .before .before .before .before .before .before .before .before .before .before .before .before .before .before .before .count .result) (c .before .before .before .before .before .before .before .before .before .before .before .before .before .before .count2 .result) (c .before .before .before .before .before .before .before .before .before .before .before .before .before .before .before .before .count .ensures .0) (c .before .before .before .before .before .before .before .before .before .before .before .before .before .before .count2 .ensures .0) s st .1) (c .before .before .before .before .before .before .before .before .before .before .before .before .before .before .before .before .before .before .before .before .before .before .pre .1) (c .before .before .before .before .before .before .before .before .before .case-range .ensures .low) (c .before .before .before .before .before .before .next-below .result) (c .before .before .before .before .before .before .next-below .ensures) (c .before .before .before .before .before .if3 .left) (c .before .place-event .result) (c .before .place-event .ensures) (c .if4 .taken)
 
 widen-requires : tie.Need-widen-requires Inv-loop μ-loop
 widen-requires c κs =
@@ -99,7 +99,7 @@ loop-less : tie.Need-loop-less Inv-loop μ-loop
 loop-less c = search needs
 
 loop-again : tie.Need-loop-again Inv-loop μ-loop
-loop-again c = one-fewer (c .before .before .before .before .before .before .before .before .before .before .before .before .before .before .before .before .before .before .before .before .before .before .before .before .before .before .before .before .before .before .args .reg .now) (probeKey rowBytes keyBits (c .before .before .before .before .before .before .before .before .before .before .before .before .before .before .before .before .before .before .before .before .before .before .before .before .before .before .before .before .before .before .args .probe .now)) (c .before .before .before .before .before .before .before .before .before .before .before .before .before .before .before .before .before .before .before .before .before .before .before .before .before .before .before .before .before .before .args .evs .now) (c .before .before .before .before .before .before .before .before .before .before .before .before .before .before .before .before .before .before .before .before .before .before .before .before .count .result) (c .before .before .before .before .before .before .before .before .before .before .before .before .before .before .before .before .before .before .before .before .before .before .before .before .count .result + c .before .before .before .before .before .before .before .before .before .before .before .before .before .before .before .before .before .before .before .before .before .before .count2 .result) (c .before .before .before .before .before .before .before .before .before .before .before .before .before .before .before .before .before .case-range .result .lo) (c .before .before .before .before .before .before .before .before .before .before .before .before .before .before .before .before .loop .reg) (c .before .before .before .before .before .before .before .before .before .before .before .before .before .before .before .before .loop .i) (c .before .before .before .before .before .before .before .before .before .before .before .before .before .before .before .before .loop .j) (c .before .before .before .before .before .before .before .before .before .before .before .before .before .before .before .before .loop .bound) (c .before .before .before .before .before .before .before .before .before .before .before .before .before .before .before .before .loop .inv) (λ s st. standing (probeKey rowBytes keyBits (c .before .before .before .before .before .before .before .before .before .before .before .before .before .before .before .before .before .before .before .before .before .before .before .before .before .before .before .before .before .before .args .probe .now)) (c .before .before .before .before .before .before .before .before .before .before .before .before .before .before .before .before .before .before .before .before .before .before .before .before .before .before .before .before .before .before .args .evs .now) (c .before .before .before .before .before .before .before .before .before .before .before .before .before .before .before .before .before .before .before .before .before .before .before .before .before .before .before .before .before .before .args .reg .now) (c .before .before .before .before .before .before .before .before .before .before .before .before .before .before .before .before .before .before .before .before .before .before .before .before .count .result) (c .before .before .before .before .before .before .before .before .before .before .before .before .before .before .before .before .before .before .before .before .before .before .count2 .result) (c .before .before .before .before .before .before .before .before .before .before .before .before .before .before .before .before .before .before .before .before .before .before .before .before .count .ensures .0) (c .before .before .before .before .before .before .before .before .before .before .before .before .before .before .before .before .before .before .before .before .before .before .count2 .ensures .0) s st .1) (c .before .before .before .before .before .before .before .before .before .before .before .before .before .before .before .before .before .before .before .before .before .before .before .before .before .before .before .before .before .before .pre .1) (c .before .before .before .before .before .before .before .before .before .before .before .before .before .before .before .before .before .case-range .ensures .low) (c .before .before .before .before .before .before .before .before .before .before .before .before .before .before .next-below .result) (c .before .before .before .before .before .before .before .before .before .before .before .before .before .before .next-below .ensures) (c .before .before .before .before .before .before .before .before .before .before .before .before .before .if3 .left) (c .before .before .before .before .before .before .before .before .before .place-event .result) (c .before .before .before .before .before .before .before .before .before .place-event .ensures) (omega arith) (c .before .before .before .before .before .before .before .before .if4 .left) (c .before .before .before .before .before .before .widen .last .0) (c .before .before .set-count .last .0) (c .before .before .before .before .before .before .widen .kept .0) (c .before .before .set-count .kept .0) (c .before .before .before .before .before .before .widen .ensures) (c .before .before .set-count .ensures) _ (c .before .before .before .before .before .before .before .before .before .before .before .event-key-of .ensures .0)
+loop-again c = one-fewer (c .before .before .before .before .before .before .before .before .before .before .before .before .before .before .before .before .before .before .before .before .before .before .before .before .before .before .before .before .before .before .args .reg .now) (probeKey rowBytes keyBits (c .before .before .before .before .before .before .before .before .before .before .before .before .before .before .before .before .before .before .before .before .before .before .before .before .before .before .before .before .before .before .args .probe .now)) (c .before .before .before .before .before .before .before .before .before .before .before .before .before .before .before .before .before .before .before .before .before .before .before .before .before .before .before .before .before .before .args .evs .now) (c .before .before .before .before .before .before .before .before .before .before .before .before .before .before .before .before .before .before .before .before .before .before .before .before .count .result) (c .before .before .before .before .before .before .before .before .before .before .before .before .before .before .before .before .before .before .before .before .before .before .before .before .count .result + c .before .before .before .before .before .before .before .before .before .before .before .before .before .before .before .before .before .before .before .before .before .before .count2 .result) (c .before .before .before .before .before .before .before .before .before .before .before .before .before .before .before .before .before .case-range .result .lo) (c .before .before .before .before .before .before .before .before .before .before .before .before .before .before .before .before .loop .reg) (c .before .before .before .before .before .before .before .before .before .before .before .before .before .before .before .before .loop .i) (c .before .before .before .before .before .before .before .before .before .before .before .before .before .before .before .before .loop .j) (c .before .before .before .before .before .before .before .before .before .before .before .before .before .before .before .before .loop .bound) (c .before .before .before .before .before .before .before .before .before .before .before .before .before .before .before .before .loop .inv) (λ s st. standing (c .before .before .before .before .before .before .before .before .before .before .before .before .before .before .before .before .before .before .before .before .before .before .before .before .before .before .before .before .before .before .args .reg .now) (c .before .before .before .before .before .before .before .before .before .before .before .before .before .before .before .before .before .before .before .before .before .before .before .before .count .result) (c .before .before .before .before .before .before .before .before .before .before .before .before .before .before .before .before .before .before .before .before .before .before .count2 .result) (c .before .before .before .before .before .before .before .before .before .before .before .before .before .before .before .before .before .before .before .before .before .before .before .before .count .ensures .0) (c .before .before .before .before .before .before .before .before .before .before .before .before .before .before .before .before .before .before .before .before .before .before .count2 .ensures .0) s st .1) (c .before .before .before .before .before .before .before .before .before .before .before .before .before .before .before .before .before .before .before .before .before .before .before .before .before .before .before .before .before .before .pre .1) (c .before .before .before .before .before .before .before .before .before .before .before .before .before .before .before .before .before .case-range .ensures .low) (c .before .before .before .before .before .before .before .before .before .before .before .before .before .before .next-below .result) (c .before .before .before .before .before .before .before .before .before .before .before .before .before .before .next-below .ensures) (c .before .before .before .before .before .before .before .before .before .before .before .before .before .if3 .left) (c .before .before .before .before .before .before .before .before .before .place-event .result) (c .before .before .before .before .before .before .before .before .before .place-event .ensures) (omega arith) (c .before .before .before .before .before .before .before .before .if4 .left) (c .before .before .before .before .before .before .widen .last .0) (c .before .before .set-count .last .0) (c .before .before .before .before .before .before .widen .kept .0) (c .before .before .set-count .kept .0) (c .before .before .before .before .before .before .widen .ensures) (c .before .before .set-count .ensures) _ (c .before .before .before .before .before .before .before .before .before .before .before .event-key-of .ensures .0)
 
 remove-rows-requires : tie.Need-remove-rows-requires Inv-loop μ-loop
 remove-rows-requires c κs =
@@ -112,7 +112,7 @@ same-length-4 : tie.Need-same-length-4 Inv-loop μ-loop
 same-length-4 c = search needs
 
 returns-5 : tie.Need-returns-5 Inv-loop μ-loop
-returns-5 c = all-emptied (c .before .before .before .before .before .before .before .before .before .before .before .before .before .before .before .before .before .before .before .args .reg .now) (probeKey rowBytes keyBits (c .before .before .before .before .before .before .before .before .before .before .before .before .before .before .before .before .before .before .before .args .probe .now)) (c .before .before .before .before .before .before .before .before .before .before .before .before .before .before .before .before .before .before .before .args .evs .now) (c .before .before .before .before .before .before .before .before .before .before .before .before .before .count .result) (c .before .before .before .before .before .before .before .before .before .before .before .before .before .count .result + c .before .before .before .before .before .before .before .before .before .before .before .count2 .result) (c .before .before .before .before .before .before .case-range .result .lo) (c .before .before .before .before .before .loop .reg) (c .before .before .before .before .before .loop .i) (c .before .before .before .before .before .loop .j) (c .before .before .before .before .before .loop .bound) (c .before .before .before .before .before .loop .inv) (λ s st. standing (probeKey rowBytes keyBits (c .before .before .before .before .before .before .before .before .before .before .before .before .before .before .before .before .before .before .before .args .probe .now)) (c .before .before .before .before .before .before .before .before .before .before .before .before .before .before .before .before .before .before .before .args .evs .now) (c .before .before .before .before .before .before .before .before .before .before .before .before .before .before .before .before .before .before .before .args .reg .now) (c .before .before .before .before .before .before .before .before .before .before .before .before .before .count .result) (c .before .before .before .before .before .before .before .before .before .before .before .count2 .result) (c .before .before .before .before .before .before .before .before .before .before .before .before .before .count .ensures .0) (c .before .before .before .before .before .before .before .before .before .before .before .count2 .ensures .0) s st .1) (c .before .before .before .before .before .before .before .before .before .before .before .before .before .before .before .before .before .before .before .pre .1) (omega arith) (c .before .before .remove-rows .last .0) (c .before .before .remove-rows .ensures)
+returns-5 c = all-emptied (c .before .before .before .before .before .before .before .before .before .before .before .before .before .before .before .before .before .before .before .args .reg .now) (probeKey rowBytes keyBits (c .before .before .before .before .before .before .before .before .before .before .before .before .before .before .before .before .before .before .before .args .probe .now)) (c .before .before .before .before .before .before .before .before .before .before .before .before .before .before .before .before .before .before .before .args .evs .now) (c .before .before .before .before .before .before .before .before .before .before .before .before .before .count .result) (c .before .before .before .before .before .before .before .before .before .before .before .before .before .count .result + c .before .before .before .before .before .before .before .before .before .before .before .count2 .result) (c .before .before .before .before .before .before .case-range .result .lo) (c .before .before .before .before .before .loop .reg) (c .before .before .before .before .before .loop .i) (c .before .before .before .before .before .loop .j) (c .before .before .before .before .before .loop .bound) (c .before .before .before .before .before .loop .inv) (λ s st. standing (c .before .before .before .before .before .before .before .before .before .before .before .before .before .before .before .before .before .before .before .args .reg .now) (c .before .before .before .before .before .before .before .before .before .before .before .before .before .count .result) (c .before .before .before .before .before .before .before .before .before .before .before .count2 .result) (c .before .before .before .before .before .before .before .before .before .before .before .before .before .count .ensures .0) (c .before .before .before .before .before .before .before .before .before .before .before .count2 .ensures .0) s st .1) (c .before .before .before .before .before .before .before .before .before .before .before .before .before .before .before .before .before .before .before .pre .1) (omega arith) (c .before .before .remove-rows .last .0) (c .before .before .remove-rows .ensures)
 
 pub cancel-events-spec : {M : Type 1} → statement M
 cancel-events-spec =

@@ -1,7 +1,10 @@
-use mathlib.Core.Path.{refl, _∙_}
+use Prim.Native.Nat.{_+_, _*_, _^_}
+use mathlib.Core.Path.{_∙_}
+use native.Mathlib.Omega.{arith}
 use borrow.Author.Needs.{needs}
 use Rattle.rows.proofs.Bytes.{fit-of}
-use Rattle.home_care.specs.Row.{caseBits, caseNumber}
+use Rattle.rows.specs.Writer.{count}
+use Rattle.home_care.specs.Row.{rowBytes, caseBits, caseZerosWide, caseNumber}
 use Rattle.home_care.specs.Fits.{caseWith}
 use Rattle.apply.proofs.Packing.{row-packed}
 use Rattle.apply.proofs.case.pack_case.Statement.{statement}
@@ -18,7 +21,8 @@ same-length c = search needs
 
 returns : tie.Need-returns
 returns c =
-    row-packed caseBits 7 (caseNumber (caseWith (c .before .before .before .before .before .before .before .before .before .before .before .before .args .birth) (c .before .before .before .before .before .before .before .before .before .before .before .before .args .prevalente .now) (c .before .before .before .before .before .before .before .before .before .before .before .before .args .scales .now))) (c .before .before .before .before .before .before .before .before .before .before .before .before .args .probe .now) (c .before .before .before .before .before .before .before .before .before .before .before .before .args .out .now) (c .before .before .before .before .before .before .put-row .last .0) (c .before .before .set-case .last .0) (c .before .before .before .before .before .before .before .before .before .before .before .before .args .key) _ refl (c .before .before .before .before .before .before .before .before .before .before .before .before .pre .1) (c .before .before .before .before .before .before .before .before .before .before .before .before .pre .0)
+    let a = c .before .before .before .before .before .before .before .before .before .before .before .before .args in
+    row-packed (λ x. x * 2 ^ caseBits + caseNumber (caseWith (a .birth) (a .prevalente .now) (a .scales .now))) (count (a .key) + caseBits) (caseZerosWide rowBytes) (a .probe .now) (a .out .now) (c .before .before .before .before .before .before .put-row .last .0) (c .before .before .set-case .last .0) (a .key) _ (omega (arith, c .before .before .before .before .before .before .before .before .before .before .before .before .pre .1 .bits)) (c .before .before .before .before .before .before .before .before .before .before .before .before .pre .1) (c .before .before .before .before .before .before .before .before .before .before .before .before .pre .0)
     (c .before .before .before .before .before .before .put-row .ensures) (c .before .before .set-case .ensures) (c .before .before .set-case .kept .0 ∙ c .before .before .before .before .before .before .put-row .kept .0 ∙ c .before .before .before .before .before .before .before .before .before .before .before .before .pre .0) (fit-of 8 (c .before .before .set-case .last .0) (λ i. c .slice-known3 .given i .fits))
 
 pub pack-case-spec : {M : Type 1} → statement M

@@ -1,7 +1,10 @@
-use mathlib.Core.Path.{refl, _∙_}
+use Prim.Native.Nat.{_+_, _*_, _^_}
+use mathlib.Core.Path.{_∙_}
+use native.Mathlib.Omega.{arith}
 use borrow.Author.Needs.{needs}
 use Rattle.rows.proofs.Bytes.{fit-of}
-use Rattle.home_care.specs.Row.{eventBits}
+use Rattle.rows.specs.Writer.{count}
+use Rattle.home_care.specs.Row.{eventBits, evaluationBits, zeroBits}
 use Rattle.apply.proofs.Packing.{row-packed}
 use Rattle.apply.proofs.event_row.pack_event.Statement.{statement}
 use Rattle.apply.proofs.event_row.pack_event.Tie as tie
@@ -17,8 +20,9 @@ same-length c = search needs
 
 returns : tie.Need-returns
 returns c =
-    row-packed eventBits 14 (c .before .before .before .before .before .before .before .before .before .before .args .e) (c .before .before .before .before .before .before .before .before .before .before .args .probe .now) (c .before .before .before .before .before .before .before .before .before .before .args .out .now) (c .before .before .before .before .before .before .put-row .last .0) (c .before .before .set-event .last .0) (c .before .before .before .before .before .before .before .before .before .before .args .key) _ refl (c .before .before .before .before .before .before .before .before .before .before .pre .1) (c .before .before .before .before .before .before .before .before .before .before .pre .0) (c .before .before .before .before .before .before .put-row .ensures) (c .before .before .set-event .ensures .0)
-    (c .before .before .set-event .kept .0 ∙ c .before .before .before .before .before .before .put-row .kept .0 ∙ c .before .before .before .before .before .before .before .before .before .before .pre .0) (fit-of 8 (c .before .before .set-event .last .0) (λ i. c .slice-known3 .given i .fits))
+    let a = c .before .before .before .before .before .before .before .before .before .before .args in
+    row-packed (λ x. (x * 2 ^ eventBits + a .e) * 2 ^ evaluationBits + a .v) (count (a .key) + eventBits + evaluationBits) zeroBits (a .probe .now) (a .out .now) (c .before .before .before .before .before .before .put-row .last .0) (c .before .before .set-event .last .0) (a .key) _ (omega (arith, c .before .before .before .before .before .before .before .before .before .before .pre .1 .bits)) (c .before .before .before .before .before .before .before .before .before .before .pre .1) (c .before .before .before .before .before .before .before .before .before .before .pre .0)
+    (c .before .before .before .before .before .before .put-row .ensures) (c .before .before .set-event .ensures .0) (c .before .before .set-event .kept .0 ∙ c .before .before .before .before .before .before .put-row .kept .0 ∙ c .before .before .before .before .before .before .before .before .before .before .pre .0) (fit-of 8 (c .before .before .set-event .last .0) (λ i. c .slice-known3 .given i .fits))
 
 pub pack-event-spec : {M : Type 1} → statement M
 pack-event-spec = tie.close (tie.spec put-row-requires set-event-requires same-length returns)

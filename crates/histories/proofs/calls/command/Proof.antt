@@ -1,6 +1,6 @@
 use mathlib.Core.Path.{sym}
-use native.Mathlib.Omega.{arith}
 use lib.Seq.{length-take-le}
+use native.Mathlib.Omega.{arith}
 use borrow.Author.Needs.{needs}
 use Rattle.histories.proofs.calls.command.Statement.{statement}
 use Rattle.histories.proofs.calls.command.Tie as tie
@@ -92,14 +92,35 @@ size-requires-3 c κs = search needs
 returns-4 : tie.Need-returns-4
 returns-4 c = search needs
 
-returns-5 : tie.Need-returns-5
-returns-5 c = search needs
-
 slice-aggregate-same-5 : tie.Need-slice-aggregate-same-5
 slice-aggregate-same-5 c = search needs
 
 same-requires-5 : tie.Need-same-requires-5
 same-requires-5 c κs = search needs
+
+size-requires-4 : tie.Need-size-requires-4
+size-requires-4 c κs = search needs
+
+convert-requires : tie.Need-convert-requires
+convert-requires c κs = search needs
+
+same-length-4 : tie.Need-same-length-4
+same-length-4 c = search needs
+
+same-length-5 : tie.Need-same-length-5
+same-length-5 c = search needs
+
+returns-5 : tie.Need-returns-5
+returns-5 c = search needs
+
+returns-6 : tie.Need-returns-6
+returns-6 c = search needs
+
+slice-aggregate-same-6 : tie.Need-slice-aggregate-same-6
+slice-aggregate-same-6 c = search needs
+
+same-requires-6 : tie.Need-same-requires-6
+same-requires-6 c κs = search needs
 
 slice-reshare-prefix-write : tie.Need-slice-reshare-prefix-write
 slice-reshare-prefix-write c = search needs
@@ -110,14 +131,14 @@ slice-aggregate-write c = sym (length-take-le _ _ (omega arith))
 write-requires : tie.Need-write-requires
 write-requires c κs = search needs
 
-same-length-4 : tie.Need-same-length-4
-same-length-4 c = search needs
+same-length-6 : tie.Need-same-length-6
+same-length-6 c = search needs
 
-same-length-5 : tie.Need-same-length-5
-same-length-5 c = search needs
+same-length-7 : tie.Need-same-length-7
+same-length-7 c = search needs
 
-returns-6 : tie.Need-returns-6
-returns-6 c = search needs
+returns-7 : tie.Need-returns-7
+returns-7 c = search needs
 
 slice-relend-prefix-call : tie.Need-slice-relend-prefix-call
 slice-relend-prefix-call c = search needs
@@ -128,17 +149,17 @@ slice-aggregate-call c = sym (length-take-le _ _ (omega arith))
 call-requires : tie.Need-call-requires
 call-requires c κs = search needs
 
-same-length-6 : tie.Need-same-length-6
-same-length-6 c = search needs
-
-same-length-7 : tie.Need-same-length-7
-same-length-7 c = search needs
-
 same-length-8 : tie.Need-same-length-8
 same-length-8 c = search needs
 
-returns-7 : tie.Need-returns-7
-returns-7 c = search needs
+same-length-9 : tie.Need-same-length-9
+same-length-9 c = search needs
+
+same-length-10 : tie.Need-same-length-10
+same-length-10 c = search needs
+
+returns-8 : tie.Need-returns-8
+returns-8 c = search needs
 
 pub command-spec : {M : Type 1} → statement M
 command-spec =
@@ -173,19 +194,26 @@ command-spec =
     same-requires-4
     size-requires-3
     returns-4
-    returns-5
     slice-aggregate-same-5
     same-requires-5
+    size-requires-4
+    convert-requires
+    same-length-4
+    same-length-5
+    returns-5
+    returns-6
+    slice-aggregate-same-6
+    same-requires-6
     slice-reshare-prefix-write
     slice-aggregate-write
     write-requires
-    same-length-4
-    same-length-5
-    returns-6
+    same-length-6
+    same-length-7
+    returns-7
     slice-relend-prefix-call
     slice-aggregate-call
     call-requires
-    same-length-6
-    same-length-7
     same-length-8
-    returns-7)
+    same-length-9
+    same-length-10
+    returns-8)

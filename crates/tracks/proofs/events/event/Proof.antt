@@ -1,15 +1,16 @@
 use Prim.Native.Nat.{ℕ}
-use mathlib.Core.Path.{sym, ap, _∙_, subst}
-use Rattle.home_care.specs.Row.{eventNumber}
+use mathlib.Core.Path.{_≡_, sym, ap, _∙_, subst}
+use mathlib.Core.Bool.{true}
+use Rattle.home_care.specs.Row.{eventNumber, evaluates}
 use Rattle.home_care.specs.Fits.{EventFits}
 use Rattle.home_care.proofs.EventAllowed.{event-fits}
 use Rattle.tracks.specs.EventElements.{Wording, wording}
 use Rattle.tracks.specs.RecordFields.{saidWith}
 use Rattle.tracks.specs.View.{told}
+use Rattle.tracks.proofs.Evaluations.{kind-evaluates}
 use Rattle.tracks.proofs.Happening.{event-read}
 use denote.Ref.{now}
 use mathlib.Core.List.{List}
-use borrow.Author.Needs.{needs}
 use Rattle.tracks.proofs.events.event.Statement.{statement}
 use Rattle.tracks.proofs.events.event.Tie as tie
 
@@ -49,7 +50,10 @@ event-number-requires c κs =
     subst EventFits (event-read (words (c .before .before .before .before .before .before .before .before .before .before .before) (k .0)) (k .1 .0) (c .before .before .before .before .attr-day .ensures .0 (k .1 .0) (k .1 .1)) (c .before .before .before .attr-end .ensures (k .1 .0) (k .1 .1)) (c .before .before .text-number-at .ensures (k .1 .0) (k .1 .1)) (c .before .attr-number .ensures (k .1 .0) (k .1 .1)) (c .attr-number2 .ensures (k .1 .0) (k .1 .1))) (event-fits _ (k .1 .2 .allowed))
 
 said-requires : tie.Need-said-requires
-said-requires c κs = search needs
+said-requires c κs =
+    let k = c .before .before .before .before .before .before .before .before .before .before .before .before .pre .1 in
+    let e = event-read (words (c .before .before .before .before .before .before .before .before .before .before .before .before) (k .0)) (k .1 .0) (c .before .before .before .before .before .attr-day .ensures .0 (k .1 .0) (k .1 .1)) (c .before .before .before .before .attr-end .ensures (k .1 .0) (k .1 .1)) (c .before .before .before .text-number-at .ensures (k .1 .0) (k .1 .1)) (c .before .before .attr-number .ensures (k .1 .0) (k .1 .1)) (c .before .attr-number2 .ensures (k .1 .0) (k .1 .1)) in
+    (k .1 .0, k .1 .1, λ h. k .1 .2 .evaluable (kind-evaluates _ (event-fits _ (k .1 .2 .allowed)) (subst (λ (n : ℕ). evaluates n ≡ true) (c .event-number .ensures .0 ∙ ap eventNumber (sym e)) h)))
 
 returns : tie.Need-returns
 returns c =

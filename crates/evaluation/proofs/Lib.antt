@@ -1,0 +1,10 @@
+pub mod FieldsRead
+pub mod LatestRow
+pub mod LastOf
+pub mod FieldsInForce
+pub mod CaseTexts
+pub mod EvaluationWays
+pub mod Found
+pub mod Latest
+pub mod NeverZero
+pub mod Renewed
