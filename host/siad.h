@@ -7,8 +7,8 @@
    Threads: no state is kept between calls (the archive has no writable data) and no memory is taken but stack, so calls
    over buffers of their own may run at the same time.
    Stack: measured, not proved: siad_submit at most 15,752 bytes on the files that bench/stack makes, hostile ones among
-   them; siad_sound 9,932 and siad_find 10,188, each on a register for 4,096 rows that bench's two ordinary files
-   filled; siad_cancel_file 11,286, for 1 to 1,274 events (bench/cancel); siad_evaluation XXX and siad_convert XXX, for
+   them; siad_sound 10,111 and siad_find 10,479, each on a register of 4,096 rows, a case and its reassessments;
+   siad_cancel_file 11,456, for 1 to 1,274 events (bench/cancel); siad_evaluation 10,688 and siad_convert 10,096, for
    1 to 4,095 events (bench/evaluation). Keep 16 KB free. */
 #ifndef SIAD_H
 #define SIAD_H
@@ -154,9 +154,10 @@ uint64_t siad_evaluation(const uint8_t *reg, size_t reg_len, const uint8_t *regi
    one's, each row is the old one and five zero bytes, and all behind them is zero. A Rivalutazione keeps no evaluation
    then, and siad_evaluation passes it over until a submission varies it. With SIAD_UNSOUND, for any other old register,
    and with SIAD_SHORT_OUTPUT no byte of `fresh` changes. The old one is only read. So a `fresh` of length 0 asks
-   whether a register is an old one: SIAD_SHORT_OUTPUT, or SIAD_UNSOUND.
+   whether a register is sound in old rows: SIAD_SHORT_OUTPUT, or SIAD_UNSOUND.
    To the calls that ask for a sound register an old one is SIAD_UNSOUND; but one without rows, or with a single case
-   and room for a row of SIAD_ROW_BYTES, is sound in both and means the same. */
+   and room for a row of SIAD_ROW_BYTES, is sound in both and means the same. This last sentence was run
+   (crates/register_cases), and is not proved. */
 uint64_t siad_convert(const uint8_t *old, size_t old_len, uint8_t *fresh, size_t fresh_len);
 
 /* Takes a submission of a track, a year and a quarter into a register. With SIAD_TAKEN byte i - 1 of `answers` is
