@@ -1,5 +1,4 @@
 // A script's commands: what each lends to the exported calls.
-use crate::rows;
 use crate::shown;
 use crate::words::number;
 use crate::words::size;
@@ -8,6 +7,10 @@ use home_care::layout::ROW;
 use markup::bytes::part;
 use markup::bytes::peek;
 use markup::bytes::same;
+use register::moving::put_row;
+
+// What is lent to be written holds this before.
+const BEFORE: u8 = 77;
 
 // How many bytes of the register's buffer, of the answer list and of the output are lent, and how many of the output's the file has that was written last.
 pub struct Held {
@@ -30,7 +33,7 @@ pub fn read(path: &[u8], buf: &mut [u8]) -> usize {
 }
 
 // One byte from a place on.
-pub fn fill(buf: &mut [u8], from: usize, b: u8) {
+fn fill(buf: &mut [u8], from: usize, b: u8) {
     let mut i = from;
     while i < buf.len() {
         buf[i] = b;
@@ -38,7 +41,7 @@ pub fn fill(buf: &mut [u8], from: usize, b: u8) {
     }
 }
 
-pub fn is_filled(s: &[u8], from: usize, b: u8) -> bool {
+fn is_filled(s: &[u8], from: usize, b: u8) -> bool {
     let mut i = from;
     while i < s.len() {
         if s[i] != b {
@@ -142,7 +145,7 @@ fn find(line: &[u8], id: &[u8], reg: &[u8]) {
 }
 
 // An Id_Rec of one character is written for 88 of it.
-pub fn in_full<'a>(id: &'a [u8], whole: &'a [u8]) -> &'a [u8] {
+fn in_full<'a>(id: &'a [u8], whole: &'a [u8]) -> &'a [u8] {
     if id.len() == 1 { whole } else { id }
 }
 
@@ -150,6 +153,27 @@ fn find_case(line: &[u8], reg: &[u8]) {
     let id = word(line, 4);
     let whole = [peek(id, 0); 88];
     find(line, in_full(id, &whole), reg);
+}
+
+// The evaluation of the line's case, with this Id_Rec, on its day: answer and fields.
+fn evaluation(line: &[u8], id: &[u8], reg: &[u8]) {
+    let mut fields = [BEFORE; 11];
+    let answer = exports::siad_evaluation(
+        reg,
+        word(line, 1),
+        word(line, 2),
+        word(line, 3),
+        id,
+        word(line, 5),
+        &mut fields,
+    );
+    shown::evaluation(answer, &fields);
+}
+
+fn evaluation_of(line: &[u8], reg: &[u8]) {
+    let id = word(line, 4);
+    let whole = [peek(id, 0); 88];
+    evaluation(line, in_full(id, &whole), reg);
 }
 
 // A cancellation file of the line's texts and this Id_Rec, for its quarter: answer and length. The length isn't 0 before, so that the call must have said it.
@@ -231,7 +255,7 @@ fn call(line: &[u8], held: Held, reg: &mut [u8], sub: &mut [u8], out: &[u8]) {
     } else if same(name, b"find") {
         find_case(line, reg);
     } else if same(name, b"evaluation") {
-        rows::evaluation_of(line, reg);
+        evaluation_of(line, reg);
     } else if same(name, b"empty") {
         shown::answer(exports::siad_empty(reg));
         shown::standing(reg);
@@ -255,13 +279,44 @@ fn load(path: &[u8], reg: &mut [u8]) -> usize {
 }
 
 // The same with a register of so many bytes.
-pub fn lending(held: Held, register: usize) -> Held {
+fn lending(held: Held, register: usize) -> Held {
     Held {
         register,
         list: held.list,
         output: held.output,
         file: held.file,
     }
+}
+
+// The register that is held into a new one: the answer, and how many bytes are held from then on. A new one that was refused must be as it was.
+fn convert_into(reg: &mut [u8], held: usize, new: &mut [u8]) -> usize {
+    if reg.len() < held {
+        return held;
+    }
+    if reg.len() < new.len() {
+        shown::put(b"no register so long\n");
+        return held;
+    }
+    fill(new, 0, BEFORE);
+    let answer = exports::siad_convert(&reg[..held], new);
+    if answer != 0 {
+        shown::refused(answer, is_filled(new, 0, BEFORE));
+        return held;
+    }
+    shown::converted();
+    exports::siad_empty(reg);
+    put_row(reg, new);
+    new.len()
+}
+
+// In so many bytes of the submission's buffer.
+fn convert(n: usize, held: Held, reg: &mut [u8], sub: &mut [u8]) -> Held {
+    if sub.len() < n {
+        shown::put(b"no register so long\n");
+        return held;
+    }
+    let register = convert_into(reg, held.register, &mut sub[..n]);
+    lending(held, register)
 }
 
 // A line's command, and what is lent from then on.
@@ -286,7 +341,7 @@ pub fn command(line: &[u8], held: Held, reg: &mut [u8], sub: &mut [u8], out: &mu
         };
     }
     if same(name, b"convert") {
-        return rows::convert(size(line, 1), held, reg, sub);
+        return convert(size(line, 1), held, reg, sub);
     }
     let n = held.register;
     if reg.len() < n {

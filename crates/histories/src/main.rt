@@ -14,7 +14,6 @@
 //   convert N                              converts into a new register of N bytes 77, held from then on; else whether these stayed
 //   # ...                                  a comment
 mod calls;
-mod rows;
 mod shown;
 mod words;
 

@@ -2,8 +2,8 @@ use mathlib.Core.Path.{sym}
 use lib.Seq.{length-take-le}
 use native.Mathlib.Omega.{arith}
 use borrow.Author.Needs.{needs}
-use Rattle.histories.proofs.rows.convert_into.Statement.{statement}
-use Rattle.histories.proofs.rows.convert_into.Tie as tie
+use Rattle.histories.proofs.calls.convert_into.Statement.{statement}
+use Rattle.histories.proofs.calls.convert_into.Tie as tie
 
 returns : tie.Need-returns
 returns c = search needs

@@ -2,8 +2,8 @@ use mathlib.Core.Path.{sym}
 use lib.Seq.{length-take-le}
 use native.Mathlib.Omega.{arith}
 use borrow.Author.Needs.{needs}
-use Rattle.histories.proofs.rows.convert.Statement.{statement}
-use Rattle.histories.proofs.rows.convert.Tie as tie
+use Rattle.histories.proofs.calls.convert.Statement.{statement}
+use Rattle.histories.proofs.calls.convert.Tie as tie
 
 slice-aggregate-put : tie.Need-slice-aggregate-put
 slice-aggregate-put c = search needs
