@@ -1,6 +1,8 @@
 // Every text AAAA-MM-GG of the years 1890 to 2109, months 00 to 13 and days 00 to 32, read. A line for each year: how many of its texts are dates, the
 // sum of their day numbers, the sum of those days' years, and the quarters 0 to 5, each with its first and last day or a dash.
 // What it must write was made by another tool (docs/CALENDAR.md).
+#![tactic(auto)]
+
 ghost use Rattle.days.specs.Table.{Firsts};
 
 use days::dates::Date;
@@ -8,7 +10,7 @@ use days::quarters::Quarter;
 use libc::STDOUT_FILENO;
 use std::num::wrapping_add_u64;
 
-#[derive(Drop)]
+#[derive(Clone, Copy)]
 struct Sum {
     dates: u64,
     days: u64,

@@ -1,4 +1,6 @@
 // What an accepted record does to a register's bytes (RULES.md, 8 What storing does). A row is packed straight into its place: no copy of it stands elsewhere.
+#![tactic(auto)]
+
 pub mod cancel;
 pub mod case;
 pub mod event_row;

@@ -1,4 +1,6 @@
 // The calls that bench/ measures.
+#![tactic(auto)]
+
 ghost use Rattle.std.specs.Prelude.{◌≡◌, true, false, ◌&&◌, List, ℕ, ◌^◌, eqb, ltb, length};
 ghost use Rattle.laws.specs.Lists.{all};
 ghost use Rattle.markup.specs.Document.{in_markup};

@@ -14,7 +14,7 @@ use text::put_text;
 pub const MOST_EVENTS: usize = 128;
 
 // The row and the place that writing has come to.
-#[derive(Drop)]
+#[derive(Clone, Copy)]
 pub struct Reached {
     pub row: usize,
     pub at: usize,

@@ -10,7 +10,7 @@ use home_care::evaluation::evaluates;
 use judge::event_dates::day_for;
 use judge::standing::event_at;
 
-#[derive(Drop)]
+#[derive(Clone, Copy)]
 pub struct Extent {
     pub events: usize,
     pub bytes: usize,

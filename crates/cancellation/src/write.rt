@@ -19,7 +19,7 @@ const ROOT: usize = 27;
 const RECORD: usize = 317;
 
 // An answer, with the file's length where it is 0.
-#[derive(Drop)]
+#[derive(Clone, Copy)]
 pub struct Finished {
     pub answer: u64,
     pub length: usize,

@@ -1,2 +1,4 @@
 // RULES.md, 7 Anomalies of a record: what the code asks of a record's type. The checks themselves are definitions (specs/); crate judge asks them.
+#![tactic(auto)]
+
 pub mod kinds;

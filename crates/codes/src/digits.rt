@@ -5,7 +5,7 @@ ghost use Rattle.laws.specs.Lists.{all};
 ghost use Rattle.codes.specs.Capped.{up_to};
 
 // The number that a text writes, and whether each byte of it is a digit.
-#[derive(Drop)]
+#[derive(Clone, Copy)]
 pub struct Digits {
     pub number: u64,
     pub good: bool,

@@ -1,5 +1,7 @@
 // The program's ends: what it reads goes to `lines`, and the bytes that come back are written. No contract can say what is written; what it is to be is
 // `printed` (crate lines). `run` reads any descriptor, so that the program and its cases share it.
+#![tactic(auto)]
+
 use libc::STDOUT_FILENO;
 
 // It lends nothing and gives nothing back, so it has nothing to promise. A first line has 15 bytes at most (`ok_line`), so the buffer holds it, the longest

@@ -9,13 +9,13 @@ ghost use Rattle.days.specs.View.{view_date, ok_date, PartsAt};
 use crate::calendar::{day_number, real_day};
 use codes::digits::is_digit;
 
-#[derive(Drop)]
+#[derive(Clone, Copy)]
 pub enum Date {
     Day { day: u32, next: usize },
     Refused,
 }
 
-#[derive(Drop)]
+#[derive(Clone, Copy)]
 pub enum Parts {
     Is { year: u32, month: u32, day: u32 },
     Refused,

@@ -8,7 +8,7 @@ ghost use Rattle.days.specs.View.{quarter_of, quarter_answer};
 use crate::calendar::{day_number, month_length};
 use crate::table::make;
 
-#[derive(Drop)]
+#[derive(Clone, Copy)]
 pub enum Quarter {
     Days { first: u32, last: u32 },
     Refused,

@@ -27,7 +27,7 @@ use rows::reader::{get, read_run};
 use soundness::find::{Lookup, find, probe_of};
 
 // The row of a case's events whose evaluation is in force, or none is.
-#[derive(Drop)]
+#[derive(Clone, Copy)]
 pub enum Kept {
     At(usize),
     Never,

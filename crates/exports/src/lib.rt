@@ -1,4 +1,6 @@
 // The calls for a host in C, one body each, over numbers and slices: no caller is trusted, and every lent byte is stated (host/siad.h declares them).
+#![tactic(auto)]
+
 ghost use Rattle.std.specs.Prelude.{◌≡◌};
 ghost use Rattle.register.specs.RoomAndEmptying.{emptied};
 ghost use Rattle.soundness.specs.Sound.{soundness};

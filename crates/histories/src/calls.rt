@@ -9,7 +9,7 @@ use register::moving::put_row;
 const BEFORE: u8 = 77;
 
 // How many bytes of the register's buffer, of the answer list and of the output are lent, and how many of the output's the file has that was written last.
-#[derive(Drop)]
+#[derive(Clone, Copy)]
 pub struct Held {
     pub register: usize,
     pub list: usize,

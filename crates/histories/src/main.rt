@@ -13,6 +13,8 @@
 //   evaluation REGION ASL DATE ID DAY      the evaluation in force: answer and eleven numbers (77 before)
 //   convert N                              converts into a new register of N bytes 77, held from then on; else whether these stayed
 //   # ...                                  a comment
+#![tactic(auto)]
+
 mod calls;
 mod shown;
 mod words;

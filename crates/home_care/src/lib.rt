@@ -1,4 +1,6 @@
 // Home care's fields (RULES.md, 4 The register, 5 Sound means): the row's table, fields in its bits, what is allowed.
+#![tactic(auto)]
+
 pub mod allowed;
 pub mod evaluation;
 pub mod event_bits;

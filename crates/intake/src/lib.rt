@@ -1,4 +1,6 @@
 // A file taken into a register (RULES.md, 6 Answers for a file).
+#![tactic(auto)]
+
 pub mod record;
 pub mod records;
 pub mod submit;
@@ -6,7 +8,7 @@ pub mod track1;
 pub mod track2;
 
 // The file's answer, the record number, the counts, and the place.
-#[derive(Drop)]
+#[derive(Clone, Copy)]
 pub struct Report {
     pub answer: u64,
     pub number: u64,

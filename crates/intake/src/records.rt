@@ -23,7 +23,7 @@ use reading::skips::head;
 use tracks::record::{record_end, top_of};
 
 // How many records there were, and how many of them were accepted.
-#[derive(Drop)]
+#[derive(Clone, Copy)]
 pub struct Tally {
     pub records: usize,
     pub accepted: usize,

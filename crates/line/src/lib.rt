@@ -1,4 +1,6 @@
 // The program's first line: track, year and quarter (RULES.md, 11 The program).
+#![tactic(auto)]
+
 ghost use Rattle.std.specs.Prelude.{◌≡◌, ◌+◌, ◌<◌, drop};
 ghost use Rattle.laws.specs.Decimal.{is_digit};
 ghost use Rattle.markup.specs.Bytes.{run_length};
@@ -9,14 +11,14 @@ use codes::digits::{is_digit, read_digits};
 use markup::bytes::{part, peek};
 
 // A number and the place after its mark.
-#[derive(Drop)]
+#[derive(Clone, Copy)]
 pub enum Number {
     Is { value: u64, next: usize },
     Refused,
 }
 
 // What the first line says, and the place where the submission begins.
-#[derive(Drop)]
+#[derive(Clone, Copy)]
 pub enum FirstLine {
     Says {
         track: u64,
@@ -28,7 +30,7 @@ pub enum FirstLine {
 }
 
 // What the input asks of the program: to print `line`, to print `long`, or to take the submission that begins at a place.
-#[derive(Drop)]
+#[derive(Clone, Copy)]
 pub enum Asked {
     Line,
     Long,

@@ -1,5 +1,7 @@
 // What the program prints (RULES.md, 11 The program), made as bytes in a buffer of its own: that they are written to standard output is
 // `console`'s part. Each function says how long its text is at most, so that the buffer is known to hold all of it.
+#![tactic(auto)]
+
 ghost use Rattle.std.specs.Prelude.{◌≡◌, ◌++◌, ◌*◌, ◌≤◌, ◌<◌, length, take};
 ghost use Rattle.text.specs.Put.{Put, Starts};
 ghost use Rattle.text.specs.Spelled.{spelled};

@@ -1,4 +1,6 @@
 // The markup reader: a place in the input goes from reader to reader, and each answers what it read with the next place, or the refusal.
+#![tactic(auto)]
+
 pub mod bytes;
 pub mod comments;
 pub mod elements;
@@ -8,20 +10,20 @@ pub mod repeats;
 pub mod tags;
 
 // A place in the input.
-#[derive(Drop)]
+#[derive(Clone, Copy)]
 pub struct Cursor {
     pub at: usize,
 }
 
 // The next place, where nothing is kept of what was read.
-#[derive(Drop)]
+#[derive(Clone, Copy)]
 pub enum Move {
     To(Cursor),
     Refused,
 }
 
 // A name or a value: its places and the next place.
-#[derive(Drop)]
+#[derive(Clone, Copy)]
 pub enum Got {
     Text {
         start: usize,
@@ -32,7 +34,7 @@ pub enum Got {
 }
 
 // An attribute: the places of its name and its value, and the next place.
-#[derive(Drop)]
+#[derive(Clone, Copy)]
 pub enum Attribute {
     Is {
         name: usize,
@@ -45,7 +47,7 @@ pub enum Attribute {
 }
 
 // The end of a start tag, by `>` or by `/>`.
-#[derive(Drop)]
+#[derive(Clone, Copy)]
 pub enum Ending {
     Open(Cursor),
     Shut(Cursor),
@@ -53,7 +55,7 @@ pub enum Ending {
 }
 
 // What stands next in a start tag after its name: an attribute, or the tag's end.
-#[derive(Drop)]
+#[derive(Clone, Copy)]
 pub enum TagStep {
     More {
         name: usize,
@@ -66,7 +68,7 @@ pub enum TagStep {
 }
 
 // A start tag: the places of its name, the place of its attributes and the next place.
-#[derive(Drop)]
+#[derive(Clone, Copy)]
 pub enum Start {
     Open {
         name: usize,
@@ -84,7 +86,7 @@ pub enum Start {
 }
 
 // What stands next inside an element; a child is yet to be read.
-#[derive(Drop)]
+#[derive(Clone, Copy)]
 pub enum Piece {
     Words { start: usize, end: usize },
     Aside(Cursor),
@@ -94,14 +96,14 @@ pub enum Piece {
 }
 
 // What stands next outside the root: a comment, or the end of white space and comments.
-#[derive(Drop)]
+#[derive(Clone, Copy)]
 pub enum Misc {
     More(Cursor),
     Done(Move),
 }
 
 // The place of the root element of a file in the markup.
-#[derive(Drop)]
+#[derive(Clone, Copy)]
 pub enum Document {
     Root(Cursor),
     Refused,

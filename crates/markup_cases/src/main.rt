@@ -1,4 +1,6 @@
 // Reads each file that its arguments name, and says whether it is in the markup.
+#![tactic(auto)]
+
 use libc::STDOUT_FILENO;
 
 fn said(s: &[u8]) {

@@ -1,4 +1,6 @@
 // The register (RULES.md, 4 The register).
+#![tactic(auto)]
+
 pub mod counts;
 pub mod emptying;
 pub mod moving;

@@ -72,7 +72,7 @@ pub fn stands(reg: &[u8], w: usize, i: usize, hi: usize, probe: &[u8], kbits: us
 }
 
 // The rows from lo up to hi.
-#[derive(Drop)]
+#[derive(Clone, Copy)]
 pub struct Span {
     pub lo: usize,
     pub hi: usize,

@@ -1,5 +1,7 @@
 // Reads each register image that its arguments name, and prints whether it is sound and where a case stands; then fills and clears a register of its own.
 // The images were packed by another tool (docs/IMAGES.md).
+#![tactic(auto)]
+
 ghost use Rattle.std.specs.Prelude.{◌≤◌};
 
 use home_care::layout::{CASE_KEY, ROW};

@@ -29,7 +29,7 @@ pub fn get(row: &[u8], at: usize, w: usize) -> u64
     (acc >> (8 * bytes - read)) % (1 << w)
 }
 
-#[derive(Drop)]
+#[derive(Clone, Copy)]
 pub enum Order {
     Less,
     Same,

@@ -4,7 +4,7 @@ ghost use Rattle.rows.specs.Packing.{«bits», «each», Fit, num};
 ghost use Rattle.rows.specs.Writer.{so_far, count, Tidy, Wrote};
 
 // `at` bytes are written, and `have` bits, fewer than 8, wait in `acc`.
-#[derive(Drop)]
+#[derive(Clone, Copy)]
 pub struct Bits {
     pub acc: u64,
     pub have: usize,

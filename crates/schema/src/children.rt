@@ -9,7 +9,7 @@ use markup::bytes::{part, same};
 use markup::{Cursor, Got};
 
 // Where a child stands: the item of its group's rows, and how many of that item have been before.
-#[derive(Drop)]
+#[derive(Clone, Copy)]
 pub enum Spot {
     Here { item: usize, count: usize },
     Nowhere,

@@ -10,7 +10,7 @@ use markup::{Cursor, Ending, Move};
 use reading::skips::skip;
 
 // What is said of an element whose children need not be looked at; or that a group opened: where its name ends, and where what stands in it begins.
-#[derive(Drop)]
+#[derive(Clone, Copy)]
 pub enum Entry {
     Told(Outcome),
     Open { end: usize, inside: usize },

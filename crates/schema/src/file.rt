@@ -15,7 +15,7 @@ use markup::{Cursor, Ending, Got};
 
 // The number of records of a file of the shape; or the number of the record at fault, 0 for none, and the bytes left at the `<` of the element at fault; or the
 // number of the first record with too many counted elements.
-#[derive(Drop)]
+#[derive(Clone, Copy)]
 pub enum ShapeAnswer {
     Fine(usize),
     Faulty { number: usize, from: usize },
@@ -33,14 +33,14 @@ pub fn place_of(all: usize, left: usize) -> usize
 }
 
 // What is known after some records: how many there were, and the first with too many counted elements (0: none); or the first at fault.
-#[derive(Drop)]
+#[derive(Clone, Copy)]
 pub enum Seen {
     Good { number: usize, over: usize },
     Bad { number: usize, from: usize },
 }
 
 // What is known after a child; and the place past it, where it is a record without fault (0: the place is not known).
-#[derive(Drop)]
+#[derive(Clone, Copy)]
 pub struct Taken {
     pub seen: Seen,
     pub next: usize,

@@ -1,4 +1,6 @@
 // The shape of a file: one interpreter of schema tables, over any table that is lent.
+#![tactic(auto)]
+
 pub mod attrs;
 pub mod children;
 pub mod elements;
@@ -11,7 +13,7 @@ pub mod too_many;
 
 // The place past an element that has no fault, and how many counted elements stand in it; or the first fault, as the bytes left at the `<` of the element
 // that it is told of.
-#[derive(Drop)]
+#[derive(Clone, Copy)]
 pub enum Outcome {
     Past { next: usize, count: usize },
     Fault(usize),

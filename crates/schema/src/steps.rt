@@ -9,7 +9,7 @@ use markup::{Cursor, Piece};
 
 // The place past the group, in which none is missing; a fault that is the group's; the place past white space or a comment; or the item of a child, and how
 // many of that item have been before.
-#[derive(Drop)]
+#[derive(Clone, Copy)]
 pub enum Step {
     Past(usize),
     Wrong,

@@ -13,7 +13,7 @@ use codes::digits::read_digits;
 use days::dates::{Parts, date_parts};
 
 // A number that digits write; one above 65,535 is that large and no more.
-#[derive(Drop)]
+#[derive(Clone, Copy)]
 pub enum Number {
     Is(usize),
     Refused,

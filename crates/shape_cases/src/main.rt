@@ -1,4 +1,6 @@
 // Holds each file that its arguments name against the shape of its track, which the name's first byte says.
+#![tactic(auto)]
+
 use libc::STDOUT_FILENO;
 use markup::Document;
 use markup::bytes::peek;

@@ -1,4 +1,6 @@
 // Runs the program on each file that its arguments name, one after the other, the name first.
+#![tactic(auto)]
+
 use libc::STDOUT_FILENO;
 
 fn one(i: usize) {

@@ -20,7 +20,7 @@ use home_care::layout::{CASE_KEY, ROW};
 use register::counts::count;
 use register::search::{place, stands};
 
-#[derive(Drop)]
+#[derive(Clone, Copy)]
 pub enum Lookup {
     At(usize),
     Unsound,

@@ -15,7 +15,7 @@ use register::row::row_at;
 use register::search::stands;
 
 // What a case's events so far ask of the next: the least key, the event before it and the latest day; zeros at first.
-#[derive(Drop)]
+#[derive(Clone, Copy)]
 struct Before {
     least: u64,
     prev: u64,
@@ -23,7 +23,7 @@ struct Before {
 }
 
 // The row at which a case's events end, where they are good.
-#[derive(Drop)]
+#[derive(Clone, Copy)]
 pub enum Run {
     End(usize),
     Bad,

@@ -1,5 +1,7 @@
 // Text put into a lent buffer, from a place on: bytes as they are, and numbers in decimal. Where the buffer ends nothing more is written. Each function answers
 // the place after what it put, so that pieces are put one after the other; what they leave together is one law (`put_on`, proofs/PutLaws.antt).
+#![tactic(auto)]
+
 ghost use Rattle.std.specs.Prelude.{◌≡◌, [], ◌∷◌, ◌<◌, length, drop};
 ghost use Rattle.text.specs.Put.{Put};
 ghost use Rattle.text.specs.Spelled.{spelled, most_digits, digit as digitOf};

@@ -1,6 +1,8 @@
 // The XML examples of SIAD 6.4 (4.5.1 and 4.6.1), one after the other on the input, with the line breaks that the page put into long values removed and
 // `PresaInCarico` for `PresainCarico`: prints the fields that a person reads there. Each is taken by the markup and held against its schema first, as a file
 // that is taken is.
+#![tactic(auto)]
+
 ghost use Rattle.days.specs.Table.{Firsts};
 ghost use Rattle.track_examples.specs.FirstRecord.{IsFirst};
 
@@ -16,7 +18,7 @@ use tracks::record::{AdmissionRead, HeadRead, admission, head, top_of};
 use tracks::shapes::shape_of;
 
 // The children of a file's first record.
-#[derive(Drop)]
+#[derive(Clone, Copy)]
 pub enum First {
     Record(Six),
     Nothing,

@@ -26,7 +26,7 @@ use nodes::children::{child, enter, is_named, next_kid};
 use nodes::{Entry, Kid, Node, Six, Span};
 use reading::skips::skip;
 
-#[derive(Drop)]
+#[derive(Clone, Copy)]
 pub struct EventsRead {
     pub count: usize,
     pub bad_conferma: bool,
@@ -34,7 +34,7 @@ pub struct EventsRead {
 }
 
 // A child of Eventi: an event's 52 bits with the two tests and the evaluation that is kept beside them, or no event.
-#[derive(Drop)]
+#[derive(Clone, Copy)]
 pub enum Happened {
     Event {
         number: u64,
@@ -46,7 +46,7 @@ pub enum Happened {
 }
 
 // What a Valutazione is read for: the text of its Prevalente, and the evaluation that an event keeps.
-#[derive(Drop)]
+#[derive(Clone, Copy)]
 pub struct EvaluationRead {
     pub main: Span,
     pub evaluation: u64,

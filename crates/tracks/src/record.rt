@@ -26,7 +26,7 @@ use nodes::{Node, Six, Span, Walked};
 use reading::skips::{past, skip};
 
 // The type, and the case's key: ASL's 3 bytes and Id_Rec's 88 by their places.
-#[derive(Drop)]
+#[derive(Clone, Copy)]
 pub struct HeadRead {
     pub tipo: u8,
     pub region: u64,
@@ -36,7 +36,7 @@ pub struct HeadRead {
 }
 
 // The case, and the residence's texts by their places.
-#[derive(Drop)]
+#[derive(Clone, Copy)]
 pub struct AdmissionRead {
     pub birth: u64,
     pub prevalente: [u8; 5],
@@ -110,7 +110,7 @@ fn scale(s: &[u8], n: Node) -> u8
 }
 
 // What is read of a Valutazione: the text of its Patologia's Prevalente, and its six scales.
-#[derive(Drop)]
+#[derive(Clone, Copy)]
 pub struct ValueRead {
     pub main: Span,
     pub scales: [u8; 6],
