@@ -1,0 +1,12 @@
+use Prim.Native.Nat.{◌≤◌, ◌-◌}
+use lib.ListN.{length, drop}
+use Rattle.laws.proofs.Reach.{Reach}
+use Rattle.markup.specs.NamesAndValues.Read.{refused}
+use Rattle.markup.specs.Document.{misc_step, misc}
+use Rattle.markup.proofs.Cursor.misc.Given as goal
+
+abbrev pub invariant-loop-next : goal.invariant-loop-next
+invariant-loop-next l = (l.from ≤ l.at) × Reach refused misc_step (λ r. r) (misc (drop l.from l.s)) (drop l.at l.s) × (l.at - l.from ≤ length l.s - l.from)
+
+abbrev pub decreases-loop-next : goal.decreases-loop-next
+decreases-loop-next l = length l.s - l.at
