@@ -17,7 +17,7 @@ use Rattle.rows.proofs.Bytes.{lt-of-high}
 use Rattle.register.specs.Layout.{event_rest, case_named}
 use Rattle.register.specs.State.{unsplit, key_by}
 use Rattle.register.specs.Stored.{events, split_of, Sized}
-use Rattle.register.proofs.MixedKeys.{number_of, split_by, key_below, key-same}
+use Rattle.register.proofs.MixedKeys.{number_of, split_by_lem, key_below, key-same}
 use Rattle.home_care.specs.Row.{event_widths, event_bits, own_bits, past_own, code_bits, day_bits, kind_bits, siad, home_care, tail_bits_wide, kind_of, date_of, code_of, kind_in, spare_bits, event_number_in_wide, event_key_of}
 use Rattle.home_care.specs.EventRows.{own_bits_of}
 use Rattle.home_care.specs.Fits.{RowWidth}
@@ -142,4 +142,4 @@ module _ (w : ℕ) (h : RowWidth w) where
   pub row-parts : (r : Row ℕ) → Sized events (home_care w) r → r.key ≡ case_named (home_care w) r.key * 2 ^ own_bits + event_key_of (event_number_in_wide w r)
   row-parts r s =
       subst (λ (t : Row ℕ). t.key ≡ case_named (home_care w) t.key * 2 ^ own_bits + event_key_of (event_number_in_wide w t))
-      (split_by events (home_care w) (laid-wide w h) r s) (cut_parts (unsplit (event_rest (home_care w)) r))
+      (split_by_lem events (home_care w) (laid-wide w h) r s) (cut_parts (unsplit (event_rest (home_care w)) r))

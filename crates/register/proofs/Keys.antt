@@ -38,9 +38,9 @@ told_below Less t = true
 told_below Same t = ltb 0 t
 told_below More t = false
 
-pub told_below : (m n t : ℕ) → t ≤ 1 → (o s : Order) → o ≡ order_of m n → o ≡ s → told_below s t ≡ ltb m (n + t)
-told_below m n t h o Less e f = let l : m < n = less-order m n (sym e ∙ f) in sym (lt-ltb m (n + t) (omega arith))
-told_below m n t h o Same e f = go (tri 0 t)
+pub told_below_lem : (m n t : ℕ) → t ≤ 1 → (o s : Order) → o ≡ order_of m n → o ≡ s → told_below s t ≡ ltb m (n + t)
+told_below_lem m n t h o Less e f = let l : m < n = less-order m n (sym e ∙ f) in sym (lt-ltb m (n + t) (omega arith))
+told_below_lem m n t h o Same e f = go (tri 0 t)
   where
     l : m ≡ n
     l = same-order m n (sym e ∙ f)
@@ -49,17 +49,17 @@ told_below m n t h o Same e f = go (tri 0 t)
     go (below p a b) = a ∙ sym (lt-ltb m (n + t) (omega (arith, l)))
     go (equal p a b) = a ∙ sym (le-ltb m (n + t) (omega (arith, l)))
     go (above p a b) = absurd (omega arith)
-told_below m n t h o More e f = let l : n < m = more-order m n (sym e ∙ f) in sym (le-ltb m (n + t) (omega arith))
+told_below_lem m n t h o More e f = let l : n < m = more-order m n (sym e ∙ f) in sym (le-ltb m (n + t) (omega arith))
 
 abbrev pub told_same : Order → Bool
 told_same Less = false
 told_same Same = true
 told_same More = false
 
-pub told_same : (m n : ℕ) (o s : Order) → o ≡ order_of m n → o ≡ s → told_same s ≡ eqb m n
-told_same m n o Less e f = let l : m < n = less-order m n (sym e ∙ f) in sym (ne_eqb m n (λ g. omega arith))
-told_same m n o Same e f = sym (eq-eqb m n (same-order m n (sym e ∙ f)))
-told_same m n o More e f = let l : n < m = more-order m n (sym e ∙ f) in sym (ne_eqb m n (λ g. omega arith))
+pub told_same_lem : (m n : ℕ) (o s : Order) → o ≡ order_of m n → o ≡ s → told_same s ≡ eqb m n
+told_same_lem m n o Less e f = let l : m < n = less-order m n (sym e ∙ f) in sym (ne_eqb m n (λ g. omega arith))
+told_same_lem m n o Same e f = sym (eq-eqb m n (same-order m n (sym e ∙ f)))
+told_same_lem m n o More e f = let l : n < m = more-order m n (sym e ∙ f) in sym (ne_eqb m n (λ g. omega arith))
 
 pub not-before : (i hi : ℕ) (b : Bool) → hi ≤ i → false ≡ ltb i hi && b
 not-before i hi b h = rw (le-ltb i hi h)

@@ -209,8 +209,8 @@ module _ (g : Group) (l : Layout) (lay : Laid l) where
     val_back =
         ap (λ (k : ℕ). n % 2 ^ k) (past-key g l (n / 2 ^ w)) ∙ ap (λ (k : ℕ). n % 2 ^ (k + w)) as_many ∙ ap (λ (k : ℕ). k % 2 ^ (t + w)) number_is ∙ low (r.key / 2 ^ t) (t + w) small
 
-    pub split_by : split_of g l n ≡ r
-    split_by = λ i. record { key = key_back i; val = val_back i }
+    pub split_by_lem : split_of g l n ≡ r
+    split_by_lem = λ i. record { key = key_back i; val = val_back i }
 
     pub row_lt : n < 2 ^ (8 * l.bytes)
     row_lt =

@@ -14,7 +14,7 @@ use Rattle.rows.proofs.Bytes.{digits-length, num-digits, digits-num, fit-take, f
 use Rattle.register.specs.Layout.{Layout, row_at, row_in}
 use Rattle.register.specs.State.{from, unsplit, rows_bytes}
 use Rattle.register.specs.Stored.{Laid, Group, rest_of, split_of, Fits}
-use Rattle.register.proofs.MixedKeys.{number_of, split_by, row_lt, sizes-by}
+use Rattle.register.proofs.MixedKeys.{number_of, split_by_lem, row_lt, sizes-by}
 
 -- ---- a row as a number
 
@@ -85,7 +85,7 @@ module _ (l : Layout) where
         ap₂ ◌∷◌
         (ap (λ (y : List ℕ). split_of g l (row_in l y i)) p
         ∙ ap (split_of g l) (row_here x (rows_bytes l w m ++ z) i (unsplit w r) e (row_lt g l lay r f.0))
-        ∙ split_by g l lay r f.0)
+        ∙ split_by_lem g l lay r f.0)
         (ap (λ (y : List ℕ). from (λ j. split_of g l (row_in l y j)) (suc i) (length m)) q ∙ rows_back lay (x ++ d) z (suc i) m n f.1)
 
     -- the bytes that rows were read from

@@ -1,0 +1,11 @@
+use Prim.Native.Nat.{◌+◌, ◌-◌, ◌≤◌}
+use mathlib.Core.Path.{◌≡◌}
+use lib.ListN.{length}
+use Rattle.register.proofs.Shift.{leftward}
+use Rattle.register.proofs.moving.shift_left.Given as goal
+
+abbrev pub invariant-loop-k : goal.invariant-loop-k
+invariant-loop-k l = ((l.end + l.w ≡ length l.initial.part) × (l.k ≤ l.end)) × ((l.part ≡ leftward l.w l.initial.part l.k) × (length l.part ≡ length l.initial.part))
+
+abbrev pub decreases-loop-k : goal.decreases-loop-k
+decreases-loop-k l = l.end - l.k
