@@ -1,0 +1,18 @@
+use Rattle.schema.proofs.Heads.{enough-end, enough-no, enough-on}
+use mathlib.Core.Path.{refl, sym, ◌∙◌}
+use Prim.Native.Nat.{◌-◌}
+use Rattle.schema.proofs.children.enough.Goals as goal
+
+pub loop-j-init : goal.loop-j-init
+loop-j-init c = λ p r d. refl
+
+pub returns-then-k-cell : goal.returns-then-k-cell
+returns-then-k-cell c =
+    λ p r d. enough-no c.args.table.now p r d _ _ _ _ c.loop-j-test.true c.cell.ensures.0 c.if-k-cell.true ∙ c.loop-j.invariant p r d
+
+pub loop-j-preserved : goal.loop-j-preserved
+loop-j-preserved c =
+    λ p r d. sym (enough-on c.args.table.now p r d _ _ _ _ c.loop-j-test.true c.cell.ensures.0 c.if-k-cell.false) ∙ c.loop-j.invariant p r d
+
+pub returns : goal.returns
+returns c = λ p r d. enough-end c.args.table.now p r d _ _ _ _ c.loop-j-test.false ∙ c.loop-j.invariant p r d
