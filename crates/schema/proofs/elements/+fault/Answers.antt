@@ -1,11 +1,9 @@
 use native.Mathlib.Omega.{arith}
 use Prim.Native.Nat.{◌-◌}
 use lib.ListN.{length}
-use borrow.Fn.PlainCycle.{is, and}
 use Rattle.schema.proofs.Tagged.{has-levels}
 use Rattle.schema.proofs.Group.{walk-wrong, walk-on, walk-fault}
 use Rattle.schema.proofs.Counts.{count-quiet, count-start, count_past, count_next}
-use Rattle.schema.proofs.elements.fault.Reads as fault
 use Rattle.schema.proofs.elements.+fault.Goals as goal
 
 -- `fault` calls itself with one level less. The loop's invariant: the fault and the count of what is left in the group are those of the element.
@@ -72,9 +70,6 @@ loop-next-preserved-in-On t c =
           let w = y.tells a.ranges.now (a.levels - 1) o.left m o.reads in
           walk-on o (count-quiet _ _ _) w.0 w.1 w.2,
     )
-
-pub fault-child-requires : goal.fault-child-requires
-fault-child-requires t c = (omega (arith, c.requires.0, c.if-levels-eq0.false), tt)
 
 pub returns-in_default : goal.returns-in_default
 returns-in_default t c =

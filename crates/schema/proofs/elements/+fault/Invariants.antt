@@ -20,3 +20,6 @@ invariant-loop-next l = (l.at < length l.s)
 
 abbrev pub decreases-loop-next : goal.decreases-loop-next
 decreases-loop-next l = length l.s - l.here
+
+abbrev pub decreases-fault : goal.decreases-fault
+decreases-fault l = l.levels

@@ -1,0 +1,17 @@
+use Rattle.soundness.proofs.FindPlace.{found_at, found-not}
+use native.Mathlib.Omega.{arith}
+use Rattle.soundness.proofs.find.find_key.Goals as goal
+
+pub place-i-requires : goal.place-i-requires
+place-i-requires c = (omega arith, rw c.count-cases.ensures.0 c.requires.2, c.requires.3, omega (arith, c.requires.0.least), omega arith)
+
+pub stands-requires : goal.stands-requires
+stands-requires c = (rw c.count-cases.ensures.0 c.requires.2, c.requires.3, omega (arith, c.requires.0.least))
+
+pub returns-then-not-stands : goal.returns-then-not-stands
+returns-then-not-stands c =
+    λ u. found-not c.args.w c.args.reg.now c.args.probe.now _ _ _ c.count-cases.ensures.0 c.place-i.ensures c.stands.ensures u (c.if-not-stands.true)
+
+pub returns : goal.returns
+returns c =
+    λ u. found_at c.args.w c.args.reg.now c.args.probe.now _ _ _ c.count-cases.ensures.0 c.place-i.ensures c.stands.ensures u (c.if-not-stands.false)
