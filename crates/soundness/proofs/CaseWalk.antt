@@ -40,9 +40,9 @@ module _ (w : ℕ) where
   row_number reg row i e = ap num e
 
   -- the day of taking in that the code reads in a case's row
-  pub taken_at : RowWidth w → (reg row : List ℕ) (i r : ℕ) → num row ≡ row_in (home_care w) reg i → length row ≡ w → r ≡ field_at (8 * length row - (taken_at + day_bits)) day_bits (num row) →
+  pub taken_at_lem : RowWidth w → (reg row : List ℕ) (i r : ℕ) → num row ≡ row_in (home_care w) reg i → length row ≡ w → r ≡ field_at (8 * length row - (taken_at + day_bits)) day_bits (num row) →
       r ≡ taken_in (case_at w reg i)
-  taken_at wide reg row i r e l h =
+  taken_at_lem wide reg row i r e l h =
       taken_is row (subst RowWidth (sym l) wide) r h ∙ ap₂ (λ (k n : ℕ). taken_in (n / 2 ^ case_rest (home_care k))) l e
 
   module _ (reg : List ℕ) (i j rows : ℕ) where

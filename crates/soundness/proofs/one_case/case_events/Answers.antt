@@ -1,5 +1,5 @@
 use Prim.Native.Nat.{◌+◌, ◌-◌}
-use Rattle.soundness.proofs.CaseWalk.{row_number, taken_at, walk_start, stands-within, walk_end, walk-bad, walk-on}
+use Rattle.soundness.proofs.CaseWalk.{row_number, taken_at_lem, walk_start, stands-within, walk_end, walk-bad, walk-on}
 use Rattle.soundness.proofs.Within.{rows_before, rows_few}
 use borrow.Author.Rules.{rules}
 use native.Mathlib.Omega.{arith}
@@ -10,7 +10,7 @@ row_at-case-requires c = rows_before c.args.w (c.args.i + 1) c.args.rows _ (omeg
 
 pub loop-case-init : goal.loop-case-init
 loop-case-init c =
-    (omega arith, walk_start c.args.w c.args.reg.now c.args.i c.args.j c.args.rows c.requires.0 _ (taken_at c.args.w c.requires.0 c.args.reg.now c.row_at-case.result.now c.args.i _ (row_number _ _ _ _ c.row_at-case.ensures.0) c.row_at-case.ensures.1 c.get-taken.ensures.value))
+    (omega arith, walk_start c.args.w c.args.reg.now c.args.i c.args.j c.args.rows c.requires.0 _ (taken_at_lem c.args.w c.requires.0 c.args.reg.now c.row_at-case.result.now c.args.i _ (row_number _ _ _ _ c.row_at-case.ensures.0) c.row_at-case.ensures.1 c.get-taken.ensures.value))
 
 pub row_at-row-requires : goal.row_at-row-requires
 row_at-row-requires c =
