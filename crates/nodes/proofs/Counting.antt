@@ -131,7 +131,7 @@ unfoldable pub each_node : (Node → Bool) → Nodes → Bool
 each_node q none = true
 each_node q (n ▸ ns) = q n && each_node q ns
 
-each_at : (q : Node → Bool) {ns : Nodes} {n : Node} → Among n ns → each_node q ns ≡ true → q n ≡ true
+each_at : (q : Node → Bool) {n : Node} {ns : Nodes} → Among n ns → each_node q ns ≡ true → q n ≡ true
 unfolding each_node
 each_at q {n = n} (front {ns = ns}) e = and_left (q n) (each_node q ns) e
 each_at q (later {m = m} {ns = ns} a) e = each_at q a (and_right (q m) (each_node q ns) e)

@@ -123,7 +123,7 @@ pub data Among (n : Node) : Nodes → Type 0 where
   front : {ns : Nodes} → Among n (n ▸ ns)
   later : {m : Node} {ns : Nodes} → Among n ns → Among n (m ▸ ns)
 
-none-among : (x : List ℕ) {ns : Nodes} {m : Node} → node_of x ns ≡ absent → Among m ns → same x (particle_of m).named ≡ true → ⊥
+none-among : (x : List ℕ) {m : Node} {ns : Nodes} → node_of x ns ≡ absent → Among m ns → same x (particle_of m).named ≡ true → ⊥
 unfolding node_of
 none-among x {m = m} e (front {ns = ns}) u = first-there m (node_of x ns) (rw u at e)
 none-among x e (later {m = o} {ns = ns} a) u = go (same x (particle_of o).named) (λ q. none-among x q a u) e
@@ -133,7 +133,7 @@ none-among x e (later {m = o} {ns = ns} a) u = go (same x (particle_of o).named)
     go false i q = i q
 
 -- the node of a name is the only one of it
-pub only-among : (x : List ℕ) {ns : Nodes} {m n : Node} → node_of x ns ≡ only n → Among m ns → same x (particle_of m).named ≡ true → m ≡ n
+pub only-among : (x : List ℕ) {m n : Node} {ns : Nodes} → node_of x ns ≡ only n → Among m ns → same x (particle_of m).named ≡ true → m ≡ n
 unfolding node_of
 only-among x {m = m} {n = n} e (front {ns = ns}) u = (first-is m n (node_of x ns) (rw u at e)).0
 only-among x {m = m} {n = n} e (later {m = o} {ns = ns} a) u = go (same x (particle_of o).named) (λ q. only-among x q a u) e

@@ -36,13 +36,13 @@ Attributes [] = Unit
 Attributes (p ∷ ps) = (is_name_start (get_or p.key 0 0) && all is_name p.key ≡ true) × PlainText p.val × Attributes ps
 
 -- a name by one test
-is_name : (n : List ℕ) → is_name_start (get_or n 0 0) && all is_name n ≡ true → IsName n
-is_name n h = record { starts = and_left _ (all is_name n) h; bytes = and_right (is_name_start (get_or n 0 0)) _ h }
+is_name_lem : (n : List ℕ) → is_name_start (get_or n 0 0) && all is_name n ≡ true → IsName n
+is_name_lem n h = record { starts = and_left _ (all is_name n) h; bytes = and_right (is_name_start (get_or n 0 0)) _ h }
 
 -- such attributes are printed and are plain
 pairs-ok : (ps : List Pair) → Attributes ps → PairsOk ps × ValuesPlain ps
 pairs-ok [] h = (tt, tt)
-pairs-ok (p ∷ ps) h = let r = pairs-ok ps h.2 in ((is_name p.key h.0, h.1.value, r.0), (h.1.file, r.1))
+pairs-ok (p ∷ ps) h = let r = pairs-ok ps h.2 in ((is_name_lem p.key h.0, h.1.value, r.0), (h.1.file, r.1))
 
 -- nothing; a text; an element before what follows it
 nothing : {d : ℕ} → Printed d end
@@ -55,7 +55,7 @@ an-element : {d : ℕ} {n : List ℕ} {ps : List Pair} {i k : Inside} → is_nam
     differ ps ≡ true → Printed d i → Printed (suc d) k → Printed (suc d) (elem 0 n ps i k)
 an-element {n = n} {ps = ps} h a e i k =
     let p = pairs-ok ps a in
-    record { prints = (record { named = is_name n h; pairs = p.0; apart = e }, i.prints, k.prints); plain = (p.1, i.plain, k.plain) }
+    record { prints = (record { named = is_name_lem n h; pairs = p.0; apart = e }, i.prints, k.prints); plain = (p.1, i.plain, k.plain) }
 
 -- ---- a cancellation file's elements
 
