@@ -1,0 +1,33 @@
+use Prim.Native.Nat.{◌-◌}
+use mathlib.Core.Path.{sym, ◌∙◌}
+use mathlib.Core.Logic.{⊎_elim}
+use Rattle.cancellation.proofs.EventsPut.{none-put, one-put, one_left, share-full, share-done}
+use Rattle.cancellation.proofs.records.put_events.Goals as goal
+
+-- The first n of the chosen events were put, and the others are in the rows that are left.
+
+pub loop-row-init : goal.loop-row-init
+loop-row-init c = none-put c.requires.1.order
+
+pub shape_of-out-then-n-eq-MOST_EVENTS : goal.shape_of-out-then-n-eq-MOST_EVENTS
+shape_of-out-then-n-eq-MOST_EVENTS c = c.loop-row.invariant.put.long
+
+pub returns-then-n-eq-MOST_EVENTS : goal.returns-then-n-eq-MOST_EVENTS
+returns-then-n-eq-MOST_EVENTS c = share-full c.loop-row.invariant c.if-n-eq-MOST_EVENTS.true
+
+pub loop-row-preserved : goal.loop-row-preserved
+loop-row-preserved c =
+    let l = c.loop-row in
+    let e = c.event_at-e in
+    let d = sym c.dated_in.ensures in
+    ⊎_elim
+    (λ w. rw (w.5, w.6, w.7) (one-put l.invariant c.loop-row-test.true c.if-n-eq-MOST_EVENTS.false
+    e.ensures.0 (d ∙ w.0.taken) w.2.ensures))
+    (λ w. rw (w.1, w.2, w.3) (one_left l.invariant c.loop-row-test.true e.ensures.0 (d ∙ w.0.left)))
+    c.if-dated_in.branch
+
+pub shape_of-out : goal.shape_of-out
+shape_of-out c = c.loop-row.invariant.put.long
+
+pub returns : goal.returns
+returns c = share-done c.loop-row.invariant c.loop-row-test.false

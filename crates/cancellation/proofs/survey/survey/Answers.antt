@@ -1,0 +1,29 @@
+use Prim.Native.Nat.{◌-◌}
+use mathlib.Core.Path.{sym, ◌∙◌}
+use mathlib.Core.Logic.{⊎_elim}
+use native.Mathlib.Omega.{arith}
+use Rattle.cancellation.proofs.SurveyLaws.{survey-start, survey-with, survey-skip, survey-done}
+use Rattle.cancellation.proofs.survey.survey.Goals as goal
+
+-- What was surveyed so far, together with the rows that are left, gives the whole.
+
+pub loop-i-init : goal.loop-i-init
+loop-i-init c = survey-start c.requires.order
+
+pub with-s-requires : goal.with-s-requires
+with-s-requires c =
+    let v = c.loop-i.invariant in
+    (c.event_at-e.ensures.1, omega (arith, v.few, c.requires.few), v.small)
+
+pub loop-i-preserved : goal.loop-i-preserved
+loop-i-preserved c =
+    let l = c.loop-i in
+    let e = c.event_at-e in
+    let d = sym c.dated_in.ensures in
+    ⊎_elim
+    (λ w. rw w.2 (survey-with l.invariant c.loop-i-test.true e.ensures.0 (d ∙ w.0.taken) w.1.ensures))
+    (λ w. rw w.1 (survey-skip l.invariant c.loop-i-test.true e.ensures.0 (d ∙ w.0.left)))
+    c.if-dated_in.branch
+
+pub returns : goal.returns
+returns c = survey-done c.loop-i.invariant c.loop-i-test.false
