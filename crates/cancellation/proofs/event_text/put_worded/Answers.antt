@@ -23,7 +23,7 @@ pub returns : goal.returns
 returns c =
     let l = c.args in
     λ kind.
-    put-parts (wording kind l.element.now l.date.now l.end.now l.in-child l.code.now l.accesses.now l.conferma.now) l.e
+    put-parts (wording kind l.element.now l.date.now l.end.now l.in_child l.code.now l.accesses.now l.conferma.now) l.e
     c.date_of.ensures.0 c.code_of.ensures c.end_of.ensures.0 c.end_of-2.ensures.0
     c.accesses_of.ensures c.accesses_of-2.ensures c.conferma_of.ensures c.conferma_of-2.ensures
     c.code_of-2.ensures

@@ -3,6 +3,7 @@ use mathlib.Core.Path.{sym, ◌∙◌}
 use mathlib.Core.Logic.{⊎_elim}
 use Rattle.cancellation.proofs.EventsPut.{none-put, one-put, one_left, share-full, share-done}
 use Rattle.cancellation.proofs.records.put_events.Goals as goal
+use Rattle.cancellation.proofs.records.put_events.Goals.{then-dated_in, else-dated_in}
 
 -- The first n of the chosen events were put, and the others are in the rows that are left.
 
@@ -20,11 +21,11 @@ loop-row-preserved c =
     let l = c.loop-row in
     let e = c.event_at-e in
     let d = sym c.dated_in.ensures in
-    ⊎_elim
-    (λ w. rw (w.5, w.6, w.7) (one-put l.invariant c.loop-row-test.true c.if-n-eq-MOST_EVENTS.false
-    e.ensures.0 (d ∙ w.0.taken) w.2.ensures))
-    (λ w. rw (w.1, w.2, w.3) (one_left l.invariant c.loop-row-test.true e.ensures.0 (d ∙ w.0.left)))
-    c.if-dated_in.branch
+    elim c.if-dated_in.branch [
+      then-dated_in w ↦
+          rw (w.out-is, w.next-is, w.n-is) (one-put l.invariant c.loop-row-test.true c.if-n-eq-MOST_EVENTS.false e.ensures.0 (d ∙ w.if-dated_in.true) w.put_event-next.ensures)
+    | else-dated_in w ↦ rw (w.out-is, w.next-is, w.n-is) (one_left l.invariant c.loop-row-test.true e.ensures.0 (d ∙ w.if-dated_in.false))
+    ]
 
 pub shape_of-out : goal.shape_of-out
 shape_of-out c = c.loop-row.invariant.put.long

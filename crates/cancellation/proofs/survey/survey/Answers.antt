@@ -4,6 +4,7 @@ use mathlib.Core.Logic.{⊎_elim}
 use native.Mathlib.Omega.{arith}
 use Rattle.cancellation.proofs.SurveyLaws.{survey-start, survey-with, survey-skip, survey-done}
 use Rattle.cancellation.proofs.survey.survey.Goals as goal
+use Rattle.cancellation.proofs.survey.survey.Goals.{then-dated_in, else-dated_in}
 
 -- What was surveyed so far, together with the rows that are left, gives the whole.
 
@@ -20,10 +21,10 @@ loop-i-preserved c =
     let l = c.loop-i in
     let e = c.event_at-e in
     let d = sym c.dated_in.ensures in
-    ⊎_elim
-    (λ w. rw w.2 (survey-with l.invariant c.loop-i-test.true e.ensures.0 (d ∙ w.0.taken) w.1.ensures))
-    (λ w. rw w.1 (survey-skip l.invariant c.loop-i-test.true e.ensures.0 (d ∙ w.0.left)))
-    c.if-dated_in.branch
+    elim c.if-dated_in.branch [
+      then-dated_in w ↦ rw w.s-is (survey-with l.invariant c.loop-i-test.true e.ensures.0 (d ∙ w.if-dated_in.true) w.with-s.ensures)
+    | else-dated_in w ↦ rw w.s-is (survey-skip l.invariant c.loop-i-test.true e.ensures.0 (d ∙ w.if-dated_in.false))
+    ]
 
 pub returns : goal.returns
 returns c = survey-done c.loop-i.invariant c.loop-i-test.false

@@ -2,6 +2,7 @@ use mathlib.Core.Path.{refl}
 use Rattle.register.specs.Search.{probe_key}
 use Rattle.home_care.specs.Row.{row_bytes, key_bits}
 use Rattle.evaluation.proofs.FieldsInForce.{rows_inside, place_inside, kept-inside, kept-fields, own-fields}
+use borrow.Author.Rules.{rules}
 use Rattle.evaluation.proofs.in_force.put_fields.Goals as goal
 
 pub case_events-rows-requires : goal.case_events-rows-requires
@@ -10,6 +11,10 @@ case_events-rows-requires c = let r = rows_inside c.args.reg.now c.requires.0.so
 pub row_at-requires : goal.row_at-requires
 row_at-requires c =
     kept-inside c.args.reg.now (probe_key row_bytes key_bits c.args.probe.now) c.args.place c.requires.0 c.args.day _ _ c.case_events-rows.ensures c.latest.result c.latest.ensures _ c.in-At.is
+
+pub overflow_add-place : goal.overflow_add-place
+overflow_add-place c =
+    record { fits = let l = place_inside c.args.reg.now (probe_key row_bytes key_bits c.args.probe.now) c.args.place c.requires.0 in search rules }
 
 pub slice_bounds-read_fields-end : goal.slice_bounds-read_fields-end
 slice_bounds-read_fields-end c = place_inside c.args.reg.now (probe_key row_bytes key_bits c.args.probe.now) c.args.place c.requires.0

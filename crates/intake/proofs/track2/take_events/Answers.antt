@@ -1,8 +1,9 @@
+use Rattle.std.proofs.Common.{rules}
 use mathlib.Core.Path.{refl, sym, ◌∙◌}
 use native.Mathlib.Omega.{arith}
 use Rattle.rows.proofs.Bytes.{fit_of}
 use Rattle.judge.specs.View.{context_in}
-use Rattle.intake.proofs.RecordRead.{of-shape, key_fits, head-held}
+use Rattle.intake.proofs.RecordRead.{of-shape, asl-within, id-within, key_fits, head-held}
 use Rattle.intake.proofs.RecordTaken.{rows-within}
 use Rattle.intake.proofs.EventsTaken.{events-held, events-ways}
 use Rattle.intake.proofs.track2.take_events.Goals as goal
@@ -22,6 +23,12 @@ head-h-requires c = (c.requires.0, (2, c.requires.1.0, of-shape c.requires.1.1))
 
 pub events-said-requires : goal.events-said-requires
 events-said-requires c = (c.requires.0, (c.requires.1.0, of-shape c.requires.1.1))
+
+pub overflow_add-h : goal.overflow_add-h
+overflow_add-h c = omega (arith, asl-within c.args.s.now c.args.top c.head-h.result c.head-h.ensures.0 2 c.requires.1.0 c.requires.1.1)
+
+pub overflow_add-h-2 : goal.overflow_add-h-2
+overflow_add-h-2 c = omega (arith, id-within c.args.s.now c.args.top c.head-h.result c.head-h.ensures.0 2 c.requires.1.0 c.requires.1.1)
 
 pub pack_key-requires : goal.pack_key-requires
 pack_key-requires c =
@@ -59,7 +66,7 @@ slice_bounds-apply_events-end-then-answer-eq0-2 c =
 pub apply_events-requires : goal.apply_events-requires
 apply_events-requires c =
     let h = (events-held c.args.s.now c.args.top c.events-said.result _ c.events-said.new.out _ c.events-said.new.beside refl refl c.events-said.ensures c.requires.1.0 c.requires.1.1) in
-    (c.pack_key.kept.0, h.small, h.kept_small, h.alike)
+    (search rules, h.small, h.kept_small, h.alike)
 
 pub returns-then-answer-eq0 : goal.returns-then-answer-eq0
 returns-then-answer-eq0 c =
