@@ -1,5 +1,6 @@
-/* The calls of the SIAD intake (crates/exports), in C and C++. What each answers, and what every lent byte holds
-   afterwards, is stated and proved in crates/exports/src/lib.rt. `rt staticlib exports` makes the archive, for x86-64.
+/* The calls of the SIAD intake (crates/exports_c), in C and C++. What each answers, and what every lent byte holds
+   afterwards, is stated and proved in crates/exports_c/src/lib.rt. `rt lib` in crates/exports_c makes the archive, for
+   x86-64.
 
    Lent: a slice is a pointer and a length, which must be that of the buffer. Buffers of one call must not overlap, and
    nobody else may write to them while it runs. Pass no NULL: the proved code's references are never null. With length 0
