@@ -5,14 +5,14 @@
     tools/believed.py --check   fails if docs/STATEMENTS.md has another one
     tools/believed.py --write   puts it there
 
-It starts at the contracts of exports/src/lib.rt and follows the `use` lines from one file under specs/ to the next.
+It starts at the contracts of exports_c/src/lib.rt and follows the `use` lines from one file under specs/ to the next.
 """
 import os
 import re
 import sys
 
 ROOT = os.path.dirname(os.path.dirname(os.path.abspath(__file__)))
-USE = re.compile(r"^\s*(?:ghost )?(?:pub )?use Rattle·([a-z_0-9]+)(?:·specs)?\.specs\.([A-Za-z_0-9.]+?)(?:\.\{.*\})?(?: as \S+)?;?$", re.M)
+USE = re.compile(r"^\s*(?:ghost )?(?:pub )?use Rattle\.([a-z_0-9]+)\.specs\.([A-Za-z_0-9.]+?)(?:\.\{.*\})?(?: as \S+)?;?$", re.M)
 BEGIN, END = "<!-- believed: begin -->", "<!-- believed: end -->"
 WIDTH = 120  # of a line in docs/
 
@@ -34,7 +34,7 @@ def modules(path):
 
 
 def reached():
-    todo = list(modules(os.path.join(ROOT, "crates/exports/src/lib.rt")))
+    todo = list(modules(os.path.join(ROOT, "crates/exports_c/src/lib.rt")))
     seen = set()
     while todo:
         file = todo.pop()
@@ -50,7 +50,8 @@ def lines_of(file):
 
 
 def order():
-    return [l.split(":")[0] for l in read(os.path.join(ROOT, "crates.txt")).split("\n") if l and not l.startswith("#")]
+    """The crates, as crates.txt lists them: a name, for a static library one word more, a colon."""
+    return [l.split(":")[0].split()[0] for l in read(os.path.join(ROOT, "crates.txt")).split("\n") if l and not l.startswith("#")]
 
 
 def rows(first, words):

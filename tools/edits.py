@@ -25,7 +25,8 @@ def read(path):
 
 
 def order():
-    return [l.split(":")[0] for l in read(os.path.join(ROOT, "crates.txt")).split("\n") if l and not l.startswith("#")]
+    """The crates, as crates.txt lists them: a name, for a static library one word more, a colon."""
+    return [l.split(":")[0].split()[0] for l in read(os.path.join(ROOT, "crates.txt")).split("\n") if l and not l.startswith("#")]
 
 
 def edits():

@@ -5,7 +5,7 @@
     tools/tables.py --check    fail where a file of tables is not what is printed
     tools/tables.py --write    write the files of tables
 
-When a schema changes: edit crates/schemas/specs, run `tools/tables.py --write`, then `rt check schemas`. Its proof computes that each table is its schema, so
+When a schema changes: edit crates/schemas/specs, run `tools/tables.py --write`, then `rt check` in crates/schemas. Its proof computes that each table is its schema, so
 nothing rests on this script: a wrong table is refused. A schema more is a line in FILES below, and a branch where the code chooses a table
 (crates/schemas/src/shapes.rt). It needs Python 3 and nothing else, and runs from any folder.
 
@@ -18,6 +18,7 @@ What a cell means is said by crates/schema/specs/Table.antt. The order, by rules
 """
 import re
 import sys
+import textwrap
 from pathlib import Path
 
 CRATES = Path(__file__).resolve().parent.parent / "crates"
@@ -40,6 +41,8 @@ FILES = {
 # the kinds of a row; any above the last is a number of so many digits
 GROUP, ANOTHER, DATE, CHARS, SIGNED, PLAIN, WIDE = range(7)
 CELLS = 11
+
+WIDTH = 100  # of a line of code, as `rt fmt` lays it out
 
 
 # ---- the notation: definitions by clauses, applied to numbers, strings, lists and records; a clause is read when it is called
@@ -97,7 +100,7 @@ class Module:
         self.clauses, self.names, self.modules, self.values = {}, {}, {}, {}
         text = re.sub(r"^ *--.*\n", "", path.read_text(encoding="utf-8"), flags=re.M)
         for line in re.sub(r"\n +", " ", text).splitlines():
-            used = re.match(r"use Rattle·(\w+?)(?:·specs)?\.specs\.(\w+)(?:\.\{(.*)\})?(?: as (\w+))?$", line)
+            used = re.match(r"use Rattle\.(\w+)\.specs\.(\w+)(?:\.\{(.*)\})?(?: as (\w+))?$", line)
             if used:
                 crate, module, names, other = used.groups()
                 target = CRATES / crate / "specs" / (module + ".antt")
@@ -161,6 +164,13 @@ def fits(pattern, value, bound):
     return value[0] == pattern[0]
 
 
+def projected(value, fields):
+    """a record's field, and of that a field, and so on"""
+    for field in fields:
+        value = value[field]
+    return value
+
+
 class Reader:
     """reads an expression from left to right and computes it; the infix signs go to the right"""
 
@@ -203,9 +213,10 @@ class Reader:
         elif word == "record":
             value = self.fields()
         else:
-            value = self.bound[word] if word in self.bound else self.module.value(word)
+            first, *fields = word.split(".")
+            value = projected(self.bound[first], fields) if first in self.bound else self.module.value(word)
         while self.word().startswith("."):
-            value = value[self.take()[1:]]
+            value = projected(value, self.take().split(".")[1:])
         return value
 
     def fields(self):
@@ -325,9 +336,13 @@ def many_below(node):
     return len(node[1]["attrs"]) + len(children) + sum(many_below(child) for child in children)
 
 
-def array(name, kind, lines):
-    cells = [line for line in lines if not line.startswith("//")]
-    return f"pub const {name}: [{kind}; {len(cells)}] = [\n" + "".join(f"    {line}\n" for line in lines) + "];\n"
+def array(name, kind, many, lines):
+    return f"pub const {name}: [{kind}; {many}] = [\n" + "".join(f"    {line}\n" for line in lines) + "];\n"
+
+
+def cells_in(numbers):
+    """the lines that have an array's numbers, as `rt fmt` fills them"""
+    return textwrap.wrap(" ".join(f"{n}," for n in numbers), WIDTH - 4)
 
 
 def printed(top, texts, tables):
@@ -338,11 +353,12 @@ def printed(top, texts, tables):
     most = max(len(r) for _, r in rows)
     out = [top]
     out.append(f'// The names, one after the other.\npub const POOL: [u8; {len(pool)}] =\n    *b"{pool}";\n')
-    out.append("// The ranges' first and last numbers.\n" + array("RANGES", "u16", [f"{n}," for r in ranges for n in r]))
+    bounds = [n for r in ranges for n in r]
+    out.append("// The ranges' first and last numbers.\n" + array("RANGES", "u16", len(bounds), cells_in(bounds)))
     for name, r in rows:
         padded = r + [("none", [0] * CELLS)] * (most - len(r))
-        lines = [x for i, (note, cells) in enumerate(padded) for x in [f"// row {i}: {note}"] + [f"{c}," for c in cells]]
-        out.append(array(name, "u16", lines))
+        lines = [x for i, (note, cells) in enumerate(padded) for x in [f"// row {i}: {note}"] + cells_in(cells)]
+        out.append(array(name, "u16", CELLS * most, lines))
     return "\n".join(out)
 
 

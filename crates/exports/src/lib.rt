@@ -1,4 +1,4 @@
-// The calls for a host in C, one body each, over numbers and slices: no caller is trusted, and every lent byte is stated (host/siad.h declares them).
+// The calls for a host, one body each, over numbers and slices: no caller is trusted, and every lent byte is stated. Crate exports_c gives them to C.
 #![tactic(auto)]
 
 ghost use Rattle.std.specs.Prelude.{◌≡◌};
@@ -29,8 +29,7 @@ fn report_on(report: &mut [u64], numbers: &[u64])
 }
 
 // Takes a submission: its answer, and in the report the record number, the records, the accepted, the discarded and the place.
-#[unsafe(no_mangle)]
-pub extern "C" fn siad_submit(
+pub fn siad_submit(
     sub: &[u8],
     track: u64,
     year: u64,
@@ -54,16 +53,14 @@ pub extern "C" fn siad_submit(
 }
 
 // Empties a register: 0, or 3 under 4 bytes.
-#[unsafe(no_mangle)]
-pub extern "C" fn siad_empty(reg: &mut [u8]) -> u64
+pub fn siad_empty(reg: &mut [u8]) -> u64
     ensures { (result ≡ (emptied reg.old).answer) × (reg.new ≡ (emptied reg.old).register) }
 {
     register::emptying::empty(reg)
 }
 
 // 0 for a sound register, else 3.
-#[unsafe(no_mangle)]
-pub extern "C" fn siad_sound(reg: &[u8]) -> u64
+pub fn siad_sound(reg: &[u8]) -> u64
     ensures { result ≡ soundness reg.now }
 {
     if soundness::sound::is_sound(reg) {
@@ -81,8 +78,7 @@ fn told(place: &mut u64, at: u64, answer: u64) -> u64
 }
 
 // The place of a case's row: 0, or 3 for an unsound register, or 30 where a text isn't allowed or the case doesn't stand.
-#[unsafe(no_mangle)]
-pub extern "C" fn siad_find(
+pub fn siad_find(
     reg: &[u8],
     region: &[u8],
     asl: &[u8],
@@ -103,8 +99,7 @@ pub extern "C" fn siad_find(
 
 // Writes the file that cancels what a case has in a quarter: 0 with its length; or 1 for no such period, 3, 30 as finding answers, 31 where one of the events is
 // a Rivalutazione with conferma 2, 32 where there is none, 33 where the output is too short, and then the length is 0.
-#[unsafe(no_mangle)]
-pub extern "C" fn siad_cancel_file(
+pub fn siad_cancel_file(
     reg: &[u8],
     region: &[u8],
     asl: &[u8],
@@ -124,8 +119,7 @@ pub extern "C" fn siad_cancel_file(
 
 // The evaluation of a case in force on a day: 0 with six numbers and the prevalente's five characters; or 3 or 30, as finding answers, 30 also for a day that is
 // none or is before the taking in, and then zeros.
-#[unsafe(no_mangle)]
-pub extern "C" fn siad_evaluation(
+pub fn siad_evaluation(
     reg: &[u8],
     region: &[u8],
     asl: &[u8],
@@ -142,8 +136,7 @@ pub extern "C" fn siad_evaluation(
 }
 
 // A register in rows of 91 bytes converted into a new one: 0; or 3 for any other register, 33 where the new one is too short, and then no byte changes.
-#[unsafe(no_mangle)]
-pub extern "C" fn siad_convert(old: &[u8], new: &mut [u8]) -> u64
+pub fn siad_convert(old: &[u8], new: &mut [u8]) -> u64
     ensures { (result ≡ (converted old.now new.old).answer) × (new.new ≡ (converted old.now new.old).register) }
 {
     widening::convert::convert(old, new)

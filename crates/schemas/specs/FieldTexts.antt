@@ -1,5 +1,5 @@
--- The texts that a field may have: the schemas' simple types under their own names (SIAD 6.4, 4.5.2 and 4.6.2), as RULES.md narrows or widens them
--- (docs/SCHEMAS.md).
+-- The texts that a field may have: the schemas' simple types under their own names in snake case (SIAD 6.4, 4.5.2 and 4.6.2), as RULES.md narrows or widens
+-- them (docs/SCHEMAS.md).
 use Prim.Native.Char.{Char, code}
 use Rattle.std.specs.Prelude.{[], ◌∷◌}
 use Rattle.codes.specs.CodesAndCharacters.{◌to◌, only, digits, capitals, letters, alnums, id_chars, any_chars, transmissions, regions, residences, operators, suspensions, conclusions}
