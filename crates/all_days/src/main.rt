@@ -7,8 +7,7 @@ ghost use Rattle.days.specs.Table.{Firsts};
 
 use days::dates::Date;
 use days::quarters::Quarter;
-use libc::STDOUT_FILENO;
-use std::num::wrapping_add_u64;
+use std::io;
 
 #[derive(Clone, Copy)]
 struct Sum {
@@ -43,9 +42,11 @@ fn with_text(t: &[u32; 2400], sum: Sum, s: [u8; 10]) -> Sum
         return sum;
     };
     Sum {
-        dates: wrapping_add_u64(sum.dates, 1),
-        days: wrapping_add_u64(sum.days, day as u64),
-        years: wrapping_add_u64(sum.years, days::calendar::year_of(t, day) as u64),
+        dates: sum.dates.wrapping_add(1),
+        days: sum.days.wrapping_add(day as u64),
+        years: sum
+            .years
+            .wrapping_add(days::calendar::year_of(t, day) as u64),
     }
 }
 
@@ -57,52 +58,44 @@ fn of_year(t: &[u32; 2400], y: u32) -> Sum
         days: 0,
         years: 0,
     };
-    let mut i: u32 = 0;
-    while i < 462 {
+    for i in 0..462u32 {
         sum = with_text(t, sum, text(y, i / 33, i % 33));
-        i += 1;
     }
     sum
 }
 
-fn put(n: u64) {
-    io::write_all(STDOUT_FILENO, b" ");
-    io::print_decimal(STDOUT_FILENO, n);
+fn put(rt: &impl Print, n: u64) -> io::Result<()> {
+    print!(rt; " {n}")
 }
 
-fn quarter(y: u32, q: u64) {
+fn quarter(rt: &impl Print, y: u32, q: u64) -> io::Result<()> {
     match days::quarters::quarter_days(y as u64, q) {
         Quarter::Days { first, last } => {
-            put(first as u64);
-            put(last as u64);
+            put(rt, first as u64)?;
+            put(rt, last as u64)
         }
-        Quarter::Refused => {
-            io::write_all(STDOUT_FILENO, b" -");
-        }
+        Quarter::Refused => print!(rt; " -"),
     }
 }
 
-fn line(t: &[u32; 2400], y: u32)
+fn line(rt: &impl Print, t: &[u32; 2400], y: u32) -> io::Result<()>
     requires { Firsts t.now }
 {
-    io::print_decimal(STDOUT_FILENO, y as u64);
+    print!(rt; "{y}")?;
     let sum = of_year(t, y);
-    put(sum.dates);
-    put(sum.days);
-    put(sum.years);
-    let mut q: u64 = 0;
-    while q < 6 {
-        quarter(y, q);
-        q += 1;
+    put(rt, sum.dates)?;
+    put(rt, sum.days)?;
+    put(rt, sum.years)?;
+    for q in 0..6u64 {
+        quarter(rt, y, q)?;
     }
-    io::write_all(STDOUT_FILENO, b"\n");
+    println!(rt)
 }
 
-fn main() {
+fn main(rt: HostRuntime) -> io::Result<()> {
     let t = days::table::make();
-    let mut y: u32 = 1890;
-    while y < 2110 {
-        line(&t, y);
-        y += 1;
+    for y in 1890..2110u32 {
+        line(&rt, &t, y)?;
     }
+    Ok(())
 }

@@ -4,6 +4,9 @@ use crate::words::{number, size, word};
 use home_care::layout::ROW;
 use markup::bytes::{part, peek, same};
 use register::moving::put_row;
+use std::rt::Files;
+use std::{io, str};
+use streams::read_file;
 
 // What is lent to be written holds this before.
 const BEFORE: u8 = 77;
@@ -18,45 +21,47 @@ pub struct Held {
 }
 
 // The bytes of a file, into a lent buffer: how many.
-pub fn read(path: &[u8], buf: &mut [u8]) -> usize {
-    let fd = os::open_read(path);
-    if fd < 0 {
-        shown::put(b"missing\n");
-        return 0;
+pub fn read(rt: &(impl Files + Print), path: &[u8], buf: &mut [u8]) -> io::Result<usize> {
+    if let Ok(path) = str::from_utf8(path) {
+        if let Some(n) = read_file(rt, path, buf)? {
+            return Ok(n);
+        }
     }
-    let n = io::read_full(fd, buf);
-    libc::close(fd);
-    n
+    shown::put(rt, b"missing\n")?;
+    Ok(0)
 }
 
 // One byte from a place on.
 fn fill(buf: &mut [u8], from: usize, b: u8) {
-    let mut i = from;
-    while i < buf.len() {
+    for i in from..buf.len() {
         buf[i] = b;
-        i += 1;
     }
 }
 
 fn is_filled(s: &[u8], from: usize, b: u8) -> bool {
-    let mut i = from;
-    while i < s.len() {
+    for i in from..s.len() {
         if s[i] != b {
             return false;
         }
-        i += 1;
     }
     true
 }
 
 // The answer list has as many bytes as the script lends of the buffer. No number of the report is 0 before, so that the call must have said it.
-fn submit(sub: &[u8], track: u64, year: u64, quarter: u64, list: usize, reg: &mut [u8]) {
-    let mut buffer = io::buffer();
+fn submit(
+    rt: &impl Print,
+    sub: &[u8],
+    track: u64,
+    year: u64,
+    quarter: u64,
+    list: usize,
+    reg: &mut [u8],
+) -> io::Result<()> {
+    let mut buffer = [0u8; 4096];
     let answers: &mut [u8] = &mut buffer;
     let mut report = [77u64; 5];
     if answers.len() < list {
-        shown::put(b"no list so long\n");
-        return;
+        return shown::put(rt, b"no list so long\n");
     }
     let answer = exports::siad_submit(
         sub,
@@ -67,22 +72,27 @@ fn submit(sub: &[u8], track: u64, year: u64, quarter: u64, list: usize, reg: &mu
         &mut answers[..list],
         &mut report,
     );
-    shown::submitted(answer, &report, answers, reg);
+    shown::submitted(rt, answer, &report, answers, reg)
 }
 
 // The same, with so many of eight numbers as the report.
-fn submit_lending(sub: &[u8], line: &[u8], list: usize, reg: &mut [u8], lent: usize) {
-    let mut buffer = io::buffer();
+fn submit_lending(
+    rt: &impl Print,
+    sub: &[u8],
+    line: &[u8],
+    list: usize,
+    reg: &mut [u8],
+    lent: usize,
+) -> io::Result<()> {
+    let mut buffer = [0u8; 4096];
     let answers: &mut [u8] = &mut buffer;
     let mut eight = [77u64; 8];
     let numbers: &mut [u64] = &mut eight;
     if answers.len() < list {
-        shown::put(b"no list so long\n");
-        return;
+        return shown::put(rt, b"no list so long\n");
     }
     if numbers.len() < lent {
-        shown::put(b"no report so long\n");
-        return;
+        return shown::put(rt, b"no report so long\n");
     }
     let answer = exports::siad_submit(
         sub,
@@ -93,42 +103,62 @@ fn submit_lending(sub: &[u8], line: &[u8], list: usize, reg: &mut [u8], lent: us
         &mut answers[..list],
         &mut numbers[..lent],
     );
-    shown::reported(answer, numbers, reg);
+    shown::reported(rt, answer, numbers, reg)
 }
 
-fn submit_file(line: &[u8], list: usize, reg: &mut [u8], sub: &mut [u8]) {
-    let n = read(word(line, 4), sub);
+fn submit_file(
+    rt: &(impl Files + Print),
+    line: &[u8],
+    list: usize,
+    reg: &mut [u8],
+    sub: &mut [u8],
+) -> io::Result<()> {
+    let n = read(rt, word(line, 4), sub)?;
     submit(
+        rt,
         part(sub, 0, n),
         number(line, 1),
         number(line, 2),
         number(line, 3),
         list,
         reg,
-    );
+    )
 }
 
 // With blanks behind the file, up to so many bytes.
-fn submit_padded(line: &[u8], list: usize, reg: &mut [u8], sub: &mut [u8]) {
-    let n = read(word(line, 5), sub);
+fn submit_padded(
+    rt: &(impl Files + Print),
+    line: &[u8],
+    list: usize,
+    reg: &mut [u8],
+    sub: &mut [u8],
+) -> io::Result<()> {
+    let n = read(rt, word(line, 5), sub)?;
     fill(sub, n, b' ');
     submit(
+        rt,
         part(sub, 0, size(line, 1)),
         number(line, 2),
         number(line, 3),
         number(line, 4),
         list,
         reg,
-    );
+    )
 }
 
-fn report(line: &[u8], list: usize, reg: &mut [u8], sub: &mut [u8]) {
-    let n = read(word(line, 5), sub);
-    submit_lending(part(sub, 0, n), line, list, reg, size(line, 1));
+fn report(
+    rt: &(impl Files + Print),
+    line: &[u8],
+    list: usize,
+    reg: &mut [u8],
+    sub: &mut [u8],
+) -> io::Result<()> {
+    let n = read(rt, word(line, 5), sub)?;
+    submit_lending(rt, part(sub, 0, n), line, list, reg, size(line, 1))
 }
 
 // The case of the line's texts and this Id_Rec: answer and place.
-fn find(line: &[u8], id: &[u8], reg: &[u8]) {
+fn find(rt: &impl Print, line: &[u8], id: &[u8], reg: &[u8]) -> io::Result<()> {
     let mut place: u64 = 0;
     let answer = exports::siad_find(
         reg,
@@ -138,7 +168,7 @@ fn find(line: &[u8], id: &[u8], reg: &[u8]) {
         id,
         &mut place,
     );
-    shown::place(answer, place);
+    shown::place(rt, answer, place)
 }
 
 // An Id_Rec of one character is written for 88 of it.
@@ -146,14 +176,14 @@ fn in_full<'a>(id: &'a [u8], whole: &'a [u8]) -> &'a [u8] {
     if id.len() == 1 { whole } else { id }
 }
 
-fn find_case(line: &[u8], reg: &[u8]) {
+fn find_case(rt: &impl Print, line: &[u8], reg: &[u8]) -> io::Result<()> {
     let id = word(line, 4);
     let whole = [peek(id, 0); 88];
-    find(line, in_full(id, &whole), reg);
+    find(rt, line, in_full(id, &whole), reg)
 }
 
 // The evaluation of the line's case, with this Id_Rec, on its day: answer and fields.
-fn evaluation(line: &[u8], id: &[u8], reg: &[u8]) {
+fn evaluation(rt: &impl Print, line: &[u8], id: &[u8], reg: &[u8]) -> io::Result<()> {
     let mut fields = [BEFORE; 11];
     let answer = exports::siad_evaluation(
         reg,
@@ -164,17 +194,23 @@ fn evaluation(line: &[u8], id: &[u8], reg: &[u8]) {
         word(line, 5),
         &mut fields,
     );
-    shown::evaluation(answer, &fields);
+    shown::evaluation(rt, answer, &fields)
 }
 
-fn evaluation_of(line: &[u8], reg: &[u8]) {
+fn evaluation_of(rt: &impl Print, line: &[u8], reg: &[u8]) -> io::Result<()> {
     let id = word(line, 4);
     let whole = [peek(id, 0); 88];
-    evaluation(line, in_full(id, &whole), reg);
+    evaluation(rt, line, in_full(id, &whole), reg)
 }
 
 // A cancellation file of the line's texts and this Id_Rec, for its quarter: answer and length. The length isn't 0 before, so that the call must have said it.
-fn cancel(line: &[u8], id: &[u8], reg: &[u8], out: &mut [u8]) -> usize {
+fn cancel(
+    rt: &impl Print,
+    line: &[u8],
+    id: &[u8],
+    reg: &[u8],
+    out: &mut [u8],
+) -> io::Result<usize> {
     let mut length: u64 = 77;
     let answer = exports::siad_cancel_file(
         reg,
@@ -187,77 +223,93 @@ fn cancel(line: &[u8], id: &[u8], reg: &[u8], out: &mut [u8]) -> usize {
         out,
         &mut length,
     );
-    shown::length(answer, length);
-    length as usize
+    shown::length(rt, answer, length)?;
+    Ok(length as usize)
 }
 
 // The output is blank before.
-fn cancel_case(line: &[u8], reg: &[u8], out: &mut [u8]) -> usize {
+fn cancel_case(rt: &impl Print, line: &[u8], reg: &[u8], out: &mut [u8]) -> io::Result<usize> {
     fill(out, 0, b' ');
     let id = word(line, 5);
     let whole = [peek(id, 0); 88];
-    cancel(line, in_full(id, &whole), reg, out)
+    cancel(rt, line, in_full(id, &whole), reg, out)
 }
 
 // The output has as many bytes as the script lends of the buffer.
-fn write(line: &[u8], held: Held, reg: &[u8], out: &mut [u8]) -> Held {
+fn write(rt: &impl Print, line: &[u8], held: Held, reg: &[u8], out: &mut [u8]) -> io::Result<Held> {
     let output = size(line, 1);
     if out.len() < output {
-        shown::put(b"no output so long\n");
-        return held;
+        shown::put(rt, b"no output so long\n")?;
+        return Ok(held);
     }
-    let file = cancel_case(line, reg, &mut out[..output]);
-    Held {
+    let file = cancel_case(rt, line, reg, &mut out[..output])?;
+    Ok(Held {
         register: held.register,
         list: held.list,
         output,
         file,
-    }
+    })
 }
 
 // Whether the output that was lent is this file, and blank behind it as before.
-fn compare(path: &[u8], held: Held, sub: &mut [u8], out: &[u8]) {
-    let n = read(path, sub);
+fn compare(
+    rt: &(impl Files + Print),
+    path: &[u8],
+    held: Held,
+    sub: &mut [u8],
+    out: &[u8],
+) -> io::Result<()> {
+    let n = read(rt, path, sub)?;
     let written = (n == held.file) & same(part(sub, 0, n), part(out, 0, n));
     if written & is_filled(part(out, 0, held.output), n, b' ') {
-        shown::put(b"same\n");
+        shown::put(rt, b"same\n")
     } else {
-        shown::put(b"differs\n");
+        shown::put(rt, b"differs\n")
     }
 }
 
 // The calls, on the register that is lent.
-fn call(line: &[u8], held: Held, reg: &mut [u8], sub: &mut [u8], out: &[u8]) {
+fn call(
+    rt: &(impl Files + Print),
+    line: &[u8],
+    held: Held,
+    reg: &mut [u8],
+    sub: &mut [u8],
+    out: &[u8],
+) -> io::Result<()> {
     let name = word(line, 0);
     let list = held.list;
     if same(name, b"submit") {
-        submit_file(line, list, reg, sub);
+        submit_file(rt, line, list, reg, sub)
     } else if same(name, b"padded") {
-        submit_padded(line, list, reg, sub);
+        submit_padded(rt, line, list, reg, sub)
     } else if same(name, b"report") {
-        report(line, list, reg, sub);
+        report(rt, line, list, reg, sub)
     } else if same(name, b"undo") {
         submit(
+            rt,
             part(out, 0, held.file),
             2,
             number(line, 1),
             number(line, 2),
             list,
             reg,
-        );
+        )
     } else if same(name, b"text") {
-        compare(word(line, 1), held, sub, out);
+        compare(rt, word(line, 1), held, sub, out)
     } else if same(name, b"sound") {
-        shown::answer(exports::siad_sound(reg));
+        shown::answer(rt, exports::siad_sound(reg))
     } else if same(name, b"find") {
-        find_case(line, reg);
+        find_case(rt, line, reg)
     } else if same(name, b"evaluation") {
-        evaluation_of(line, reg);
+        evaluation_of(rt, line, reg)
     } else if same(name, b"empty") {
-        shown::answer(exports::siad_empty(reg));
-        shown::standing(reg);
+        shown::answer(rt, exports::siad_empty(reg))?;
+        shown::standing(rt, reg)
     } else if !same(name, b"#") {
-        shown::put(b"unknown\n");
+        shown::put(rt, b"unknown\n")
+    } else {
+        Ok(())
     }
 }
 
@@ -270,9 +322,9 @@ fn zeros(n: usize, reg: &mut [u8]) -> usize {
     reg.len()
 }
 
-fn load(path: &[u8], reg: &mut [u8]) -> usize {
+fn load(rt: &(impl Files + Print), path: &[u8], reg: &mut [u8]) -> io::Result<usize> {
     exports::siad_empty(reg);
-    read(path, reg)
+    read(rt, path, reg)
 }
 
 // The same with a register of so many bytes.
@@ -286,67 +338,80 @@ fn lending(held: Held, register: usize) -> Held {
 }
 
 // The register that is held into a new one: the answer, and how many bytes are held from then on. A new one that was refused must be as it was.
-fn convert_into(reg: &mut [u8], held: usize, new: &mut [u8]) -> usize {
+fn convert_into(rt: &impl Print, reg: &mut [u8], held: usize, new: &mut [u8]) -> io::Result<usize> {
     if reg.len() < held {
-        return held;
+        return Ok(held);
     }
     if reg.len() < new.len() {
-        shown::put(b"no register so long\n");
-        return held;
+        shown::put(rt, b"no register so long\n")?;
+        return Ok(held);
     }
     fill(new, 0, BEFORE);
     let answer = exports::siad_convert(&reg[..held], new);
     if answer != 0 {
-        shown::refused(answer, is_filled(new, 0, BEFORE));
-        return held;
+        shown::refused(rt, answer, is_filled(new, 0, BEFORE))?;
+        return Ok(held);
     }
-    shown::converted();
+    shown::converted(rt)?;
     exports::siad_empty(reg);
     put_row(reg, new);
-    new.len()
+    Ok(new.len())
 }
 
 // In so many bytes of the submission's buffer.
-fn convert(n: usize, held: Held, reg: &mut [u8], sub: &mut [u8]) -> Held {
+fn convert(
+    rt: &impl Print,
+    n: usize,
+    held: Held,
+    reg: &mut [u8],
+    sub: &mut [u8],
+) -> io::Result<Held> {
     if sub.len() < n {
-        shown::put(b"no register so long\n");
-        return held;
+        shown::put(rt, b"no register so long\n")?;
+        return Ok(held);
     }
-    let register = convert_into(reg, held.register, &mut sub[..n]);
-    lending(held, register)
+    let register = convert_into(rt, reg, held.register, &mut sub[..n])?;
+    Ok(lending(held, register))
 }
 
 // A line's command, and what is lent from then on.
-pub fn command(line: &[u8], held: Held, reg: &mut [u8], sub: &mut [u8], out: &mut [u8]) -> Held {
-    shown::echo(line);
+pub fn command(
+    rt: &(impl Files + Print),
+    line: &[u8],
+    held: Held,
+    reg: &mut [u8],
+    sub: &mut [u8],
+    out: &mut [u8],
+) -> io::Result<Held> {
+    shown::echo(rt, line)?;
     let name = word(line, 0);
     if same(name, b"rows") {
-        return lending(held, zeros(4 + ROW * size(line, 1), reg));
+        return Ok(lending(held, zeros(4 + ROW * size(line, 1), reg)));
     }
     if same(name, b"bytes") {
-        return lending(held, zeros(size(line, 1), reg));
+        return Ok(lending(held, zeros(size(line, 1), reg)));
     }
     if same(name, b"load") {
-        return lending(held, load(word(line, 1), reg));
+        return Ok(lending(held, load(rt, word(line, 1), reg)?));
     }
     if same(name, b"list") {
-        return Held {
+        return Ok(Held {
             register: held.register,
             list: size(line, 1),
             output: held.output,
             file: held.file,
-        };
+        });
     }
     if same(name, b"convert") {
-        return convert(size(line, 1), held, reg, sub);
+        return convert(rt, size(line, 1), held, reg, sub);
     }
     let n = held.register;
     if reg.len() < n {
-        return held;
+        return Ok(held);
     }
     if same(name, b"cancel") {
-        return write(line, held, &reg[..n], out);
+        return write(rt, line, held, &reg[..n], out);
     }
-    call(line, held, &mut reg[..n], sub, out);
-    held
+    call(rt, line, held, &mut reg[..n], sub, out)?;
+    Ok(held)
 }

@@ -22,10 +22,18 @@ mod words;
 use calls::Held;
 use markup::bytes::part;
 use shown::put;
+use std::rt::Files;
+use std::{env, io};
 use words::{next, past};
 
 // The lines of a script, one after the other, from a register of 4 bytes and the program's answer list.
-fn run(script: &[u8], reg: &mut [u8], sub: &mut [u8], out: &mut [u8]) {
+fn run(
+    rt: &(impl Files + Print),
+    script: &[u8],
+    reg: &mut [u8],
+    sub: &mut [u8],
+    out: &mut [u8],
+) -> io::Result<()> {
     exports::siad_empty(reg);
     let mut held = Held {
         register: 4,
@@ -36,30 +44,33 @@ fn run(script: &[u8], reg: &mut [u8], sub: &mut [u8], out: &mut [u8]) {
     let mut at = 0;
     while at < script.len() {
         let end = next(script, at, b'\n');
-        held = calls::command(part(script, at, end), held, reg, sub, out);
+        held = calls::command(rt, part(script, at, end), held, reg, sub, out)?;
         at = past(script, at, b'\n');
     }
+    Ok(())
 }
 
-fn one(i: usize, reg: &mut [u8; 400000], sub: &mut [u8; 1048577], out: &mut [u8; 423766]) {
-    let mut path = io::buffer();
-    let n = os::arg(i, &mut path);
-    put(&path[..n]);
-    put(b":\n");
-    let mut script = io::large_buffer();
-    let long = calls::read(&path[..n], &mut script);
-    run(part(&script, 0, long), reg, sub, out);
+fn one(
+    rt: &(impl Files + Print),
+    path: &str,
+    reg: &mut [u8; 400000],
+    sub: &mut [u8; 1048577],
+    out: &mut [u8; 423766],
+) -> io::Result<()> {
+    put(rt, path.as_bytes())?;
+    put(rt, b":\n")?;
+    let mut script = [0u8; 65536];
+    let long = calls::read(rt, path.as_bytes(), &mut script)?;
+    run(rt, part(&script, 0, long), reg, sub, out)
 }
 
 // The buffers are made once: a register of 4,096 rows of up to 97 bytes fits, the shortest submission that is too long, and the longest cancellation file.
-fn main() {
+fn main(rt: HostRuntime) -> io::Result<()> {
     let mut reg = [0u8; 400000];
     let mut sub = [0u8; 1048577];
     let mut out = [0u8; 423766];
-    let n = os::arg_count();
-    let mut i = 1;
-    while i < n {
-        one(i, &mut reg, &mut sub, &mut out);
-        i += 1;
+    for path in env::args(&rt)?.skip(1) {
+        one(&rt, path.as_str(), &mut reg, &mut sub, &mut out)?;
     }
+    Ok(())
 }

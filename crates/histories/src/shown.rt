@@ -1,17 +1,17 @@
 // What is printed. No contract can say what is written; the values are those of proved calls.
 ghost use Rattle.std.specs.Prelude.{◌<◌};
 
-use libc::STDOUT_FILENO;
+use std::io;
 
 // The largest prime below 2^56, so that 256 times a rest and a byte more fit 64 bits.
 const PRIME: u64 = 72057594037927931;
 
-pub fn put(text: &[u8]) {
-    io::write_all(STDOUT_FILENO, text);
+pub fn put(rt: &impl Print, text: &[u8]) -> io::Result<()> {
+    rt.write_all(text)
 }
 
-fn number(n: u64) {
-    io::print_decimal(STDOUT_FILENO, n);
+fn number(rt: &impl Print, n: u64) -> io::Result<()> {
+    print!(rt; "{n}")
 }
 
 fn wide(b: u8) -> u64
@@ -20,156 +20,156 @@ fn wide(b: u8) -> u64
     b as u64
 }
 
-pub fn echo(line: &[u8]) {
-    put(b"> ");
-    put(line);
-    put(b"\n");
+pub fn echo(rt: &impl Print, line: &[u8]) -> io::Result<()> {
+    put(rt, b"> ")?;
+    put(rt, line)?;
+    put(rt, b"\n")
 }
 
-pub fn answer(n: u64) {
-    put(b"answer ");
-    number(n);
-    put(b"\n");
+pub fn answer(rt: &impl Print, n: u64) -> io::Result<()> {
+    put(rt, b"answer ")?;
+    number(rt, n)?;
+    put(rt, b"\n")
 }
 
-fn answer_with(answer: u64, what: &[u8], n: u64) {
-    put(b"answer ");
-    number(answer);
-    put(what);
-    number(n);
-    put(b"\n");
+fn answer_with(rt: &impl Print, answer: u64, what: &[u8], n: u64) -> io::Result<()> {
+    put(rt, b"answer ")?;
+    number(rt, answer)?;
+    put(rt, what)?;
+    number(rt, n)?;
+    put(rt, b"\n")
 }
 
-pub fn place(answer: u64, at: u64) {
-    answer_with(answer, b" place ", at);
+pub fn place(rt: &impl Print, answer: u64, at: u64) -> io::Result<()> {
+    answer_with(rt, answer, b" place ", at)
 }
 
-pub fn length(answer: u64, n: u64) {
-    answer_with(answer, b" length ", n);
+pub fn length(rt: &impl Print, answer: u64, n: u64) -> io::Result<()> {
+    answer_with(rt, answer, b" length ", n)
 }
 
 // An answer and the eleven bytes of an evaluation.
-pub fn evaluation(answer: u64, fields: &[u8; 11]) {
-    put(b"evaluation ");
-    number(answer);
-    let mut i = 0;
-    while i < 11 {
-        put(b" ");
-        number(wide(fields[i]));
-        i += 1;
+pub fn evaluation(rt: &impl Print, answer: u64, fields: &[u8; 11]) -> io::Result<()> {
+    put(rt, b"evaluation ")?;
+    number(rt, answer)?;
+    for i in 0..11 {
+        put(rt, b" ")?;
+        number(rt, wide(fields[i]))?;
     }
-    put(b"\n");
+    put(rt, b"\n")
 }
 
-pub fn converted() {
-    put(b"convert 0\n");
+pub fn converted(rt: &impl Print) -> io::Result<()> {
+    put(rt, b"convert 0\n")
 }
 
 // A conversion that was refused: whether the new register stayed.
-pub fn refused(answer: u64, stayed: bool) {
-    put(b"convert ");
-    number(answer);
+pub fn refused(rt: &impl Print, answer: u64, stayed: bool) -> io::Result<()> {
+    put(rt, b"convert ")?;
+    number(rt, answer)?;
     if stayed {
-        put(b" same\n");
+        put(rt, b" same\n")
     } else {
-        put(b" differs\n");
+        put(rt, b" differs\n")
     }
 }
 
 // The register's bytes as one number, the first byte the most significant, by the prime: every byte counts, and its place too.
 fn sum(reg: &[u8]) -> u64 {
     let mut s: u64 = 0;
-    let mut i = 0;
-    while i < reg.len() {
-        s = (s * 256 + wide(reg[i])) % PRIME;
-        i += 1;
+    for b in reg {
+        s = (s * 256 + wide(*b)) % PRIME;
     }
     s
 }
 
 // Cases and events standing, as the program has it, and the sum over all bytes; a register under 4 bytes has no counts.
-pub fn standing(reg: &[u8]) {
+pub fn standing(rt: &impl Print, reg: &[u8]) -> io::Result<()> {
     if 4 <= reg.len() {
-        put(b"cases ");
-        number(wide(reg[0]) * 256 + wide(reg[1]));
-        put(b" events ");
-        number(wide(reg[2]) * 256 + wide(reg[3]));
-        put(b"\n");
+        put(rt, b"cases ")?;
+        number(rt, wide(reg[0]) * 256 + wide(reg[1]))?;
+        put(rt, b" events ")?;
+        number(rt, wide(reg[2]) * 256 + wide(reg[3]))?;
+        put(rt, b"\n")?;
     }
-    put(b"sum ");
-    number(sum(reg));
-    put(b"\n");
+    put(rt, b"sum ")?;
+    number(rt, sum(reg))?;
+    put(rt, b"\n")
 }
 
-fn file_line(answer: u64, report: &[u64; 5]) {
-    put(b"file ");
-    number(answer);
-    put(b" ");
-    number(report[0]);
-    put(b" records ");
-    number(report[1]);
-    put(b" accepted ");
-    number(report[2]);
-    put(b" discarded ");
-    number(report[3]);
-    put(b"\n");
+fn file_line(rt: &impl Print, answer: u64, report: &[u64; 5]) -> io::Result<()> {
+    put(rt, b"file ")?;
+    number(rt, answer)?;
+    put(rt, b" ")?;
+    number(rt, report[0])?;
+    put(rt, b" records ")?;
+    number(rt, report[1])?;
+    put(rt, b" accepted ")?;
+    number(rt, report[2])?;
+    put(rt, b" discarded ")?;
+    number(rt, report[3])?;
+    put(rt, b"\n")
 }
 
 // With 6 a place of 0 is one too; with another answer there is none, and one that was told would show.
-fn place_line(answer: u64, at: u64) {
+fn place_line(rt: &impl Print, answer: u64, at: u64) -> io::Result<()> {
     if (answer == 6) | (at != 0) {
-        put(b"place ");
-        number(at);
-        put(b"\n");
+        put(rt, b"place ")?;
+        number(rt, at)?;
+        put(rt, b"\n")?;
     }
+    Ok(())
 }
 
-fn record_line(record: u64, answer: u64) {
-    number(record);
-    put(b" ");
-    number(answer);
-    put(b"\n");
+fn record_line(rt: &impl Print, record: u64, answer: u64) -> io::Result<()> {
+    number(rt, record)?;
+    put(rt, b" ")?;
+    number(rt, answer)?;
+    put(rt, b"\n")
 }
 
 // Records are counted from 1.
-fn record_lines(answers: &[u8], records: u64) {
-    let mut i = 0;
-    while i < answers.len() {
-        if records <= (i as u64) {
-            return;
+fn record_lines(rt: &impl Print, answers: &[u8], records: u64) -> io::Result<()> {
+    for i in 0..answers.len() {
+        if records <= i as u64 {
+            return Ok(());
         }
-        let answer = wide(answers[i]);
-        i += 1;
-        record_line(i as u64, answer);
+        record_line(rt, i as u64 + 1, wide(answers[i]))?;
     }
+    Ok(())
 }
 
-fn next_number(n: u64) {
-    put(b" ");
-    number(n);
+fn next_number(rt: &impl Print, n: u64) -> io::Result<()> {
+    put(rt, b" ")?;
+    number(rt, n)
 }
 
-fn each(numbers: &[u64]) {
-    let mut i = 0;
-    while i < numbers.len() {
-        next_number(numbers[i]);
-        i += 1;
+fn each(rt: &impl Print, numbers: &[u64]) -> io::Result<()> {
+    for n in numbers {
+        next_number(rt, *n)?;
     }
+    Ok(())
 }
 
 // The answer, all the numbers, and what stands.
-pub fn reported(n: u64, numbers: &[u64], reg: &[u8]) {
-    answer(n);
-    put(b"report");
-    each(numbers);
-    put(b"\n");
-    standing(reg);
+pub fn reported(rt: &impl Print, n: u64, numbers: &[u64], reg: &[u8]) -> io::Result<()> {
+    answer(rt, n)?;
+    put(rt, b"report")?;
+    each(rt, numbers)?;
+    put(rt, b"\n")?;
+    standing(rt, reg)
 }
 
 // The lines that the program prints, with the place behind the first, and the sum.
-pub fn submitted(answer: u64, report: &[u64; 5], answers: &[u8], reg: &[u8]) {
-    file_line(answer, report);
-    place_line(answer, report[4]);
-    record_lines(answers, report[1]);
-    standing(reg);
+pub fn submitted(
+    rt: &impl Print,
+    answer: u64,
+    report: &[u64; 5],
+    answers: &[u8],
+    reg: &[u8],
+) -> io::Result<()> {
+    file_line(rt, answer, report)?;
+    place_line(rt, answer, report[4])?;
+    record_lines(rt, answers, report[1])?;
+    standing(rt, reg)
 }

@@ -1,36 +1,30 @@
 // Reads each file that its arguments name, and says whether it is in the markup.
 #![tactic(auto)]
 
-use libc::STDOUT_FILENO;
+use std::rt::Files;
+use std::{env, io};
+use streams::read_file;
 
-fn said(s: &[u8]) {
+fn said(rt: &impl Print, s: &[u8]) -> io::Result<()> {
     if markup::file::in_markup(s) {
-        io::write_all(STDOUT_FILENO, b": in the markup\n");
+        println!(rt; ": in the markup")
     } else {
-        io::write_all(STDOUT_FILENO, b": not\n");
+        println!(rt; ": not")
     }
 }
 
-fn one(i: usize) {
-    let mut path = io::buffer();
-    let n = os::arg(i, &mut path);
-    io::write_all(STDOUT_FILENO, &path[..n]);
-    let fd = os::open_read(&path[..n]);
-    if fd < 0 {
-        io::write_all(STDOUT_FILENO, b": missing\n");
-        return;
+fn one(rt: &(impl Files + Print), path: &str) -> io::Result<()> {
+    print!(rt; "{path}")?;
+    let mut text = [0u8; 65536];
+    match read_file(rt, path, &mut text)? {
+        Some(long) => said(rt, &text[..long]),
+        None => println!(rt; ": missing"),
     }
-    let mut text = io::large_buffer();
-    let long = io::read_full(fd, &mut text);
-    libc::close(fd);
-    said(&text[..long]);
 }
 
-fn main() {
-    let n = os::arg_count();
-    let mut i = 1;
-    while i < n {
-        one(i);
-        i += 1;
+fn main(rt: HostRuntime) -> io::Result<()> {
+    for path in env::args(&rt)?.skip(1) {
+        one(&rt, path.as_str())?;
     }
+    Ok(())
 }

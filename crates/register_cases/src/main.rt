@@ -5,75 +5,70 @@
 ghost use Rattle.std.specs.Prelude.{◌≤◌};
 
 use home_care::layout::{CASE_KEY, ROW};
-use libc::STDOUT_FILENO;
 use markup::bytes::part;
+use std::rt::Files;
+use std::{env, io};
+use streams::read_file;
 
-fn word(s: &[u8]) {
-    io::write_all(STDOUT_FILENO, s);
+fn word(rt: &impl Print, s: &str) -> io::Result<()> {
+    print!(rt; "{s}")
 }
 
-fn number(n: u64) {
-    word(b" ");
-    io::print_decimal(STDOUT_FILENO, n);
+fn number(rt: &impl Print, n: u64) -> io::Result<()> {
+    print!(rt; " {n}")
 }
 
-fn answer(s: &[u8], n: u64) {
-    word(s);
-    number(n);
-    word(b"\n");
+fn answer(rt: &impl Print, s: &str, n: u64) -> io::Result<()> {
+    word(rt, s)?;
+    number(rt, n)?;
+    word(rt, "\n")
 }
 
-fn yes(s: &[u8], b: bool) {
+fn yes(rt: &impl Print, s: &str, b: bool) -> io::Result<()> {
     if b {
-        answer(s, 1);
+        answer(rt, s, 1)
     } else {
-        answer(s, 0);
+        answer(rt, s, 0)
     }
 }
 
 // The case of region 010, ASL 101, 2018-05-01, Id_Rec of 88 letters A: answer and place.
-fn find(reg: &[u8]) {
+fn find(rt: &impl Print, reg: &[u8]) -> io::Result<()> {
     let id = [b'A'; 88];
     let mut place: u64 = 77;
     let r = exports::siad_find(reg, b"010", b"101", b"2018-05-01", &id, &mut place);
-    word(b"find");
-    number(r);
-    number(place);
-    word(b"\n");
+    word(rt, "find")?;
+    number(rt, r)?;
+    number(rt, place)?;
+    word(rt, "\n")
 }
 
-fn image(reg: &[u8]) {
-    word(b": sound");
-    number(exports::siad_sound(reg));
-    word(b" ");
-    find(reg);
+fn image(rt: &impl Print, reg: &[u8]) -> io::Result<()> {
+    word(rt, ": sound")?;
+    number(rt, exports::siad_sound(reg))?;
+    word(rt, " ")?;
+    find(rt, reg)
 }
 
-fn one(i: usize) {
-    let mut path = io::buffer();
-    let n = os::arg(i, &mut path);
-    word(&path[..n]);
-    let fd = os::open_read(&path[..n]);
-    if fd < 0 {
-        word(b": missing\n");
-        return;
+fn one(rt: &(impl Files + Print), path: &str) -> io::Result<()> {
+    word(rt, path)?;
+    let mut text = [0u8; 65536];
+    match read_file(rt, path, &mut text)? {
+        Some(long) => image(rt, &text[..long]),
+        None => word(rt, ": missing\n"),
     }
-    let mut text = io::large_buffer();
-    let long = io::read_full(fd, &mut text);
-    libc::close(fd);
-    image(&text[..long]);
 }
 
-fn sound(reg: &[u8]) {
-    answer(b"sound", exports::siad_sound(reg));
+fn sound(rt: &impl Print, reg: &[u8]) -> io::Result<()> {
+    answer(rt, "sound", exports::siad_sound(reg))
 }
 
-fn counts(reg: &[u8]) {
+fn counts(rt: &impl Print, reg: &[u8]) -> io::Result<()> {
     if reg.len() < 4 {
-        return;
+        return Ok(());
     }
-    answer(b"cases", register::counts::count(reg, 0) as u64);
-    answer(b"events", register::counts::count(reg, 2) as u64);
+    answer(rt, "cases", register::counts::count(reg, 0) as u64)?;
+    answer(rt, "events", register::counts::count(reg, 2) as u64)
 }
 
 // A submission of one record for the second quarter of 2018: whether the record is accepted.
@@ -95,21 +90,21 @@ fn none(reg: &[u8], at: usize) -> bool
 }
 
 // Any bytes, emptied: sound, and no case stands.
-fn begin(reg: &mut [u8]) {
-    answer(b"fresh, sound", exports::siad_sound(reg));
-    answer(b"empty", exports::siad_empty(reg));
-    sound(reg);
-    find(reg);
+fn begin(rt: &impl Print, reg: &mut [u8]) -> io::Result<()> {
+    answer(rt, "fresh, sound", exports::siad_sound(reg))?;
+    answer(rt, "empty", exports::siad_empty(reg))?;
+    sound(rt, reg)?;
+    find(rt, reg)
 }
 
 // Two submissions put in the case and the event.
-fn fill(reg: &mut [u8], case: &[u8], event: &[u8]) {
-    yes(b"put_case", submit(reg, 1, case));
-    sound(reg);
-    find(reg);
-    yes(b"put_event", submit(reg, 2, event));
-    sound(reg);
-    counts(reg);
+fn fill(rt: &impl Print, reg: &mut [u8], case: &[u8], event: &[u8]) -> io::Result<()> {
+    yes(rt, "put_case", submit(reg, 1, case))?;
+    sound(rt, reg)?;
+    find(rt, reg)?;
+    yes(rt, "put_event", submit(reg, 2, event))?;
+    sound(rt, reg)?;
+    counts(rt, reg)
 }
 
 fn remove(reg: &mut [u8], row: &[u8]) {
@@ -120,56 +115,53 @@ fn remove(reg: &mut [u8], row: &[u8]) {
 }
 
 // The case's row takes it out, and its event with it.
-fn clear(reg: &mut [u8], case: &[u8]) {
+fn clear(rt: &impl Print, reg: &mut [u8], case: &[u8]) -> io::Result<()> {
     remove(reg, case);
-    yes(b"drop_event", none(reg, 2));
-    yes(b"drop_case", none(reg, 0));
-    sound(reg);
-    yes(b"zero", home_care::texts::all_zero(reg));
+    yes(rt, "drop_event", none(reg, 2))?;
+    yes(rt, "drop_case", none(reg, 0))?;
+    sound(rt, reg)?;
+    yes(rt, "zero", home_care::texts::all_zero(reg))
 }
 
 // Room for three rows.
-fn story(put_case: &[u8], put_event: &[u8], case: &[u8]) {
+fn story(rt: &impl Print, put_case: &[u8], put_event: &[u8], case: &[u8]) -> io::Result<()> {
     let mut reg = [255u8; 292];
-    begin(&mut reg);
-    fill(&mut reg, put_case, put_event);
-    clear(&mut reg, case);
+    begin(rt, &mut reg)?;
+    fill(rt, &mut reg, put_case, put_event)?;
+    clear(rt, &mut reg, case)?;
     let mut short = [255u8; 3];
-    answer(b"three bytes, empty", exports::siad_empty(&mut short));
+    answer(rt, "three bytes, empty", exports::siad_empty(&mut short))
 }
 
 // The bytes of a file, into a lent buffer: how many.
-fn read(path: &[u8], buf: &mut [u8]) -> usize {
-    let fd = os::open_read(path);
-    if fd < 0 {
-        word(b"missing\n");
-        return 0;
+fn read(rt: &(impl Files + Print), path: &str, buf: &mut [u8]) -> io::Result<usize> {
+    match read_file(rt, path, buf)? {
+        Some(n) => Ok(n),
+        None => {
+            word(rt, "missing\n")?;
+            Ok(0)
+        }
     }
-    let n = io::read_full(fd, buf);
-    libc::close(fd);
-    n
 }
 
-fn from_files() {
-    let mut put_case = io::buffer();
-    let c = read(b"put_case", &mut put_case);
-    let mut put_event = io::buffer();
-    let e = read(b"put_event", &mut put_event);
-    let mut cases = io::buffer();
-    read(b"one_case", &mut cases);
+fn from_files(rt: &(impl Files + Print)) -> io::Result<()> {
+    let mut put_case = [0u8; 4096];
+    let c = read(rt, "put_case", &mut put_case)?;
+    let mut put_event = [0u8; 4096];
+    let e = read(rt, "put_event", &mut put_event)?;
+    let mut cases = [0u8; 4096];
+    read(rt, "one_case", &mut cases)?;
     story(
+        rt,
         part(&put_case, 0, c),
         part(&put_event, 0, e),
         part(&cases, 4, 100),
-    );
+    )
 }
 
-fn main() {
-    let n = os::arg_count();
-    let mut i = 1;
-    while i < n {
-        one(i);
-        i += 1;
+fn main(rt: HostRuntime) -> io::Result<()> {
+    for path in env::args(&rt)?.skip(1) {
+        one(&rt, path.as_str())?;
     }
-    from_files();
+    from_files(&rt)
 }

@@ -1,6 +1,8 @@
 // The program: standard input to standard output.
 #![tactic(auto)]
 
-fn main() {
-    console::run(0);
+use std::io;
+
+fn main(rt: HostRuntime) -> io::Result<()> {
+    console::run(&mut rt.reader(), &mut io::writer(&rt))
 }

@@ -13,6 +13,8 @@ use markup::{Cursor, Document, Move};
 use nodes::children::child;
 use nodes::{Node, Six, Span};
 use schema::file::ShapeAnswer;
+use std::io;
+use streams::read_full;
 use tracks::events::{EventsRead, events};
 use tracks::record::{AdmissionRead, HeadRead, admission, head, top_of};
 use tracks::shapes::shape_of;
@@ -24,40 +26,36 @@ pub enum First {
     Nothing,
 }
 
-fn line() {
-    io::write_all(1, b"\n");
+fn line(rt: &impl Print) -> io::Result<()> {
+    println!(rt)
 }
 
-fn show_number(n: u64) {
-    io::print_decimal(1, n);
-    line();
+fn show_number(rt: &impl Print, n: u64) -> io::Result<()> {
+    print!(rt; "{n}")?;
+    line(rt)
 }
 
-fn show_text(s: &[u8], a: usize, e: usize) {
-    io::write_all(1, part(s, a, e));
-    line();
+fn show_text(rt: &impl Print, s: &[u8], a: usize, e: usize) -> io::Result<()> {
+    rt.write_all(part(s, a, e))?;
+    line(rt)
 }
 
-fn show_span(s: &[u8], x: Span) {
-    show_text(s, x.start, x.end);
+fn show_span(rt: &impl Print, s: &[u8], x: Span) -> io::Result<()> {
+    show_text(rt, s, x.start, x.end)
 }
 
-fn show_flag(b: bool) {
+fn show_flag(rt: &impl Print, b: bool) -> io::Result<()> {
     if b {
-        show_number(1);
+        show_number(rt, 1)
     } else {
-        show_number(0);
+        show_number(rt, 0)
     }
 }
 
 // A number, and a blank or a line end.
-fn show_part(n: u64, last: bool) {
-    io::print_decimal(1, n);
-    if last {
-        line();
-    } else {
-        io::write_all(1, b" ");
-    }
+fn show_part(rt: &impl Print, n: u64, last: bool) -> io::Result<()> {
+    print!(rt; "{n}")?;
+    if last { line(rt) } else { print!(rt; " ") }
 }
 
 fn after(at: usize, n: usize) -> usize {
@@ -69,61 +67,67 @@ fn after(at: usize, n: usize) -> usize {
     at
 }
 
-fn show_head(s: &[u8], h: HeadRead) {
+fn show_head(rt: &impl Print, s: &[u8], h: HeadRead) -> io::Result<()> {
     let tipo = [h.tipo];
-    io::write_all(1, &tipo);
-    line();
-    show_number(h.region);
-    show_text(s, h.asl, after(h.asl, 3));
-    show_number(h.day);
-    show_text(s, h.id, after(h.id, 88));
+    rt.write_all(&tipo)?;
+    line(rt)?;
+    show_number(rt, h.region)?;
+    show_text(rt, s, h.asl, after(h.asl, 3))?;
+    show_number(rt, h.day)?;
+    show_text(rt, s, h.id, after(h.id, 88))
 }
 
 fn wide(b: u8) -> u64 {
     b as u64
 }
 
-fn show_scales(x: [u8; 6]) {
+fn show_scales(rt: &impl Print, x: [u8; 6]) -> io::Result<()> {
     for i in 0..6 {
-        show_part(wide(x[i]), false);
+        show_part(rt, wide(x[i]), false)?;
     }
-    line();
+    line(rt)
 }
 
-fn show_admission(s: &[u8], a: AdmissionRead) {
-    show_number(a.birth);
+fn show_admission(rt: &impl Print, s: &[u8], a: AdmissionRead) -> io::Result<()> {
+    show_number(rt, a.birth)?;
     let p = a.prevalente;
-    io::write_all(1, &p);
-    line();
+    rt.write_all(&p)?;
+    line(rt)?;
     let x = a.scales;
-    show_scales(x);
-    show_span(s, a.region);
-    show_span(s, a.asl);
-    show_span(s, a.comune);
-    show_span(s, a.stato);
+    show_scales(rt, x)?;
+    show_span(rt, s, a.region)?;
+    show_span(rt, s, a.asl)?;
+    show_span(rt, s, a.comune)?;
+    show_span(rt, s, a.stato)
 }
 
 // An event's fields, and the number of its evaluation.
-fn show_event(w: u64, evaluation: u64) {
-    show_part(kind_of(w), false);
-    show_part(date_of(w), false);
-    show_part(code_of(w), false);
-    show_part(end_of(w), false);
-    show_part(accesses_of(w), false);
-    show_part(conferma_of(w), false);
-    show_part(evaluation, true);
+fn show_event(rt: &impl Print, w: u64, evaluation: u64) -> io::Result<()> {
+    show_part(rt, kind_of(w), false)?;
+    show_part(rt, date_of(w), false)?;
+    show_part(rt, code_of(w), false)?;
+    show_part(rt, end_of(w), false)?;
+    show_part(rt, accesses_of(w), false)?;
+    show_part(rt, conferma_of(w), false)?;
+    show_part(rt, evaluation, true)
 }
 
-fn show_events(e: EventsRead, out: [u64; 128], beside: [u64; 128]) {
-    show_number(e.count as u64);
-    show_flag(e.bad_conferma);
-    show_flag(e.zero_prevalente);
+fn show_events(
+    rt: &impl Print,
+    e: EventsRead,
+    out: [u64; 128],
+    beside: [u64; 128],
+) -> io::Result<()> {
+    show_number(rt, e.count as u64)?;
+    show_flag(rt, e.bad_conferma)?;
+    show_flag(rt, e.zero_prevalente)?;
     let n = e.count;
     for i in 0..128 {
         if i < n {
-            show_event(out[i], beside[i]);
+            show_event(rt, out[i], beside[i])?;
         }
     }
+    Ok(())
 }
 
 // The first record of a file, where that file is in the markup and of a track's shape.
@@ -149,44 +153,44 @@ fn first_record(track: u64, s: &[u8]) -> First
     First::Record(top)
 }
 
-fn show_taken(t: &[u32; 2400], s: &[u8])
+fn show_taken(rt: &impl Print, t: &[u32; 2400], s: &[u8]) -> io::Result<()>
     requires { Firsts t.now }
 {
     let First::Record(top) = first_record(1, s) else {
-        return;
+        return Ok(());
     };
-    show_head(s, head(t, s, top));
-    show_admission(s, admission(s, top));
+    show_head(rt, s, head(t, s, top))?;
+    show_admission(rt, s, admission(s, top))
 }
 
-fn show_happened(t: &[u32; 2400], s: &[u8])
+fn show_happened(rt: &impl Print, t: &[u32; 2400], s: &[u8]) -> io::Result<()>
     requires { Firsts t.now }
 {
     let First::Record(top) = first_record(2, s) else {
-        return;
+        return Ok(());
     };
-    show_head(s, head(t, s, top));
+    show_head(rt, s, head(t, s, top))?;
     let mut out = [0u64; 128];
     let mut beside = [0u64; 128];
     let e = events(t, s, top, &mut out, &mut beside);
-    show_events(e, out, beside);
+    show_events(rt, e, out, beside)
 }
 
 // The two files, the second from the end of the first one's root.
-fn run(t: &[u32; 2400], s: &[u8])
+fn run(rt: &impl Print, t: &[u32; 2400], s: &[u8]) -> io::Result<()>
     requires { Firsts t.now }
 {
     let start = Cursor { at: 0 };
     let Move::To(end) = start.element(s, 12) else {
-        return;
+        return Ok(());
     };
-    show_taken(t, part(s, 0, end.at));
-    show_happened(t, part(s, end.at, s.len()));
+    show_taken(rt, t, part(s, 0, end.at))?;
+    show_happened(rt, t, part(s, end.at, s.len()))
 }
 
-fn main() {
+fn main(rt: HostRuntime) -> io::Result<()> {
     let t = days::table::make();
-    let mut buf = io::large_buffer();
-    let n = io::read_full(0, &mut buf);
-    run(&t, &buf[..n]);
+    let mut buf = [0u8; 65536];
+    let n = read_full(&mut rt.reader(), &mut buf)?;
+    run(&rt, &t, &buf[..n])
 }
