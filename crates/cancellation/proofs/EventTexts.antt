@@ -28,7 +28,7 @@ use Rattle.reading.proofs.Round.{pairs-append, print-append}
 use Rattle.home_care.specs.Row.{Event, never, event_bits, kind_of, date_of, code_of, end_of, accesses_of, conferma_of, event_in}
 use Rattle.home_care.specs.Allowed.{end_allowed, accesses_allowed, conferma_allowed, event_allowed}
 use Rattle.tracks.specs.EventElements.{Wording, rivalutazione, erogazione, sospensione, conclusione}
-use Rattle.cancellation.specs.FileText.{given, text_on, attributes_by, event_worded, wording_of, event_on}
+use Rattle.cancellation.specs.FileText.{given, text_on, attributes_by, event_worded, wording_of}
 use Rattle.cancellation.specs.View.{event_text}
 
 -- ---- parts one after the other

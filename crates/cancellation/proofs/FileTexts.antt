@@ -4,7 +4,6 @@ use mathlib.Core.Path.{◌≡◌, refl, sym, ap, ◌∙◌}
 use mathlib.Core.List.{List, [], ◌∷◌, ◌++◌, append_assoc}
 use Rattle.laws.specs.Lists.{bytes}
 use Rattle.markup.specs.Elements.Inside.{end}
-use Rattle.reading.specs.Print.{print_on}
 use Rattle.cancellation.specs.FileText.{CaseTexts, event_on, events_on, record_on, records_on, shares, file_text}
 use Rattle.cancellation.specs.View.{event_text, events_text, head_text, tail_text, records_text}
 use Rattle.cancellation.proofs.Printed.{print-before}

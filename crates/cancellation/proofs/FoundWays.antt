@@ -1,7 +1,7 @@
 -- Each way out of writing a cancellation file before the case's rows are read.
-use Prim.Native.Nat.{ℕ, ◌+◌, ◌-◌, ◌≤◌, ◌<◌}
+use Prim.Native.Nat.{ℕ, ◌+◌, ◌≤◌}
 use mathlib.Core.Path.{◌≡◌, refl, sym, ap, ◌∙◌}
-use mathlib.Core.Bool.{Bool, true, false, cond, not, ◌&&◌}
+use mathlib.Core.Bool.{Bool, true, false, cond, not}
 use mathlib.Core.List.{List, map}
 use native.Mathlib.Omega.{arith}
 use lib.ListN.{length}
@@ -11,7 +11,6 @@ use Rattle.days.specs.declared.quarters.Quarter.{Quarter}
 use Rattle.days.specs.declared.quarters.Quarter.TheVariants as quarters
 use Rattle.model.specs.Map.{Map}
 use Rattle.register.specs.Layout.{row_at, cases_held, events_held}
-use Rattle.register.proofs.States.{room-holds}
 use Rattle.home_care.specs.Row.{siad, event_number_in}
 use Rattle.soundness.specs.Sound.{is_sound}
 use Rattle.soundness.specs.Finding.{Found, texts_allowed, found}

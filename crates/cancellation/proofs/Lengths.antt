@@ -1,6 +1,6 @@
 -- How long a cancellation file is.
-use Prim.Native.Nat.{ℕ, zero, suc, ◌+◌, ◌-◌, ◌*◌, ◌/◌, ◌≤◌}
-use mathlib.Core.Path.{◌≡◌, refl, sym, ap, ap₂, ◌∙◌}
+use Prim.Native.Nat.{ℕ, zero, suc, ◌+◌, ◌*◌}
+use mathlib.Core.Path.{◌≡◌, refl, ap, ◌∙◌}
 use mathlib.Core.List.{List, [], ◌∷◌, ◌++◌}
 use native.Mathlib.Omega.{arith}
 use lib.ListN.{length, take, drop, length-append}
@@ -8,7 +8,7 @@ use lib.Seq.{take_all, take-add, drop-drop}
 use Rattle.laws.specs.Lists.{bytes}
 use Rattle.register.specs.State.{from}
 use Rattle.cancellation.specs.FileText.{CaseTexts, events_on, records_on, record_count, share_at, shares, file_text}
-use Rattle.cancellation.specs.View.{event_text, events_text, head_text, tail_text, records_text}
+use Rattle.cancellation.specs.View.{events_text, head_text, tail_text, records_text}
 use Rattle.cancellation.proofs.FileTexts.{events-append, one-record, records-append, file-parts}
 
 -- the events of some records, one after the other

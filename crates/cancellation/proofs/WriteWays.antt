@@ -6,12 +6,11 @@ use mathlib.Core.List.{List, ◌++◌}
 use native.Mathlib.Omega.{arith}
 use lib.ListN.{length, drop}
 use borrow.Author.Tests.{eq-eqb, ne_eqb, lt-ltb, le-ltb}
-use Rattle.laws.specs.Lists.{any}
 use Rattle.text.specs.Put.{Put}
 use Rattle.text.proofs.PutLaws.{put-starts}
 use Rattle.cancellation.specs.FileText.{CaseTexts, record_count, file_text}
-use Rattle.cancellation.specs.CancelFile.{Written, unwritten, file_written, of_chosen, CancelTold}
-use Rattle.cancellation.specs.View.{events_text, Surveyed}
+use Rattle.cancellation.specs.CancelFile.{Written, unwritten, of_chosen, CancelTold}
+use Rattle.cancellation.specs.View.{Surveyed}
 use Rattle.cancellation.specs.declared.survey.Extent.{Extent}
 use Rattle.cancellation.proofs.Lengths.{file-long}
 

@@ -3,18 +3,18 @@ use Prim.Native.Nat.{ℕ, zero, suc, ◌+◌, ◌-◌, ◌*◌, ◌/◌, ◌%◌
 use Prim.Native.Char.{code}
 use mathlib.Core.Path.{◌≡◌, refl, ap, ◌∙◌}
 use mathlib.Core.Bool.{Bool, true, false, cond, ◌&&◌}
-use mathlib.Core.List.{List, [], ◌∷◌}
+use mathlib.Core.List.{[], ◌∷◌}
 use native.Mathlib.Nat.{div-one}
 use native.Mathlib.Omega.{arith}
 use lib.Dec.{leb}
 use lib.ListN.{length}
 use borrow.Author.Tests.{leb-true, leb-false, le-leb}
-use Rattle.laws.specs.Decimal.{is_digit, decimal_after}
+use Rattle.laws.specs.Decimal.{decimal_after}
 use Rattle.laws.specs.Lists.{all}
 use Rattle.laws.proofs.Every.{and-tell}
 use Rattle.text.specs.Spelled.{digit}
 use Rattle.text.proofs.SpelledLaws.{digit-is}
-use Rattle.days.specs.DayNumbers.{month_length, month_of, length_of, first_of, day_number, real_day, day_count}
+use Rattle.days.specs.DayNumbers.{month_of, length_of, first_of, day_number, real_day, day_count}
 use Rattle.days.specs.Dates.{is_date, day_of}
 use Rattle.days.specs.WrittenDates.{months_to, month_in, date_spelled, date_text}
 use Rattle.days.proofs.Months.{first_next, first-mono, length-between, RealDay, is_real}

@@ -8,7 +8,7 @@ use mathlib.Core.Logic.{◌⊎◌, ⊎_elim, inl, inr}
 use native.Mathlib.Omega.{arith}
 use lib.Dec.{eqb, leb}
 use borrow.Author.Tests.{eqb-true, ne_eqb, leb-true, le-leb}
-use Rattle.laws.specs.Lists.{all, bytes}
+use Rattle.laws.specs.Lists.{all}
 use Rattle.laws.proofs.Truth.{and_left, and_right}
 use Rattle.laws.proofs.Lists.{all_map, all_join}
 use Rattle.markup.specs.Bytes.{in_file, is_name_start, is_name}

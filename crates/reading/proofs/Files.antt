@@ -7,7 +7,7 @@ use mathlib.Core.List.{List, [], ◌∷◌, ◌++◌, append_assoc}
 use native.Mathlib.Omega.{arith}
 use lib.Dec.{eqb}
 use lib.ListN.{length, take, drop, get_or, length-drop, take-append-drop}
-use Rattle.laws.specs.Lists.{all, same, bytes}
+use Rattle.laws.specs.Lists.{all, same}
 use Rattle.laws.specs.Loop.{Step, turns, loop}
 use Rattle.laws.specs.Loop.Step.{stop, next}
 use Rattle.laws.proofs.Fuel.{Shrinks, loop-next, loop-stop, by-steps}

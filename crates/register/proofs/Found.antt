@@ -13,7 +13,7 @@ use Rattle.model.specs.Flow.{State}
 use Rattle.model.proofs.MapPlace.{AllBelow, find-in, find-out}
 use Rattle.register.specs.Layout.{Layout, case_rest, event_rest, case_named, row_in}
 use Rattle.register.specs.State.{from, split_by, events_from}
-use Rattle.register.specs.Stored.{Laid, Stored, Group, cases, events, rows_of, key_part}
+use Rattle.register.specs.Stored.{Laid, Stored, Group, events, rows_of, key_part}
 use Rattle.register.specs.Search.{key_at, Rises, Placed, Ranged}
 use Rattle.register.proofs.From.{from_cut}
 use Rattle.register.proofs.MixedKeys.{by_front}

@@ -1,5 +1,5 @@
 -- Fields read where they stand, p bits above the end of a number: what reads so is the packing, and the packing reads so.
-use Prim.Native.Nat.{ℕ, zero, suc, ◌+◌, ◌-◌, ◌*◌, ◌/◌, ◌%◌, ◌^◌, ◌<◌}
+use Prim.Native.Nat.{ℕ, zero, suc, ◌+◌, ◌*◌, ◌/◌, ◌%◌, ◌^◌, ◌<◌}
 use mathlib.Core.Path.{◌≡◌, sym, ap, ap₂, ◌∙◌}
 use mathlib.Core.List.{List, [], ◌∷◌, ◌++◌}
 use native.Mathlib.Nat.{mod-eq_of_lt, mod-one, mul-one, add-zero, zero-add, zero-mul, add-mul, mul_assoc, add_assoc, add_comm}

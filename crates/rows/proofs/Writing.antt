@@ -1,12 +1,12 @@
 -- Writing one run of fields after another, and filling up with zero bits.
-use Prim.Native.Nat.{ℕ, ◌+◌, ◌-◌, ◌*◌, ◌/◌, ◌%◌, ◌^◌, ◌≤◌, ◌<◌}
+use Prim.Native.Nat.{ℕ, ◌+◌, ◌-◌, ◌*◌, ◌%◌, ◌^◌, ◌≤◌, ◌<◌}
 use mathlib.Core.Path.{◌≡◌, refl, sym, ap, ap₂, ◌∙◌}
 use mathlib.Core.List.{List, [], ◌∷◌, ◌++◌}
 use native.Mathlib.Nat.{add-zero, zero-add, mul-one, mul_assoc}
 use native.Mathlib.Omega.{arith}
 use lib.ListN.{length, take, drop}
 use lib.Seq.{take-take, drop-drop}
-use lib.Pow.{pow-add, pow_pos}
+use lib.Pow.{pow-add}
 use Rattle.rows.specs.Packing.{Field, bits, packs, width, num, row_number}
 use Rattle.rows.specs.Writer.{so_far, count, Tidy, Wrote, start}
 use Rattle.rows.specs.declared.writer.Bits.{Bits}

@@ -1,6 +1,5 @@
 -- A schema as a value (RULES.md, 2 The shape of a record; SIAD 6.4, 4.5.2 and 4.6.2).
 use Rattle.std.specs.Prelude.{ℕ, Bool, List}
-use Prim.Native.String as string
 use Rattle.schema.specs.Texts.{Texts}
 
 -- an attribute: its name, whether it is required, and its values

@@ -1,5 +1,5 @@
 -- What soundness means of the home-care register (RULES.md, 5 Sound means): some valid state has exactly these bytes.
-use Prim.Native.Nat.{ℕ, ◌-◌, ◌≤◌}
+use Prim.Native.Nat.{ℕ, ◌≤◌}
 use mathlib.Core.Path.{◌≡◌}
 use mathlib.Core.Logic.{◌↔◌}
 use mathlib.Core.Bool.{true}

@@ -19,7 +19,7 @@ use Rattle.days.specs.Dates.{year_text, month_text, day_text, has_date_form, is_
 use Rattle.days.proofs.Digits.{Left, left_end}
 use Rattle.markup.specs.Elements.{Tree, element}
 use Rattle.reading.proofs.Cut.{never}
-use Rattle.nodes.specs.Lookup.{missing, attr_of, has_attr, text_of}
+use Rattle.nodes.specs.Lookup.{attr_of, has_attr, text_of}
 use Rattle.nodes.specs.Stands.{Stands, lacks, stands}
 use Rattle.tracks.specs.EventElements.{value_at, stands_at}
 use Rattle.tracks.specs.Typed.{IsNumber}

@@ -10,7 +10,6 @@ use borrow.Author.Tests.{ne_eqb}
 use Rattle.laws.specs.Lists.{all, any, same, some_pair}
 use Rattle.codes.specs.CodesAndCharacters.{revaluation}
 use Rattle.model.specs.Map.{Map, has, keep, del_all, all_in, twice}
-use Rattle.model.specs.Checks.{first}
 use Rattle.model.specs.Flow.{State, machine}
 use Rattle.model.proofs.Lists.{not-all, any_same}
 use Rattle.model.proofs.MapLaws.{keep-true}
@@ -18,7 +17,7 @@ use Rattle.register.specs.RoomAndEmptying.{room}
 use Rattle.home_care.specs.Row.{siad, event_bits, event_in, event_row, kind_of, conferma_of, evaluates}
 use Rattle.home_care.specs.Allowed.{event_allowed}
 use Rattle.home_care.specs.Anomalies.{Context, bad_conferma, zero_written, t23}
-use Rattle.home_care.specs.Record.{events, event_numbers}
+use Rattle.home_care.specs.Record.{event_numbers}
 use Rattle.checks.specs.Flow.{event_rows}
 use Rattle.checks.specs.CheckOrder.{siad_machine}
 use Rattle.checks.specs.Readable.{KeyReadable, event_readable, kept_readable}

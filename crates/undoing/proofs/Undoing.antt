@@ -13,7 +13,7 @@ use Rattle.rows.specs.Packing.{each, Fit}
 use Rattle.home_care.specs.Row.{event_bits, event_in}
 use Rattle.home_care.specs.Allowed.{event_allowed}
 use Rattle.intake.specs.FileAnswers.{call_of, submitted}
-use Rattle.cancellation.specs.FileText.{CaseTexts, events_on, record_count, file_text}
+use Rattle.cancellation.specs.FileText.{CaseTexts, events_on, file_text}
 use Rattle.cancellation.specs.CancelFile.{cancel_file}
 use Rattle.cancellation.specs.View.{event_text, events_text}
 use Rattle.cancellation.proofs.EventTexts.{event-most}

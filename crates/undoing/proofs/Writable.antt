@@ -27,7 +27,7 @@ use Rattle.checks.proofs.Valid.{Sound, Parts, sound-state, parts-of, free-any, f
 use Rattle.days.specs.Quarters.{first_day, last_day}
 use Rattle.cancellation.specs.Chosen.{those, dated_in}
 use Rattle.cancellation.specs.FileText.{CaseTexts}
-use Rattle.cancellation.specs.CancelFile.{case_told, cancel_file}
+use Rattle.cancellation.specs.CancelFile.{case_told}
 use Rattle.undoing.specs.ReadBack.{bits_allowed, most_chosen, Writable}
 use Rattle.undoing.proofs.Those.{those-few, all-those, any-those, pair-those}
 use Rattle.undoing.proofs.ChosenRows.{picked-climbs}

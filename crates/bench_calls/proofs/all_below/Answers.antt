@@ -1,4 +1,3 @@
-use Prim.Native.Nat.{◌-◌}
 use mathlib.Core.Path.{refl}
 use lib.Dec.{ltb}
 use native.Mathlib.Omega.{arith}

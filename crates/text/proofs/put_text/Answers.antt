@@ -1,4 +1,3 @@
-use Prim.Native.Nat.{◌-◌}
 use Rattle.text.proofs.PutLaws.{put-none, put_next, put-done}
 use native.Mathlib.Omega.{arith}
 use Rattle.text.proofs.put_text.Goals as goal

@@ -1,6 +1,4 @@
-use Prim.Native.Nat.{◌-◌}
 use mathlib.Core.Path.{sym, ◌∙◌}
-use mathlib.Core.Logic.{⊎_elim}
 use Rattle.cancellation.proofs.EventsPut.{none-put, one-put, one_left, share-full, share-done}
 use Rattle.cancellation.proofs.records.put_events.Goals as goal
 use Rattle.cancellation.proofs.records.put_events.Goals.{then-dated_in, else-dated_in}
@@ -22,9 +20,9 @@ loop-row-preserved c =
     let e = c.event_at-e in
     let d = sym c.dated_in.ensures in
     elim c.if-dated_in.branch [
-      then-dated_in w ↦
+      | then-dated_in w ↦
           rw (w.out-is, w.next-is, w.n-is) (one-put l.invariant c.loop-row-test.true c.if-n-eq-MOST_EVENTS.false e.ensures.0 (d ∙ w.if-dated_in.true) w.put_event-next.ensures)
-    | else-dated_in w ↦ rw (w.out-is, w.next-is, w.n-is) (one_left l.invariant c.loop-row-test.true e.ensures.0 (d ∙ w.if-dated_in.false))
+      | else-dated_in w ↦ rw (w.out-is, w.next-is, w.n-is) (one_left l.invariant c.loop-row-test.true e.ensures.0 (d ∙ w.if-dated_in.false))
     ]
 
 pub shape_of-out : goal.shape_of-out

@@ -1,4 +1,3 @@
-use Prim.Native.Nat.{◌-◌}
 use Rattle.cancellation.proofs.RecordsPut.{no-records, one-recorded, all-recorded}
 use Rattle.cancellation.proofs.records.put_records.Goals as goal
 

@@ -1,6 +1,4 @@
-use Prim.Native.Nat.{◌-◌}
 use mathlib.Core.Path.{sym, ◌∙◌}
-use mathlib.Core.Logic.{⊎_elim}
 use native.Mathlib.Omega.{arith}
 use Rattle.cancellation.proofs.SurveyLaws.{survey-start, survey-with, survey-skip, survey-done}
 use Rattle.cancellation.proofs.survey.survey.Goals as goal
@@ -22,8 +20,8 @@ loop-i-preserved c =
     let e = c.event_at-e in
     let d = sym c.dated_in.ensures in
     elim c.if-dated_in.branch [
-      then-dated_in w ↦ rw w.s-is (survey-with l.invariant c.loop-i-test.true e.ensures.0 (d ∙ w.if-dated_in.true) w.with-s.ensures)
-    | else-dated_in w ↦ rw w.s-is (survey-skip l.invariant c.loop-i-test.true e.ensures.0 (d ∙ w.if-dated_in.false))
+      | then-dated_in w ↦ rw w.s-is (survey-with l.invariant c.loop-i-test.true e.ensures.0 (d ∙ w.if-dated_in.true) w.with-s.ensures)
+      | else-dated_in w ↦ rw w.s-is (survey-skip l.invariant c.loop-i-test.true e.ensures.0 (d ∙ w.if-dated_in.false))
     ]
 
 pub returns : goal.returns

@@ -1,4 +1,3 @@
-use Prim.Native.Nat.{◌-◌}
 use Rattle.codes.specs.CodesAndCharacters.{in_ranges, alnums}
 use Rattle.laws.proofs.Folding.{fold_step, fold_end}
 use native.Mathlib.Omega.{arith}

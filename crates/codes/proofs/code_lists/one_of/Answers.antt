@@ -1,4 +1,3 @@
-use Prim.Native.Nat.{◌-◌}
 use mathlib.Core.Path.{refl}
 use lib.Dec.{eqb}
 use Rattle.laws.proofs.Folding.{some-step, some_end}

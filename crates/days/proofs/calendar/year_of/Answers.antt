@@ -7,8 +7,8 @@ use Rattle.days.proofs.calendar.year_of.Goals.{then-k-gt199, else-k-gt199}
 pub loop-k-init : goal.loop-k-init
 loop-k-init c =
     elim c.if-k-gt199.branch [
-      then-k-gt199 w ↦ (omega arith, ap (λ (x : ℕ). years_to x c.args.day) (sym w.k-is))
-    | else-k-gt199 w ↦ (omega arith, search-start _ _ w.k-is (omega arith))
+      | then-k-gt199 w ↦ (omega arith, ap (λ (x : ℕ). years_to x c.args.day) (sym w.k-is))
+      | else-k-gt199 w ↦ (omega arith, search-start _ _ w.k-is (omega arith))
     ]
 
 pub returns-then-first-day : goal.returns-then-first-day

@@ -1,4 +1,3 @@
-use Prim.Native.Nat.{◌-◌}
 use native.Mathlib.Omega.{arith}
 use Rattle.days.proofs.WrittenDates.{search-month, search-up, search-down, search-ends}
 use Rattle.days.proofs.written.month_in.Goals as goal

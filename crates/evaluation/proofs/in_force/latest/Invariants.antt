@@ -1,4 +1,3 @@
-use Prim.Native.Nat.{◌-◌}
 use Rattle.evaluation.proofs.LatestRow.{Passed}
 use Rattle.evaluation.proofs.in_force.latest.Given as goal
 

@@ -1,5 +1,4 @@
 use Prim.Native.Nat.{◌≤◌, ◌<◌}
-use mathlib.Core.Bool.{true}
 use lib.ListN.{length}
 use native.Mathlib.Omega.{arith}
 use Rattle.reading.specs.Many.{below_root}
@@ -21,18 +20,27 @@ take_record-answer-requires c =
 
 pub bounds-answers-n : goal.bounds-answers-n
 bounds-answers-n c =
-    omega (arith, (let counts : (c.args.before.records < length c.args.answers.now) × (c.args.before.accepted ≤ c.args.before.records) = let k = c.requires.0.1 in
-    (next_fits c.args.track c.args.before c.requires.0.0 ((c.is_named.ensures below_root c.requires.0.0 k.tops.after k.tops.reads)) k (c.if-not-is_named.false), k.counts) in counts))
+    omega (
+      arith,
+      (let counts : (c.args.before.records < length c.args.answers.now) × (c.args.before.accepted ≤ c.args.before.records) = let k = c.requires.0.1 in
+          (next_fits c.args.track c.args.before c.requires.0.0 ((c.is_named.ensures below_root c.requires.0.0 k.tops.after k.tops.reads)) k (c.if-not-is_named.false), k.counts) in counts),
+    )
 
 pub overflow_add-result : goal.overflow_add-result
 overflow_add-result c =
-    omega (arith, (let counts : (c.args.before.records < length c.args.answers.now) × (c.args.before.accepted ≤ c.args.before.records) = let k = c.requires.0.1 in
-    (next_fits c.args.track c.args.before c.requires.0.0 ((c.is_named.ensures below_root c.requires.0.0 k.tops.after k.tops.reads)) k (c.if-not-is_named.false), k.counts) in counts))
+    omega (
+      arith,
+      (let counts : (c.args.before.records < length c.args.answers.now) × (c.args.before.accepted ≤ c.args.before.records) = let k = c.requires.0.1 in
+          (next_fits c.args.track c.args.before c.requires.0.0 ((c.is_named.ensures below_root c.requires.0.0 k.tops.after k.tops.reads)) k (c.if-not-is_named.false), k.counts) in counts),
+    )
 
 pub overflow_add-result-then-answer-eq0 : goal.overflow_add-result-then-answer-eq0
 overflow_add-result-then-answer-eq0 c =
-    omega (arith, (let counts : (c.args.before.records < length c.args.answers.now) × (c.args.before.accepted ≤ c.args.before.records) = let k = c.requires.0.1 in
-    (next_fits c.args.track c.args.before c.requires.0.0 ((c.is_named.ensures below_root c.requires.0.0 k.tops.after k.tops.reads)) k (c.if-not-is_named.false), k.counts) in counts))
+    omega (
+      arith,
+      (let counts : (c.args.before.records < length c.args.answers.now) × (c.args.before.accepted ≤ c.args.before.records) = let k = c.requires.0.1 in
+          (next_fits c.args.track c.args.before c.requires.0.0 ((c.is_named.ensures below_root c.requires.0.0 k.tops.after k.tops.reads)) k (c.if-not-is_named.false), k.counts) in counts),
+    )
 
 pub returns-then-answer-eq0 : goal.returns-then-answer-eq0
 returns-then-answer-eq0 c =
@@ -41,8 +49,11 @@ returns-then-answer-eq0 c =
 
 pub overflow_add-result-2 : goal.overflow_add-result-2
 overflow_add-result-2 c =
-    omega (arith, (let counts : (c.args.before.records < length c.args.answers.now) × (c.args.before.accepted ≤ c.args.before.records) = let k = c.requires.0.1 in
-    (next_fits c.args.track c.args.before c.requires.0.0 ((c.is_named.ensures below_root c.requires.0.0 k.tops.after k.tops.reads)) k (c.if-not-is_named.false), k.counts) in counts))
+    omega (
+      arith,
+      (let counts : (c.args.before.records < length c.args.answers.now) × (c.args.before.accepted ≤ c.args.before.records) = let k = c.requires.0.1 in
+          (next_fits c.args.track c.args.before c.requires.0.0 ((c.is_named.ensures below_root c.requires.0.0 k.tops.after k.tops.reads)) k (c.if-not-is_named.false), k.counts) in counts),
+    )
 
 pub returns : goal.returns
 returns c =

@@ -1,7 +1,5 @@
 use mathlib.Core.Path.{◌∙◌, sym}
-use mathlib.Core.Bool.{true}
 use lib.ListN.{length}
-use Rattle.soundness.specs.Sound.{is_sound}
 use Rattle.intake.specs.FileAnswers.{call_of}
 use Rattle.intake.proofs.Submitting.{no-period, a-period, context-is, says-1, says-2, says-3, says-4, says_on}
 use Rattle.intake.proofs.submit.submit.Goals as goal

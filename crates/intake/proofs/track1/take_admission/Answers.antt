@@ -61,12 +61,14 @@ slice_bounds-apply_case-end-then-answer-eq0-2 c =
     ) in sizes)).1
 
 pub apply_case-requires : goal.apply_case-requires
-apply_case-requires c =
-    (c.pack_key.auto.out, ((let m = c.admission-a in
-    case-ways c.args.s.now c.args.top m.result m.ensures c.requires.1.0 c.requires.1.1 c.head-h.result c.pack_key.new.out ((let h = c.head-h in
-    head-held c.args.s.now c.args.top h.result h.ensures.0 1 c.requires.1.0 c.requires.1.1 _ _ c.part-asl.ensures c.part-id.ensures c.pack_key.new.out c.pack_key.auto.out c.pack_key.ensures))
-    _ _ _ _ c.part.ensures c.part-2.ensures c.part-3.ensures c.part-4.ensures
-    c.args.reg.now (fit_of 8 c.args.reg.now (λ i. (c.slice_known-1.given i).fits)) c.requires.2 (context_in c.args.l) c.judge_admission-answer.result c.judge_admission-answer.ensures)).fits c.if-answer-eq0.true)
+apply_case-requires c = (
+  c.pack_key.auto.out,
+  ((let m = c.admission-a in
+      case-ways c.args.s.now c.args.top m.result m.ensures c.requires.1.0 c.requires.1.1 c.head-h.result c.pack_key.new.out ((let h = c.head-h in
+      head-held c.args.s.now c.args.top h.result h.ensures.0 1 c.requires.1.0 c.requires.1.1 _ _ c.part-asl.ensures c.part-id.ensures c.pack_key.new.out c.pack_key.auto.out c.pack_key.ensures))
+      _ _ _ _ c.part.ensures c.part-2.ensures c.part-3.ensures c.part-4.ensures
+      c.args.reg.now (fit_of 8 c.args.reg.now (λ i. (c.slice_known-1.given i).fits)) c.requires.2 (context_in c.args.l) c.judge_admission-answer.result c.judge_admission-answer.ensures)).fits c.if-answer-eq0.true,
+)
 
 pub returns-then-answer-eq0 : goal.returns-then-answer-eq0
 returns-then-answer-eq0 c =

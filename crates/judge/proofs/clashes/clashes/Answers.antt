@@ -1,6 +1,4 @@
-use Prim.Native.Nat.{◌-◌}
 use mathlib.Core.Path.{refl, ap, ◌∙◌}
-use mathlib.Core.Bool.{false}
 use lib.ListN.{drop, get_or, drop_of_length-le}
 use Rattle.laws.proofs.Places.{front}
 use Rattle.judge.specs.ByNumber.{clash}
@@ -34,8 +32,7 @@ loop-k-preserved c =
     (c.loop-k.invariant.0, miss _ _ (standing_in c.args.reg.now c.loop-k.k c.rivals-span.result.hi) c.loop-k.invariant.1 _ _ (next_row c.args.reg.now c.loop-k.k c.rivals-span.result.hi c.loop-k-test.true) _ (c.clash_standing.ensures ∙ ap (unreplaced (clash c.args.number) c.args.evs.now (get_or c.args.evs.now c.search.i 0)) c.event_at.ensures.0) c.if-clash_standing.false)
 
 pub search-preserved : goal.search-preserved
-search-preserved c =
-    (
+search-preserved c = (
   c.loop-k.invariant.0,
   λ settled. no_rival c.args.number c.args.evs.now c.args.reg.now c.args.lo c.args.hi c.search.i settled c.search-test.true _ (c.search.invariant.1 settled) _ _ c.rivals-span.ensures
       (past _ _ (drop c.loop-j.j c.args.evs.now) c.loop-j.invariant.1 (drop_of_length-le c.args.evs.now c.loop-j-test.false))

@@ -1,4 +1,3 @@
-use Prim.Native.Nat.{◌-◌}
 use lib.ListN.{drop, drop_of_length-le}
 use Rattle.laws.proofs.Places.{front}
 use Rattle.judge.proofs.Scan.{hit, miss, past}

@@ -1,7 +1,5 @@
-use Prim.Native.Nat.{◌-◌}
 use lib.ListN.{drop, drop_of_length-le}
 use Rattle.laws.proofs.Places.{front}
-use Rattle.judge.specs.ByNumber.{wrong}
 use Rattle.judge.proofs.Scan.{hit, miss, past}
 use Rattle.judge.proofs.event_dates.any_wrong.Goals as goal
 

@@ -1,5 +1,4 @@
 use Rattle.judge.proofs.OneEvent.{as-asked}
-use Prim.Native.Nat.{◌-◌}
 use mathlib.Core.Path.{refl}
 use lib.ListN.{drop, drop_of_length-le}
 use Rattle.laws.proofs.Places.{front}

@@ -1,10 +1,10 @@
-use Prim.Native.Nat.{ℕ, ◌<◌, ◌-◌}
+use Prim.Native.Nat.{◌-◌}
 use mathlib.Core.Path.{refl, ◌∙◌}
 use lib.ListN.{drop, length-drop}
 use native.Mathlib.Omega.{arith}
 use Rattle.laws.proofs.Reach.{reach-start}
 use Rattle.markup.specs.Elements.{content, element as element_of}
-use Rattle.markup.specs.View.{part, left}
+use Rattle.markup.specs.View.{part}
 use Rattle.markup.proofs.AtElements.{content-text, content-note, content-child, content-close, content-bad, content-no-child, element-none, element-bad, element-shut, element-open}
 use Rattle.markup.proofs.AtOwn.{tag-named}
 use Rattle.markup.proofs.Cursor.+element.Goals as goal

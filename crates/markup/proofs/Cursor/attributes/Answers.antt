@@ -1,9 +1,8 @@
-use Prim.Native.Nat.{◌-◌}
 use mathlib.Core.Path.{sym, ap, ◌∙◌}
 use lib.ListN.{length-drop}
 use native.Mathlib.Omega.{arith}
 use Rattle.laws.proofs.Reach.{reach-start, reach-next, reach-stop, reach-to}
-use Rattle.markup.specs.Tags.{attributes_step, attributes}
+use Rattle.markup.specs.Tags.{attributes}
 use Rattle.markup.specs.View.{ending_of, view_ending}
 use Rattle.markup.proofs.AtTags.{attributes-none, ending-before, ending-done, ok_ending-back}
 use Rattle.markup.proofs.Cursor.attributes.Goals as goal

@@ -1,9 +1,8 @@
-use Prim.Native.Nat.{◌-◌}
 use mathlib.Core.Path.{sym}
 use lib.ListN.{length-drop}
 use native.Mathlib.Omega.{arith}
 use Rattle.laws.proofs.Reach.{reach-start, reach-next, reach-stop}
-use Rattle.markup.specs.Document.{misc_step, misc}
+use Rattle.markup.specs.Document.{misc}
 use Rattle.markup.proofs.AtFile.{ok_past-back}
 use Rattle.markup.proofs.Cursor.misc.Goals as goal
 

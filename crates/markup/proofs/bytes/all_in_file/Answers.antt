@@ -1,4 +1,3 @@
-use Prim.Native.Nat.{◌-◌}
 use Rattle.laws.specs.Lists.{all}
 use Rattle.laws.proofs.Folding.{fold_step, fold_end}
 use Rattle.markup.specs.Bytes.{in_file}

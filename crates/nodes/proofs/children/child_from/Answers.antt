@@ -1,8 +1,6 @@
-use Prim.Native.Nat.{◌-◌}
 use mathlib.Core.Path.{◌∙◌, refl, sym}
 use native.Mathlib.Omega.{arith}
 use Rattle.markup.specs.Elements.{kids}
-use Rattle.markup.specs.NamesAndValues.{name}
 use Rattle.nodes.proofs.Naming.{first-hit, first-none, first_on}
 use Rattle.nodes.proofs.Walking.{look-gone, look-here, look-past, look-start, look-stuck}
 use Rattle.nodes.specs.Lookup.{first_named}

@@ -1,7 +1,6 @@
 use Prim.Native.Nat.{◌-◌, ◌≤◌}
 use lib.ListN.{drop, length}
 use Rattle.markup.specs.Elements.{Inside, kids}
-use Rattle.markup.specs.NamesAndValues.{name}
 use Rattle.markup.specs.View.{part}
 use Rattle.nodes.proofs.Walking.{Look}
 use Rattle.nodes.specs.Lookup.{first_named}

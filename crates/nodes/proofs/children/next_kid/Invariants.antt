@@ -2,7 +2,6 @@ use Prim.Native.Nat.{◌-◌, ◌≤◌, ℕ}
 use lib.ListN.{drop, length}
 use mathlib.Core.List.{List}
 use Rattle.markup.specs.Elements.{Inside, Tree, kids}
-use Rattle.markup.specs.NamesAndValues.{name}
 use Rattle.markup.specs.View.{part}
 use Rattle.nodes.proofs.Walking.{Look}
 use Rattle.nodes.specs.Stands.{Holds}

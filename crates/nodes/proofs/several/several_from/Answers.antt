@@ -1,7 +1,5 @@
-use Prim.Native.Nat.{◌-◌}
 use mathlib.Core.Path.{sym, ◌∙◌}
 use native.Mathlib.Omega.{arith}
-use Rattle.markup.specs.View.{part}
 use Rattle.nodes.proofs.Entering.{headed, head-name, not-headed}
 use Rattle.nodes.proofs.Seeking.{walk_start, walk-holds, walk-rest, walk-kid-rest, walk_end, walk-meet, walk-on, walk-stuck, all-met}
 use Rattle.nodes.proofs.several.several_from.Goals as goal

@@ -1,5 +1,3 @@
-use Prim.Native.Nat.{◌-◌}
-use Rattle.markup.specs.NamesAndValues.{value}
 use Rattle.markup.specs.View.{view_ending}
 use Rattle.nodes.proofs.Valuing.{of-done, of-next, valued-here, valued-none, valued-on}
 use Rattle.nodes.specs.Stands.{Valued}

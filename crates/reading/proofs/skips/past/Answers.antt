@@ -1,8 +1,7 @@
-use Prim.Native.Nat.{◌+◌, ◌-◌}
+use Prim.Native.Nat.{◌+◌}
 use mathlib.Core.Path.{refl, ap, ◌∙◌}
 use lib.ListN.{drop}
 use Rattle.laws.proofs.Places.{byte_inside}
-use Rattle.markup.specs.Bytes.{after}
 use Rattle.markup.specs.Classes.{class}
 use Rattle.markup.specs.NamesAndValues.{byte}
 use Rattle.markup.proofs.AtBytes.{run-after}

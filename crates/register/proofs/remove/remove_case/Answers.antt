@@ -1,6 +1,5 @@
 use Prim.Native.Nat.{◌+◌}
 use mathlib.Core.Path.{refl, sym, ◌∙◌}
-use mathlib.Core.Bool.{true}
 use Rattle.register.specs.TakenOutBytes.CaseDropDone.{misfit, absent, gone}
 use Rattle.register.proofs.Halving.{at_key}
 use Rattle.register.proofs.Keys.{stands-in}

@@ -1,7 +1,6 @@
 use Rattle.schema.proofs.Pairs.{attrs-start, attrs-end, attrs-no, attrs-pass}
 use Rattle.schema.specs.Shape.{attr_fits}
 use mathlib.Core.Path.{sym, ◌∙◌}
-use Prim.Native.Nat.{◌-◌}
 use Rattle.schema.proofs.attrs.all_attrs.Goals as goal
 
 pub loop-k-init : goal.loop-k-init

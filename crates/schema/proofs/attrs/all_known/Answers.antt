@@ -5,7 +5,6 @@ use Rattle.markup.specs.View.{view_ending}
 use Rattle.laws.specs.Lists.{all}
 use mathlib.Core.Bool.{true, false}
 use mathlib.Core.Path.{sym, ◌∙◌}
-use Prim.Native.Nat.{◌-◌}
 use native.Mathlib.Omega.{arith}
 use Rattle.schema.proofs.attrs.all_known.Goals as goal
 

@@ -4,7 +4,6 @@ use Rattle.markup.proofs.AtTags.{of-done, of-next}
 use Rattle.markup.specs.View.{view_ending}
 use mathlib.Core.Bool.{false}
 use mathlib.Core.Path.{sym, ◌∙◌}
-use Prim.Native.Nat.{◌-◌}
 use native.Mathlib.Omega.{arith}
 use Rattle.schema.proofs.attrs.attr_fits.Goals as goal
 

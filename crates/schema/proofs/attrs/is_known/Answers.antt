@@ -1,7 +1,6 @@
 use Rattle.schema.proofs.Pairs.{names-start, names-end, names-hit, names-pass}
 use Rattle.schema.specs.View.{takes}
 use mathlib.Core.Path.{sym, ◌∙◌}
-use Prim.Native.Nat.{◌-◌}
 use Rattle.schema.proofs.attrs.is_known.Goals as goal
 
 pub loop-k-init : goal.loop-k-init

@@ -1,6 +1,5 @@
 use Rattle.schema.proofs.Heads.{enough-end, enough-no, enough-on}
 use mathlib.Core.Path.{refl, sym, ◌∙◌}
-use Prim.Native.Nat.{◌-◌}
 use Rattle.schema.proofs.children.enough.Goals as goal
 
 pub loop-j-init : goal.loop-j-init

@@ -1,6 +1,5 @@
 use Rattle.schema.proofs.Heads.{seek-end, seek-here, seek-no, seek-on}
 use mathlib.Core.Path.{refl, sym, ◌∙◌}
-use Prim.Native.Nat.{◌-◌}
 use borrow.Author.Rules.{rules}
 use Rattle.schema.proofs.children.seek.Goals as goal
 

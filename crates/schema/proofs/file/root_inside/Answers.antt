@@ -1,4 +1,3 @@
-use Prim.Native.Nat.{◌-◌}
 use mathlib.Core.Path.{refl, sym, ap, ◌∙◌}
 use borrow.Author.Rules.{rules}
 use native.Mathlib.Omega.{arith}
@@ -8,7 +7,6 @@ use Rattle.schema.specs.Schema.{Nodes}
 use Rattle.schema.specs.Shape.{fault_in}
 use Rattle.schema.specs.Table.{schema_at}
 use Rattle.schema.specs.View.{held_after}
-use Rattle.schema.specs.declared.file.Seen.TheVariants as known
 use Rattle.schema.proofs.Heads.{nodes-start}
 use Rattle.schema.proofs.Group.{walk-past, walk-wrong, walk-on, walk-fault, walk-child}
 use Rattle.schema.proofs.Whole.{inside-bad, inside-good, held-quiet, further-on}

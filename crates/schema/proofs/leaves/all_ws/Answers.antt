@@ -1,7 +1,6 @@
 use Rattle.markup.specs.Bytes.{is_ws}
 use Rattle.laws.proofs.Places.{all-step, all_end}
 use mathlib.Core.Path.{sym, ◌∙◌}
-use Prim.Native.Nat.{◌-◌}
 use Rattle.schema.proofs.leaves.all_ws.Goals as goal
 
 pub returns-then-not-is_ws : goal.returns-then-not-is_ws

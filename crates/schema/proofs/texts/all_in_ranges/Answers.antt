@@ -1,8 +1,6 @@
-use Rattle.codes.specs.CodesAndCharacters.{in_ranges}
 use Rattle.laws.proofs.Places.{all-step, all_end}
 use mathlib.Core.Logic.{inl}
 use mathlib.Core.Path.{refl, sym, ◌∙◌}
-use Prim.Native.Nat.{◌-◌}
 use native.Mathlib.Omega.{arith}
 use Rattle.schema.proofs.texts.all_in_ranges.Goals as goal
 

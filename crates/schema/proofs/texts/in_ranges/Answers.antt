@@ -1,6 +1,5 @@
 use Rattle.schema.proofs.Ranges.{ranges-start, ranges-end, ranges-hit, ranges-pass}
 use mathlib.Core.Path.{sym, ◌∙◌}
-use Prim.Native.Nat.{◌-◌}
 use Rattle.schema.proofs.texts.in_ranges.Goals as goal
 
 pub loop-k-init : goal.loop-k-init

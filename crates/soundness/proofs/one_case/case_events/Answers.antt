@@ -1,4 +1,4 @@
-use Prim.Native.Nat.{◌+◌, ◌-◌}
+use Prim.Native.Nat.{◌+◌}
 use Rattle.soundness.proofs.CaseWalk.{row_number, taken_at_lem, walk_start, stands-within, walk_end, walk-bad, walk-on}
 use Rattle.soundness.proofs.Within.{rows_before, rows_few}
 use borrow.Author.Rules.{rules}

@@ -1,4 +1,4 @@
-use Prim.Native.Nat.{◌+◌, ◌-◌}
+use Prim.Native.Nat.{◌+◌}
 use Rattle.soundness.proofs.OnePass.{rest-start, case-not, run-bad, run_on, pass-done}
 use Rattle.soundness.proofs.Within.{rows_before}
 use native.Mathlib.Omega.{arith}

@@ -2,7 +2,6 @@ use Prim.Native.Nat.{◌-◌, ◌≤◌}
 use lib.ListN.{drop, length}
 use mathlib.Core.Path.{◌≡◌}
 use Rattle.markup.specs.Elements.{Inside, kids}
-use Rattle.markup.specs.NamesAndValues.{name}
 use Rattle.markup.specs.View.{part}
 use Rattle.nodes.proofs.Walking.{Look}
 use Rattle.nodes.specs.Stands.{Holds}
