@@ -4,9 +4,10 @@
 usage: python3 tools/respell.py [--list]      at the top of the repository
 
 Types, facts and modules keep their capitals; functions of src/, exported C names, strings, inputs and outputs keep their names.
-A name is turned only if an .antt file has it.
-In .rt files it is turned outside strings and comments; in comments and pages only where it is no name of the XML schemas, and there
-in .rt files and pages only between backticks. Names that would fall together with one that stands already are printed, and nothing is written.
+A name is turned only if an .antt file has it; `getD` becomes the library's `get_or`. In .rt and .edit files it is turned outside strings
+and comments; in their comments and in pages only between backticks, and there and in comments of .antt files only where it is no name of
+the XML schemas. Where two turned names fall together, they are printed and nothing is written. With --list the names are printed, also
+those whose new form some .antt file has already: a function or a parameter of another place, or a lemma to be renamed by hand.
 """
 
 import collections
@@ -49,7 +50,7 @@ def read(path):
 
 
 def code_of(text):
-    """The text without comments and strings."""
+    """The text without comments."""
     text = re.sub(r"--.*", "", text)
     return text
 

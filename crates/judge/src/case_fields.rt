@@ -30,7 +30,7 @@ fn is_italy(t: &[u8]) -> bool
 
 // 12: the residence abroad and the StatoEstero say the same.
 pub fn bad_residence(region: &[u8], asl: &[u8], comune: &[u8], stato: &[u8]) -> bool
-    ensures { result ≡ t12 (record { region = region.entry.now; asl = asl.now; comune = comune.now; stato = stato.now }) }
+    ensures { result ≡ t12 (record { region = region.now; asl = asl.now; comune = comune.now; stato = stato.now }) }
 {
     let a = same(region, b"999");
     let b = same(comune, b"999999");

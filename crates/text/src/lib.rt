@@ -4,7 +4,7 @@
 
 ghost use Rattle.std.specs.Prelude.{◌≡◌, [], ◌∷◌, ◌<◌, length, drop};
 ghost use Rattle.text.specs.Put.{Put};
-ghost use Rattle.text.specs.Spelled.{spelled, most_digits, digit as digitOf};
+ghost use Rattle.text.specs.Spelled.{spelled, most_digits, digit as digit_of};
 
 fn put_byte(out: &mut [u8], at: usize, b: u8) -> usize
     ensures { Put at (b ∷ []) out.old out.new result }
@@ -31,7 +31,7 @@ pub fn put_text(out: &mut [u8], at: usize, text: &[u8]) -> usize
 
 fn digit(n: u64) -> u8
     requires { n < 10 }
-    ensures { result ≡ digitOf n }
+    ensures { result ≡ digit_of n }
 {
     b'0' + n as u8
 }
