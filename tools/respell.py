@@ -8,6 +8,10 @@ A name is turned only if an .antt file has it; `getD` becomes the library's `get
 and comments; in their comments and in pages only between backticks, and there and in comments of .antt files only where it is no name of
 the XML schemas. Where two turned names fall together, they are printed and nothing is written. With --list the names are printed, also
 those whose new form some .antt file has already: a function or a parameter of another place, or a lemma to be renamed by hand.
+
+Lemmas, fields and constructors follow the list tools/respelled.tsv, old name and new: a dash stays between two names that stand in the
+statement, and a plain word is joined by `_`; where that would be the name of something else in one of the files, `_lem` is added. In the
+proofs of functions a step or a goal that the checker names (after `c.`, `w.`, `l.` or `goal.`) stays.
 """
 
 import collections
@@ -93,6 +97,39 @@ def in_antt(text, names):
     return "\n".join(out)
 
 
+def listed():
+    path = os.path.join(os.path.dirname(os.path.abspath(__file__)), "respelled.tsv")
+    return dict(line.split("\t") for line in read(path).split("\n") if line)
+
+
+DASHED = re.compile(r"(?<![\w'′₀-₉-])[a-z][\w'₀-₉]*(?:-[\w'₀-₉]+)+(?![\w'₀-₉-])")
+
+
+def relisted(text, names, is_proof=False):
+    """Renames whole dashed names; in a function's proof not those that the checker makes."""
+    def one(m):
+        before = text[max(0, m.start() - 40):m.start()]
+        if is_proof and re.search(r"(?<![\w)\]])(?:[cwl]|goal|l\.initial|l\.fn)\.$", before):
+            return m.group(0)
+        if is_proof and re.search(r"(?m)^pub $", before) and text.startswith(f"{m.group(0)} : goal.", m.start()):
+            return m.group(0)
+        return names.get(m.group(0), m.group(0))
+    return DASHED.sub(one, text)
+
+
+def relist(path, text, names):
+    if path.endswith(".antt"):
+        pieces = re.split(r'("(?:\\.|[^"\\\n])*")', text)
+        is_proof = re.search(r"/proofs/.+/(Answers|Invariants|Proof)\.antt$", path)
+        return "".join(p if p.startswith('"') else relisted(p, names, bool(is_proof)) for p in pieces)
+    if path.endswith(".md"):
+        return re.sub(r"`[^`\n]+`", lambda m: relisted(m.group(0), names), text)
+    out = []
+    for piece in re.split(r'(//[^\n]*|b?"(?:\\.|[^"\\])*")', text):
+        out.append(piece if re.match(r'//|b?"', piece) else relisted(piece, names))
+    return "".join(out)
+
+
 def parts_of(word):
     return [p for p in word.split("-") if p[:1].islower() and re.search(r"[a-z0-9][A-Z]", p) and "_" not in p]
 
@@ -123,11 +160,12 @@ def main():
         return
     if bad:
         raise SystemExit(2)
+    lemmas = listed()
     pages = [p for top in ("docs", "bench", "host") for p in files(top, ".md")] + ["README.md"]
     for path in [*files("crates", (".antt", ".rt", ".edit")), *pages]:
         text = read(path)
         turn = in_antt if path.endswith(".antt") else in_page if path.endswith(".md") else in_rt
-        new = turn(text, names)
+        new = relist(path, turn(text, names), lemmas)
         if new != text:
             with open(path, "w", encoding="utf8") as f:
                 f.write(new)

@@ -10,27 +10,27 @@ use Rattle.register.specs.State.{split_by}
 use Rattle.register.specs.Gap.{bytes_at}
 use Rattle.register.specs.Search.{key_at, Placed}
 use Rattle.register.specs.Stored.{events, key_part}
-use Rattle.register.proofs.GapRows.{key-moved}
-use Rattle.register.proofs.Places.{first-is}
+use Rattle.register.proofs.GapRows.{key_moved}
+use Rattle.register.proofs.Places.{first_is}
 use Rattle.home_care.specs.Row.{row_bytes, key_bits, event_key_bits, own_bits, siad, event_key_of}
 use Rattle.home_care.specs.EventRows.{event_at, event_key_at, Climbs, OwnPlaced}
-use Rattle.home_care.proofs.EventKeys.{own-lt, narrow}
-use Rattle.home_care.proofs.EventRows.{key-at-row}
+use Rattle.home_care.proofs.EventKeys.{own_lt, narrow}
+use Rattle.home_care.proofs.EventRows.{key_at_row}
 
 -- the key of the event in row p
 abbrev pub row_key : List ℕ → ℕ → ℕ
 row_key reg p = key_part events siad (key_at row_bytes event_key_bits reg p)
 
-pub key-parts : (reg : List ℕ) (p : ℕ) → (row_key reg p ≡ key_at row_bytes key_bits reg p * 2 ^ own_bits + event_key_at reg p) × (event_key_at reg p < 2 ^ own_bits)
-key-parts reg p =
-    (ap (key_part events siad) (first-is events siad reg p) ∙ key-at-row reg p, own-lt (event_at reg p) (narrow row_bytes (split_by siad.spare (event_rest siad) (row_in siad reg p))))
+pub key_parts : (reg : List ℕ) (p : ℕ) → (row_key reg p ≡ key_at row_bytes key_bits reg p * 2 ^ own_bits + event_key_at reg p) × (event_key_at reg p < 2 ^ own_bits)
+key_parts reg p =
+    (ap (key_part events siad) (first_is events siad reg p) ∙ key_at_row reg p, own_lt (event_at reg p) (narrow row_bytes (split_by siad.spare (event_rest siad) (row_in siad reg p))))
 
 -- an equal row has an equal key
 pub row_same : (p q : ℕ) (a b : List ℕ) → bytes_at row_bytes a p ≡ bytes_at row_bytes b q → row_key a p ≡ row_key b q
-row_same p q a b e = ap (key_part events siad) (key-moved row_bytes event_key_bits p q a b e)
+row_same p q a b e = ap (key_part events siad) (key_moved row_bytes event_key_bits p q a b e)
 
-pub from-or-before : (i p : ℕ) → (i ≤ p) ⊎ (p < i)
-from-or-before i p = go (tri p i)
+pub from_or_before : (i p : ℕ) → (i ≤ p) ⊎ (p < i)
+from_or_before i p = go (tri p i)
   where
     go : Tri p i → (i ≤ p) ⊎ (p < i)
     go (below l a b) = inr l
@@ -47,24 +47,24 @@ module _ (k e : ℕ) (a b : List ℕ) (c lo t m r : ℕ) (up : Ascends a c m) (l
     (same : (p : ℕ) → p < t → bytes_at row_bytes b p ≡ bytes_at row_bytes a p) (early : (p : ℕ) → c ≤ p → p < lo → row_key a p < k * 2 ^ own_bits + event_key_of e)
     (inside : (p : ℕ) → lo ≤ p → p < t → key_at row_bytes key_bits a p ≡ k) (late : (p : ℕ) → t ≤ p → p < m → k * 2 ^ own_bits + event_key_of e ≤ row_key a p)
     (pl : OwnPlaced b e lo t r) where
-  key-is : (p : ℕ) → lo ≤ p → p < t → row_key a p ≡ k * 2 ^ own_bits + event_key_at b p
-  key-is p h l =
+  key_is : (p : ℕ) → lo ≤ p → p < t → row_key a p ≡ k * 2 ^ own_bits + event_key_at b p
+  key_is p h l =
       let s = row_same p p b a (same p l) in
-      let d = (key-parts b p).0 in
-      let i = key-moved row_bytes key_bits p p b a (same p l) ∙ inside p h l in
+      let d = (key_parts b p).0 in
+      let i = key_moved row_bytes key_bits p p b a (same p l) ∙ inside p h l in
       omega arith
 
-  own-climbs : Climbs b lo t
-  own-climbs x y h l u =
-      let z = up x y (omega arith) l (omega arith) in let kx = key-is x h (omega arith) in let ky = key-is y (omega arith) u in omega arith
+  own_climbs : Climbs b lo t
+  own_climbs x y h l u =
+      let z = up x y (omega arith) l (omega arith) in let kx = key_is x h (omega arith) in let ky = key_is y (omega arith) u in omega arith
 
-  pub whole-placed : Placed (row_key a) (k * 2 ^ own_bits + event_key_of e) c m r
-  whole-placed =
+  pub whole_placed : Placed (row_key a) (k * 2 ^ own_bits + event_key_of e) c m r
+  whole_placed =
       record {
         low = omega (arith, pl.low);
         high = omega (arith, pl.high);
         under = λ z p x y.
-            ⊎_elim (λ w. let u = pl.under own-climbs p w y in let i = key-is p w (omega (arith, pl.high)) in omega arith) (λ w. early p x w) (from-or-before lo p);
+            ⊎_elim (λ w. let u = pl.under own_climbs p w y in let i = key_is p w (omega (arith, pl.high)) in omega arith) (λ w. early p x w) (from_or_before lo p);
         over = λ z p x y.
-            ⊎_elim (λ w. late p w y) (λ w. let u = pl.over own-climbs p x w in let i = key-is p (omega (arith, pl.low)) w in omega arith) (from-or-before t p);
+            ⊎_elim (λ w. late p w y) (λ w. let u = pl.over own_climbs p x w in let i = key_is p (omega (arith, pl.low)) w in omega arith) (from_or_before t p);
       }

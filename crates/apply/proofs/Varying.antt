@@ -12,25 +12,25 @@ use Rattle.laws.proofs.Order.{Tri, below, equal, above, tri}
 use Rattle.laws.proofs.Truth.{and_left, and_right}
 use Rattle.model.specs.Map.{Row, Map, is_some, find, has, put, Asc, put_all, all_in}
 use Rattle.model.specs.Flow.{State}
-use Rattle.model.proofs.MapLaws.{find-below, has-put, asc-put_all}
-use Rattle.model.proofs.MapSizes.{size-vary}
+use Rattle.model.proofs.MapLaws.{find_below, has-put, asc_put_all}
+use Rattle.model.proofs.MapSizes.{size_vary}
 use Rattle.register.specs.Layout.{cases_held, events_held}
 use Rattle.register.specs.Moves.{replaced}
 use Rattle.register.specs.Search.{key_at, Rises, Ranged}
 use Rattle.register.specs.Stored.{Stored, events, with_rows}
-use Rattle.register.proofs.Found.{cases-rise}
-use Rattle.register.proofs.Places.{key-at}
-use Rattle.register.proofs.States.{stored-few, stored-end}
-use Rattle.register.proofs.Stores.{room-denied}
+use Rattle.register.proofs.Found.{cases_rise}
+use Rattle.register.proofs.Places.{key_at_lem}
+use Rattle.register.proofs.States.{stored_few, stored_end}
+use Rattle.register.proofs.Stores.{room_denied}
 use Rattle.home_care.specs.Row.{key_bits, event_bits, evaluation_bits, siad, event_row, row_bytes}
 use Rattle.home_care.specs.Record.{Said}
 use Rattle.home_care.specs.EventRows.{OwnPlaced}
-use Rattle.home_care.proofs.Laid.{laid-siad}
+use Rattle.home_care.proofs.Laid.{laid_siad}
 use Rattle.apply.specs.RowBytes.{event_bytes}
 use Rattle.apply.specs.Events.{rows_for, ListedIn, AllOver}
-use Rattle.apply.proofs.RowsPacked.{Rows, said-rows}
+use Rattle.apply.proofs.RowsPacked.{Rows, said_rows}
 use Rattle.apply.proofs.Filling.{standing}
-use Rattle.apply.proofs.OwnKey.{row_key, key-parts}
+use Rattle.apply.proofs.OwnKey.{row_key, key_parts}
 use Rattle.apply.proofs.Spot.{found, written_over}
 use Rattle.register.specs.RoomAndEmptying.{most_rows}
 
@@ -44,24 +44,24 @@ key-put b r (x ∷ m) p d e h = go (tri r.key x.key) p (λ q g. key-put (suc x.k
   where
     go : Tri r.key x.key → (p : ℕ) → ((q : ℕ) → has r.key m ≡ true → (get_or (put r m) q d).key ≡ (get_or m q d).key) →
         (get_or (put r (x ∷ m)) p d).key ≡ (get_or (x ∷ m) p d).key
-    go (below l a c) p ih = absurd (false≢true (sym (ap is_some (find-below r.key x.key (x ∷ m) l (omega arith, h.1))) ∙ e))
+    go (below l a c) p ih = absurd (false≢true (sym (ap is_some (find_below r.key x.key (x ∷ m) l (omega arith, h.1))) ∙ e))
     go (equal l a c) zero ih = simp (a, c) l
     go (equal l a c) (suc p) ih = simp (a, c)
     go (above l a c) zero ih = simp (a, c)
     go (above l a c) (suc p) ih = simp (a, c) (ih p (simp c at e))
 
 -- what stands goes on standing
-still-has : (k : ℕ) (rs m : Map ℕ) → has k m ≡ true → has k (put_all rs m) ≡ true
+still_has : (k : ℕ) (rs m : Map ℕ) → has k m ≡ true → has k (put_all rs m) ≡ true
 unfolding put_all
-still-has k [] m h = h
-still-has k (r ∷ rs) m h = has-put k r (put_all rs m) (still-has k rs m h)
+still_has k [] m h = h
+still_has k (r ∷ rs) m h = has-put k r (put_all rs m) (still_has k rs m h)
 
 -- all rows
 key-put_all : (rs m : Map ℕ) (p : ℕ) (d : Row ℕ) → all_in rs m ≡ true → Asc 0 m → (get_or (put_all rs m) p d).key ≡ (get_or m p d).key
 unfolding put_all all_in all
 key-put_all [] m p d a h = refl
 key-put_all (r ∷ rs) m p d a h =
-    key-put 0 r (put_all rs m) p d (still-has r.key rs m (and_left (has r.key m) (all_in rs m) a)) (asc-put_all rs m h)
+    key-put 0 r (put_all rs m) p d (still_has r.key rs m (and_left (has r.key m) (all_in rs m) a)) (asc_put_all rs m h)
     ∙ key-put_all rs m p d (and_right (has r.key m) (all_in rs m) a) h
 
 -- ---- the events from a place on
@@ -88,21 +88,21 @@ module _ (k : ℕ) (evs kept a : List ℕ) where
   pub none_yet : OverFrom k evs kept (length evs) a a
   unfolding put_all
   none_yet es l s st al =
-      let h : length (rows_for k es) ≤ length evs = omega (arith, (said-rows k evs kept es l.numbers l.beside).many) in
+      let h : length (rows_for k es) ≤ length evs = omega (arith, (said_rows k evs kept es l.numbers l.beside).many) in
       subst (λ (rs : Map ℕ). Stored siad a (with_rows events (put_all rs s.events) s)) (sym (drop_of_length-le (rows_for k es) h)) st
 
   -- all are
-  pub all-over : (i : ℕ) (b : List ℕ) → i ≡ 0 → OverFrom k evs kept i a b → AllOver k evs kept a b
-  all-over i b z f = subst (λ (j : ℕ). OverFrom k evs kept j a b) z f
+  pub all_over : (i : ℕ) (b : List ℕ) → i ≡ 0 → OverFrom k evs kept i a b → AllOver k evs kept a b
+  all_over i b z f = subst (λ (j : ℕ). OverFrom k evs kept j a b) z f
 
   module _ (c v : ℕ) (hc : c ≡ cases_held a) (hv : v ≡ events_held a) where
     -- nor are bytes whose counts claim more rows than there are
     pub misfits : (t : Bool) → t ≡ (leb (c + v) most_rows && leb (4 + row_bytes * (c + v)) (length a)) → t ≡ false → AllOver k evs kept a a
     misfits t x f es l s st al =
         let w = standing a c v hc hv s st in
-        let u = stored-few siad laid-siad a s st in
-        let z = stored-end siad laid-siad a s st in
-        absurd (room-denied row_bytes (c + v) (length a) t x f (omega (arith, w.1)) (omega (arith, w.1)))
+        let u = stored_few siad laid_siad a s st in
+        let z = stored_end siad laid_siad a s st in
+        absurd (room_denied row_bytes (c + v) (length a) t x f (omega (arith, w.1)) (omega (arith, w.1)))
 
     module _ (hk : k < 2 ^ key_bits) (lo hi : ℕ) (rg : Ranged (key_at row_bytes key_bits a) k c (c + v) lo hi) (b : List ℕ) (i : ℕ) (z : 0 < i) (l : i ≤ length evs)
         (he : get_or evs (i - 1) 0 < 2 ^ event_bits) (hu : get_or kept (i - 1) 0 < 2 ^ evaluation_bits) (f : OverFrom k evs kept i a b) (r : ℕ) (pl : OwnPlaced b (get_or evs (i - 1) 0) lo hi r) where
@@ -119,9 +119,9 @@ module _ (k : ℕ) (evs kept a : List ℕ) where
         abbrev t : State ℕ ℕ
         t = with_rows events (put_all rs s.events) s
 
-        next-is : drop (i - 1) (rows_for k es) ≡ event_row k e u ∷ rs
-        next-is =
-            let w : Rows k evs kept (rows_for k es) = said-rows k evs kept es ls.numbers ls.beside in
+        next_is : drop (i - 1) (rows_for k es) ≡ event_row k e u ∷ rs
+        next_is =
+            let w : Rows k evs kept (rows_for k es) = said_rows k evs kept es ls.numbers ls.beside in
             let q : suc (i - 1) ≡ i = omega arith in
             drop-cons (rows_for k es) (i - 1) (record { key = 0; val = 0 }) (omega (arith, w.many))
             ∙ ap₂ (λ (x : Row ℕ) (j : ℕ). x ∷ drop j (rows_for k es)) (w.row (i - 1) (omega arith)) q
@@ -130,7 +130,7 @@ module _ (k : ℕ) (evs kept a : List ℕ) where
         unfolding all_in all
         both =
             let x : all_in (event_row k e u ∷ rs) s.events ≡ true
-            = subst (λ (y : Map ℕ). all_in y s.events ≡ true) next-is (all_from (rows_for k es) (i - 1) s.events al) in
+            = subst (λ (y : Map ℕ). all_in y s.events ≡ true) next_is (all_from (rows_for k es) (i - 1) s.events al) in
             let h = has (event_row k e u).key s.events in
             (and_left h (all_in rs s.events) x, and_right h (all_in rs s.events) x)
 
@@ -141,23 +141,23 @@ module _ (k : ℕ) (evs kept a : List ℕ) where
         total = (standing a c v hc hv s st).1
 
         same_size : length t.events ≡ length s.events
-        same_size = size-vary rs s.events both.1 st.good.1
+        same_size = size_vary rs s.events both.1 st.good.1
 
         -- no row's case has changed
         same_key : (p : ℕ) → c ≤ p → p < c + v → key_at row_bytes key_bits b p ≡ key_at row_bytes key_bits a p
         same_key p x y =
             let d : Row ℕ = record { key = 0; val = 0 } in
             let q : length s.cases + (p - c) ≡ p = omega (arith, start) in
-            let kb = key-at siad laid-siad events b t (f es ls s st al) (p - c) d (omega (arith, total, start, same_size)) in
-            let ka = key-at siad laid-siad events a s st (p - c) d (omega (arith, total, start)) in
+            let kb = key_at_lem siad laid_siad events b t (f es ls s st al) (p - c) d (omega (arith, total, start, same_size)) in
+            let ka = key_at_lem siad laid_siad events a s st (p - c) d (omega (arith, total, start)) in
             let w : row_key b p ≡ row_key a p
             = subst (λ (j : ℕ). row_key b j ≡ row_key a j) q (kb ∙ key-put_all rs s.events (p - c) d both.1 st.good.1 ∙ sym ka) in
-            let pb = key-parts b p in
-            let pa = key-parts a p in
+            let pb = key_parts b p in
+            let pa = key_parts a p in
             omega arith
 
         rise : Rises (key_at row_bytes key_bits a) c (c + v)
-        rise p q x y w = cases-rise siad laid-siad a s st p q (omega (arith, start)) y (omega (arith, total))
+        rise p q x y w = cases_rise siad laid_siad a s st p q (omega (arith, start)) y (omega (arith, total))
 
         -- the case's rows are where they were
         range : Ranged (key_at row_bytes key_bits b) k c (c + v) lo hi
@@ -171,26 +171,26 @@ module _ (k : ℕ) (evs kept a : List ℕ) where
               after = λ o p x y. let q = same_key p (omega (arith, rg.low, rg.mid)) y in let w = rg.after rise p x y in omega arith;
             }
 
-        has-it : has (event_row k e u).key t.events ≡ true
-        has-it = still-has (event_row k e u).key rs s.events both.0
+        has_it : has (event_row k e u).key t.events ≡ true
+        has_it = still_has (event_row k e u).key rs s.events both.0
 
-        all-rows : c + v ≡ length t.cases + length t.events
-        all-rows = omega (arith, total, same_size)
+        all_rows : c + v ≡ length t.cases + length t.events
+        all_rows = omega (arith, total, same_size)
 
-        in-range : r < hi
-        in-range = found k e u hk he hu b t (f es ls s st al) c (c + v) start all-rows lo hi r range pl has-it
+        in_range : r < hi
+        in_range = found k e u hk he hu b t (f es ls s st al) c (c + v) start all_rows lo hi r range pl has_it
 
-        over-is : (d : List ℕ) → length d ≡ length b → d ≡ replaced row_bytes r (event_bytes k e u) b →
+        over_is : (d : List ℕ) → length d ≡ length b → d ≡ replaced row_bytes r (event_bytes k e u) b →
             Stored siad d (with_rows events (put_all (drop (i - 1) (rows_for k es)) s.events) s)
         unfolding put_all
-        over-is d len x =
-            subst (λ (y : Map ℕ). Stored siad d (with_rows events (put_all y s.events) s)) (sym next-is)
-            (written_over k e u hk he hu b t (f es ls s st al) c (c + v) start all-rows lo hi r range pl has-it d len x)
+        over_is d len x =
+            subst (λ (y : Map ℕ). Stored siad d (with_rows events (put_all y s.events) s)) (sym next_is)
+            (written_over k e u hk he hu b t (f es ls s st al) c (c + v) start all_rows lo hi r range pl has_it d len x)
 
       -- one more
-      pub one-over : (d : List ℕ) → length d ≡ length b → d ≡ replaced row_bytes r (event_bytes k e u) b → OverFrom k evs kept (i - 1) a d
-      one-over d len x es ls s st al = over-is es ls s st al d len x
+      pub one_over : (d : List ℕ) → length d ≡ length b → d ≡ replaced row_bytes r (event_bytes k e u) b → OverFrom k evs kept (i - 1) a d
+      one_over d len x es ls s st al = over_is es ls s st al d len x
 
       -- its key stands, so its row is among the case's
-      pub never-past : hi ≤ r → OverFrom k evs kept (i - 1) a b
-      never-past h es ls s st al = absurd (omega (arith, in-range es ls s st al))
+      pub never_past : hi ≤ r → OverFrom k evs kept (i - 1) a b
+      never_past h es ls s st al = absurd (omega (arith, in_range es ls s st al))

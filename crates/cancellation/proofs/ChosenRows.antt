@@ -15,14 +15,14 @@ use Rattle.cancellation.specs.Chosen.{those, dated_in}
 use Rattle.cancellation.specs.View.{chosen_in}
 
 -- those that pass a test are no more than all
-those-few : (p : ℕ → Bool) (l : List ℕ) → length (those p l) ≤ length l
+those_few : (p : ℕ → Bool) (l : List ℕ) → length (those p l) ≤ length l
 unfolding those
-those-few p [] = omega arith
-those-few p (x ∷ l) = kept-few (those p l) (p x) (those-few p l)
+those_few p [] = omega arith
+those_few p (x ∷ l) = kept_few (those p l) (p x) (those_few p l)
   where
-    kept-few : (m : List ℕ) (b : Bool) → length m ≤ length l → length (cond b (x ∷ m) m) ≤ suc (length l)
-    kept-few m true h = omega arith
-    kept-few m false h = omega arith
+    kept_few : (m : List ℕ) (b : Bool) → length m ≤ length l → length (cond b (x ∷ m) m) ≤ suc (length l)
+    kept_few m true h = omega arith
+    kept_few m false h = omega arith
 
 module _ (reg : List ℕ) (first last i hi : ℕ) where
   -- of no rows none are chosen
@@ -31,19 +31,19 @@ module _ (reg : List ℕ) (first last i hi : ℕ) where
   chosen_none h = ap (those (dated_in first last)) (no_row reg i hi h)
 
   -- the first row's event comes first, where its day is one of those
-  pub chosen-next : i < hi → dated_in first last (event_at reg i) ≡ true →
+  pub chosen_next : i < hi → dated_in first last (event_at reg i) ≡ true →
       chosen_in reg first last i hi ≡ event_at reg i ∷ chosen_in reg first last (i + 1) hi
   unfolding those
-  chosen-next h t = ap (those (dated_in first last)) (next_row reg i hi h) ∙ rw t
+  chosen_next h t = ap (those (dated_in first last)) (next_row reg i hi h) ∙ rw t
 
   -- and is left out, where it isn't
-  pub chosen-skip : i < hi → dated_in first last (event_at reg i) ≡ false →
+  pub chosen_skip : i < hi → dated_in first last (event_at reg i) ≡ false →
       chosen_in reg first last i hi ≡ chosen_in reg first last (i + 1) hi
   unfolding those
-  chosen-skip h t = ap (those (dated_in first last)) (next_row reg i hi h) ∙ rw t
+  chosen_skip h t = ap (those (dated_in first last)) (next_row reg i hi h) ∙ rw t
 
   -- there are no more than rows
-  pub chosen-few : length (chosen_in reg first last i hi) ≤ hi - i
-  chosen-few =
-      let n = those-few (dated_in first last) (standing_in reg i hi) in
+  pub chosen_few : length (chosen_in reg first last i hi) ≤ hi - i
+  chosen_few =
+      let n = those_few (dated_in first last) (standing_in reg i hi) in
       omega (arith, length-map (from (row reg) i (hi - i)) event_number_in, from-length (row reg) i (hi - i))

@@ -13,18 +13,18 @@ use Rattle.laws.specs.Lists.{all, any, bytes}
 use Rattle.laws.proofs.Truth.{and_left, and_right}
 use Rattle.text.specs.Put.{Put}
 use Rattle.text.specs.Spelled.{spelled}
-use Rattle.text.proofs.PutLaws.{put-none, put_on}
-use Rattle.text.proofs.SpelledLaws.{spelled-one, spelled-tens, spelled-short}
+use Rattle.text.proofs.PutLaws.{put_none, put_on}
+use Rattle.text.proofs.SpelledLaws.{spelled_one, spelled_tens, spelled_short}
 use Rattle.codes.specs.CodesAndCharacters.{in_ranges, revaluation, service, suspension, codes_of, confirmations}
-use Rattle.codes.proofs.Ranges.{ranges-below}
+use Rattle.codes.proofs.Ranges.{ranges_below}
 use Rattle.days.specs.DayNumbers.{day_count}
 use Rattle.days.specs.WrittenDates.{date_text}
-use Rattle.days.proofs.WrittenDates.{date-long}
+use Rattle.days.proofs.WrittenDates.{date_long}
 use Rattle.markup.specs.Tags.{Pair}
 use Rattle.markup.specs.Elements.{Inside}
 use Rattle.markup.specs.Elements.Inside.{end}
 use Rattle.reading.specs.Print.{pairs_on, end_on, print_on}
-use Rattle.reading.proofs.Round.{pairs-append, print-append}
+use Rattle.reading.proofs.Round.{pairs_append, print_append}
 use Rattle.home_care.specs.Row.{Event, never, event_bits, kind_of, date_of, code_of, end_of, accesses_of, conferma_of, event_in}
 use Rattle.home_care.specs.Allowed.{end_allowed, accesses_allowed, conferma_allowed, event_allowed}
 use Rattle.tracks.specs.EventElements.{Wording, rivalutazione, erogazione, sospensione, conclusione}
@@ -34,62 +34,62 @@ use Rattle.cancellation.specs.View.{event_text}
 -- ---- parts one after the other
 
 -- attributes of two lists, the second printed behind the first
-pairs-join : (ps qs : List Pair) (r : List ℕ) → pairs_on (ps ++ qs) r ≡ pairs_on ps (pairs_on qs r)
-pairs-join [] qs r = refl
-pairs-join (p ∷ ps) qs r = rw (pairs-join ps qs r)
+pairs_join : (ps qs : List Pair) (r : List ℕ) → pairs_on (ps ++ qs) r ≡ pairs_on ps (pairs_on qs r)
+pairs_join [] qs r = refl
+pairs_join (p ∷ ps) qs r = rw (pairs_join ps qs r)
 
 -- so attributes are printed one list after the other
-pub pairs-before : (ps qs : List Pair) (r : List ℕ) → pairs_on (ps ++ qs) r ≡ pairs_on ps [] ++ pairs_on qs r
-pairs-before ps qs r = pairs-join ps qs r ∙ sym (pairs-append ps [] (pairs_on qs r))
+pub pairs_before : (ps qs : List Pair) (r : List ℕ) → pairs_on (ps ++ qs) r ≡ pairs_on ps [] ++ pairs_on qs r
+pairs_before ps qs r = pairs_join ps qs r ∙ sym (pairs_append ps [] (pairs_on qs r))
 
-five-before : (a b c d f : List Pair) (r : List ℕ) → pairs_on (a ++ (b ++ (c ++ (d ++ f)))) r
+five_before : (a b c d f : List Pair) (r : List ℕ) → pairs_on (a ++ (b ++ (c ++ (d ++ f)))) r
     ≡ pairs_on a [] ++ (pairs_on b [] ++ (pairs_on c [] ++ (pairs_on d [] ++ (pairs_on f [] ++ r))))
-five-before a b c d f r =
+five_before a b c d f r =
     rw (
-      pairs-before a (b ++ (c ++ (d ++ f))) r,
-      pairs-before b (c ++ (d ++ f)) r,
-      pairs-before c (d ++ f) r,
-      pairs-before d f r,
-      pairs-append f [] r,
+      pairs_before a (b ++ (c ++ (d ++ f))) r,
+      pairs_before b (c ++ (d ++ f)) r,
+      pairs_before c (d ++ f) r,
+      pairs_before d f r,
+      pairs_append f [] r,
     )
 
 -- ---- put
 
 -- an attribute, where it stands
-pub put-given : {at a b r : ℕ} {x y z u v : List ℕ} {stands : Bool} (n : List ℕ) → stands ≡ true → Put at (bytes " " ++ (n ++ bytes "=\"")) x y a
+pub put_given : {at a b r : ℕ} {x y z u v : List ℕ} {stands : Bool} (n : List ℕ) → stands ≡ true → Put at (bytes " " ++ (n ++ bytes "=\"")) x y a
     → Put a v y z b → Put b (bytes "\"") z u r → Put at (pairs_on (given stands n v) []) x u r
-put-given {v = v} n e p q s = rw (e, ← append_assoc n (bytes "=\"") (v ++ bytes "\"")) (put_on p (put_on q s))
+put_given {v = v} n e p q s = rw (e, ← append_assoc n (bytes "=\"") (v ++ bytes "\"")) (put_on p (put_on q s))
 
 -- nothing, where it doesn't
-pub put-missing : {at : ℕ} {out : List ℕ} {stands : Bool} (n v : List ℕ) → stands ≡ false → Put at (pairs_on (given stands n v) []) out out at
-put-missing {at} {out} n v e = rw e (put-none at out)
+pub put_missing : {at : ℕ} {out : List ℕ} {stands : Bool} (n v : List ℕ) → stands ≡ false → Put at (pairs_on (given stands n v) []) out out at
+put_missing {at} {out} n v e = rw e (put_none at out)
 
 -- a child, where it stands
-pub put-textual : {at a b c d r : ℕ} {x y z u o l v : List ℕ} {stands : Bool} (n : List ℕ) → stands ≡ true → Put at (bytes "<") x y a → Put a n y z b
+pub put_textual : {at a b c d r : ℕ} {x y z u o l v : List ℕ} {stands : Bool} (n : List ℕ) → stands ≡ true → Put at (bytes "<") x y a → Put a n y z b
     → Put b (bytes ">") z u c → Put c v u o d → Put d (end_on n []) o l r → Put at (print_on (cond stands (text_on n v end) end) []) x l r
-put-textual n e p q s t w = rw e (put_on p (put_on q (put_on s (put_on t w))))
+put_textual n e p q s t w = rw e (put_on p (put_on q (put_on s (put_on t w))))
 
 -- nothing, where it doesn't
-pub put-childless : {at : ℕ} {out : List ℕ} {stands : Bool} (n v : List ℕ) → stands ≡ false → Put at (print_on (cond stands (text_on n v end) end) []) out out at
-put-childless {at} {out} n v e = rw e (put-none at out)
+pub put_childless : {at : ℕ} {out : List ℕ} {stands : Bool} (n v : List ℕ) → stands ≡ false → Put at (print_on (cond stands (text_on n v end) end) []) out out at
+put_childless {at} {out} n v e = rw e (put_none at out)
 
 -- an event, from its parts as the code puts them
-worded-is : (w : Wording) (e : ℕ) → print_on (event_worded w e end) [] ≡
+worded_is : (w : Wording) (e : ℕ) → print_on (event_worded w e end) [] ≡
     bytes "<" ++ (w.element ++ (pairs_on (given true w.date (date_text (date_of e))) [] ++ (pairs_on (given (not w.child) w.code (spelled (code_of e))) []
     ++ (pairs_on (given (not (eqb (end_of e) never)) w.end (date_text (end_of e))) []
     ++ (pairs_on (given (not (eqb (accesses_of e) 0)) w.accesses (spelled (accesses_of e))) []
     ++ (pairs_on (given (not (eqb (conferma_of e) 0)) w.conferma (spelled (conferma_of e))) []
     ++ (bytes ">" ++ (print_on (cond w.child (text_on w.code (spelled (code_of e)) end) end) [] ++ end_on w.element []))))))))
-worded-is w e =
+worded_is w e =
     ap (λ (l : List ℕ). code "<" ∷ (w.element ++ l))
     (ap (λ (l : List ℕ). pairs_on (attributes_by w e) (code ">" ∷ l))
-    (sym (print-append (cond w.child (text_on w.code (spelled (code_of e)) end) end) [] (end_on w.element [])))
-    ∙ five-before (given true w.date (date_text (date_of e))) (given (not w.child) w.code (spelled (code_of e)))
+    (sym (print_append (cond w.child (text_on w.code (spelled (code_of e)) end) end) [] (end_on w.element [])))
+    ∙ five_before (given true w.date (date_text (date_of e))) (given (not w.child) w.code (spelled (code_of e)))
     (given (not (eqb (end_of e) never)) w.end (date_text (end_of e))) (given (not (eqb (accesses_of e) 0)) w.accesses (spelled (accesses_of e)))
     (given (not (eqb (conferma_of e) 0)) w.conferma (spelled (conferma_of e))) _)
 
 -- so it is put, part after part
-pub put-parts : (w : Wording) (e : ℕ) {date code ends to some accesses marked conferma again : ℕ} {at a b c d f g h i j r : ℕ} {o p q s t u v x y z l : List ℕ}
+pub put_parts : (w : Wording) (e : ℕ) {date code ends to some accesses marked conferma again : ℕ} {at a b c d f g h i j r : ℕ} {o p q s t u v x y z l : List ℕ}
     → date ≡ date_of e → code ≡ code_of e → ends ≡ end_of e → to ≡ end_of e → some ≡ accesses_of e → accesses ≡ accesses_of e
     → marked ≡ conferma_of e → conferma ≡ conferma_of e → again ≡ code_of e
     → Put at (bytes "<") o p a → Put a w.element p q b → Put b (pairs_on (given true w.date (date_text date)) []) q s c
@@ -99,82 +99,82 @@ pub put-parts : (w : Wording) (e : ℕ) {date code ends to some accesses marked 
     → Put g (pairs_on (given (not (eqb marked 0)) w.conferma (spelled conferma)) []) v x h
     → Put h (bytes ">") x y i → Put i (print_on (cond w.child (text_on w.code (spelled again) end) end) []) y z j → Put j (end_on w.element []) z l r
     → Put at (print_on (event_worded w e end) []) o l r
-put-parts w e hd hc he ht hs ha hm hf hg pa pb pc pd pf pg ph pi pj pr =
-    rw (worded-is w e)
+put_parts w e hd hc he ht hs ha hm hf hg pa pb pc pd pf pg ph pi pj pr =
+    rw (worded_is w e)
     (put_on pa (put_on pb (put_on (rw hd at pc) (put_on (rw hc at pd) (put_on (rw (he, ht) at pf)
     (put_on (rw (hs, ha) at pg) (put_on (rw (hm, hf) at ph) (put_on pi (put_on (rw hg at pj) pr)))))))))
 
 -- an event of the last kind, and of a number that is no kind
-wording-last : (k : ℕ) → (k ≡ revaluation → ⊥) → (k ≡ service → ⊥) → (k ≡ suspension → ⊥) → conclusione ≡ wording_of k
-wording-last zero a b c = absurd (a refl)
-wording-last (suc zero) a b c = absurd (b refl)
-wording-last (suc (suc zero)) a b c = absurd (c refl)
-wording-last (suc (suc (suc zero))) a b c = refl
-wording-last (suc (suc (suc (suc k)))) a b c = refl
+wording_last : (k : ℕ) → (k ≡ revaluation → ⊥) → (k ≡ service → ⊥) → (k ≡ suspension → ⊥) → conclusione ≡ wording_of k
+wording_last zero a b c = absurd (a refl)
+wording_last (suc zero) a b c = absurd (b refl)
+wording_last (suc (suc zero)) a b c = absurd (c refl)
+wording_last (suc (suc (suc zero))) a b c = refl
+wording_last (suc (suc (suc (suc k)))) a b c = refl
 
 -- an event put as its kind is worded is put
 module _ {at r : ℕ} {x y : List ℕ} (e : ℕ) {kind : ℕ} (is : kind ≡ kind_of e) where
-  pub put-kind : (k : ℕ) → kind ≡ k → Put at (print_on (event_worded (wording_of k) e end) []) x y r → Put at (event_text e) x y r
-  put-kind k h p = rw (sym h ∙ is) at p
+  pub put_kind : (k : ℕ) → kind ≡ k → Put at (print_on (event_worded (wording_of k) e end) []) x y r → Put at (event_text e) x y r
+  put_kind k h p = rw (sym h ∙ is) at p
 
   pub put_last : (kind ≡ revaluation → ⊥) → (kind ≡ service → ⊥) → (kind ≡ suspension → ⊥)
       → Put at (print_on (event_worded conclusione e end) []) x y r → Put at (event_text e) x y r
-  put_last a b c p = put-kind kind refl (subst (λ (w : Wording). Put at (print_on (event_worded w e end) []) x y r) (wording-last kind a b c) p)
+  put_last a b c p = put_kind kind refl (subst (λ (w : Wording). Put at (print_on (event_worded w e end) []) x y r) (wording_last kind a b c) p)
 
 -- ---- how long
 
 -- a number below 10, 100, 1,000 has so many digits
-pub one-digit : (n : ℕ) → n < 10 → length (spelled n) ≡ 1
-one-digit n h = rw (spelled-one n h)
+pub one_digit : (n : ℕ) → n < 10 → length (spelled n) ≡ 1
+one_digit n h = rw (spelled_one n h)
 
 pub two_digits : (n : ℕ) → 10 ≤ n → n < 100 → length (spelled n) ≡ 2
-two_digits n l h = omega (arith, spelled-tens n l, one-digit (n / 10) (omega arith))
+two_digits n l h = omega (arith, spelled_tens n l, one_digit (n / 10) (omega arith))
 
-pub three-digits : (n : ℕ) → 100 ≤ n → n < 1000 → length (spelled n) ≡ 3
-three-digits n l h = omega (arith, spelled-tens n (omega arith), two_digits (n / 10) (omega arith) (omega arith))
+pub three_digits : (n : ℕ) → 100 ≤ n → n < 1000 → length (spelled n) ≡ 3
+three_digits n l h = omega (arith, spelled_tens n (omega arith), two_digits (n / 10) (omega arith) (omega arith))
 
 -- an attribute's length, by its name's and its value's
 abbrev pub attribute_long : Bool → ℕ → ℕ → ℕ
 attribute_long stands n v = cond stands (n + v + 4) 0
 
-given-long : (b : Bool) (n v : List ℕ) → length (pairs_on (given b n v) []) ≡ attribute_long b (length n) (length v)
-given-long false n v = refl
-given-long true n v = simp length-append (omega arith)
+given_long : (b : Bool) (n v : List ℕ) → length (pairs_on (given b n v) []) ≡ attribute_long b (length n) (length v)
+given_long false n v = refl
+given_long true n v = simp length-append (omega arith)
 
-child-long : (b : Bool) (n v : List ℕ) → length (print_on (cond b (text_on n v end) end) []) ≡ cond b (2 * length n + 5 + length v) 0
-child-long false n v = refl
-child-long true n v = simp length-append (omega arith)
+child_long : (b : Bool) (n v : List ℕ) → length (print_on (cond b (text_on n v end) end) []) ≡ cond b (2 * length n + 5 + length v) 0
+child_long false n v = refl
+child_long true n v = simp length-append (omega arith)
 
 -- the lengths of the parts together
-parts-long : (n a b c d f i : List ℕ) → length (bytes "<" ++ (n ++ (a ++ (b ++ (c ++ (d ++ (f ++ (bytes ">" ++ (i ++ end_on n [])))))))))
+parts_long : (n a b c d f i : List ℕ) → length (bytes "<" ++ (n ++ (a ++ (b ++ (c ++ (d ++ (f ++ (bytes ">" ++ (i ++ end_on n [])))))))))
     ≡ 2 * length n + 5 + length a + length b + length c + length d + length f + length i
-parts-long n a b c d f i = simp length-append (omega arith)
+parts_long n a b c d f i = simp length-append (omega arith)
 
 -- an event's length, by its wording
-pub worded-long : (w : Wording) (e : ℕ) → length (print_on (event_worded w e end) []) ≡
+pub worded_long : (w : Wording) (e : ℕ) → length (print_on (event_worded w e end) []) ≡
     2 * length w.element + 5 + attribute_long true (length w.date) 10 + attribute_long (not w.child) (length w.code) (length (spelled (code_of e)))
     + attribute_long (not (eqb (end_of e) never)) (length w.end) 10
     + attribute_long (not (eqb (accesses_of e) 0)) (length w.accesses) (length (spelled (accesses_of e)))
     + attribute_long (not (eqb (conferma_of e) 0)) (length w.conferma) (length (spelled (conferma_of e)))
     + cond w.child (2 * length w.code + 5 + length (spelled (code_of e))) 0
-worded-long w e =
+worded_long w e =
     let date : List Pair = given true w.date (date_text (date_of e)) in
     let code : List Pair = given (not w.child) w.code (spelled (code_of e)) in
     let to : List Pair = given (not (eqb (end_of e) never)) w.end (date_text (end_of e)) in
     let accesses : List Pair = given (not (eqb (accesses_of e) 0)) w.accesses (spelled (accesses_of e)) in
     let conferma : List Pair = given (not (eqb (conferma_of e) 0)) w.conferma (spelled (conferma_of e)) in
     let child : Inside = cond w.child (text_on w.code (spelled (code_of e)) end) end in
-    ap length (worded-is w e) ∙
-    parts-long w.element (pairs_on date []) (pairs_on code []) (pairs_on to []) (pairs_on accesses []) (pairs_on conferma []) (print_on child []) ∙
+    ap length (worded_is w e) ∙
+    parts_long w.element (pairs_on date []) (pairs_on code []) (pairs_on to []) (pairs_on accesses []) (pairs_on conferma []) (print_on child []) ∙
     omega (
       arith,
-      given-long true w.date (date_text (date_of e)),
-      given-long (not w.child) w.code (spelled (code_of e)),
-      rw (date-long (end_of e)) at (given-long (not (eqb (end_of e) never)) w.end (date_text (end_of e))),
-      given-long (not (eqb (accesses_of e) 0)) w.accesses (spelled (accesses_of e)),
-      given-long (not (eqb (conferma_of e) 0)) w.conferma (spelled (conferma_of e)),
-      child-long w.child w.code (spelled (code_of e)),
-      date-long (date_of e),
+      given_long true w.date (date_text (date_of e)),
+      given_long (not w.child) w.code (spelled (code_of e)),
+      rw (date_long (end_of e)) at (given_long (not (eqb (end_of e) never)) w.end (date_text (end_of e))),
+      given_long (not (eqb (accesses_of e) 0)) w.accesses (spelled (accesses_of e)),
+      given_long (not (eqb (conferma_of e) 0)) w.conferma (spelled (conferma_of e)),
+      child_long w.child w.code (spelled (code_of e)),
+      date_long (date_of e),
     )
 
 -- the lengths of the names that the four kinds have
@@ -212,9 +212,9 @@ at_most m [] h k = omega arith
 at_most m (n ∷ l) h zero = leb-true n m (and_left (leb n m) _ h)
 at_most m (n ∷ l) h (suc k) = at_most m l (and_right (leb n m) _ h) k
 
-pub names-short : (k : ℕ) → NamesShort k
+pub names_short : (k : ℕ) → NamesShort k
 unfolding all
-names-short k =
+names_short k =
     record {
       element = at_most 13 element_names refl k;
       date = at_most 10 date_names refl k;
@@ -234,24 +234,24 @@ kind_long k e =
     + attribute_long (not (eqb (conferma_of e) 0)) (get_or conferma_names k 0) (length (spelled (conferma_of e)))
     + cond (not (eqb k revaluation)) (2 * get_or code_names k 0 + 5 + length (spelled (code_of e))) 0
 
-kind-long : (k e : ℕ) → k < 4 → length (print_on (event_worded (wording_of k) e end) []) ≡ kind_long k e
-kind-long zero e h = worded-long rivalutazione e
-kind-long (suc zero) e h = worded-long erogazione e
-kind-long (suc (suc zero)) e h = worded-long sospensione e
-kind-long (suc (suc (suc zero))) e h = worded-long conclusione e
-kind-long (suc (suc (suc (suc k)))) e h = absurd (omega arith)
+kind_long_lem : (k e : ℕ) → k < 4 → length (print_on (event_worded (wording_of k) e end) []) ≡ kind_long k e
+kind_long_lem zero e h = worded_long rivalutazione e
+kind_long_lem (suc zero) e h = worded_long erogazione e
+kind_long_lem (suc (suc zero)) e h = worded_long sospensione e
+kind_long_lem (suc (suc (suc zero))) e h = worded_long conclusione e
+kind_long_lem (suc (suc (suc (suc k)))) e h = absurd (omega arith)
 
 -- an event's length, by its own kind
-pub event-long : (e : ℕ) → e < 2 ^ event_bits → length (event_text e) ≡ kind_long (kind_of e) e
-event-long e h = kind-long (kind_of e) e (omega arith)
+pub event_long : (e : ℕ) → e < 2 ^ event_bits → length (event_text e) ≡ kind_long (kind_of e) e
+event_long e h = kind_long_lem (kind_of e) e (omega arith)
 
 -- a number that the code sets to n or to 0, by a test
-pub set-or-none : {T F : Type 0} {b : Bool} {n i : ℕ} → (T × (i ≡ n)) ⊎ (F × (i ≡ 0)) → (T → b ≡ true) → (F → b ≡ false) → i ≡ cond b n 0
-set-or-none (inl w) t f = rw (t w.0) w.1
-set-or-none (inr w) t f = rw (f w.0) w.1
+pub set_or_none : {T F : Type 0} {b : Bool} {n i : ℕ} → (T × (i ≡ n)) ⊎ (F × (i ≡ 0)) → (T → b ≡ true) → (F → b ≡ false) → i ≡ cond b n 0
+set_or_none (inl w) t f = rw (t w.0) w.1
+set_or_none (inr w) t f = rw (f w.0) w.1
 
 -- the length that the code adds up
-pub length-told : (e : ℕ) → e < 2 ^ event_bits → {kind again code c ends some accesses a marked conferma f : ℕ} {dates codes days numbers marks inside : ℕ}
+pub length_told : (e : ℕ) → e < 2 ^ event_bits → {kind again code c ends some accesses a marked conferma f : ℕ} {dates codes days numbers marks inside : ℕ}
     → kind ≡ kind_of e → code ≡ code_of e → c ≡ length (spelled code) → again ≡ kind_of e → dates ≡ attribute_long true (get_or date_names kind 0) 10
     → codes ≡ attribute_long (not (not (eqb again revaluation))) (get_or code_names kind 0) c
     → ends ≡ end_of e → days ≡ attribute_long (not (eqb ends never)) (get_or end_names kind 0) 10
@@ -259,18 +259,18 @@ pub length-told : (e : ℕ) → e < 2 ^ event_bits → {kind again code c ends s
     → marked ≡ conferma_of e → conferma ≡ conferma_of e → f ≡ length (spelled conferma) → marks ≡ attribute_long (not (eqb marked 0)) (get_or conferma_names kind 0) f
     → inside ≡ cond (not (eqb again revaluation)) (2 * get_or code_names kind 0 + 5 + c) 0
     → 2 * get_or element_names kind 0 + 5 + dates + codes + days + numbers + marks + inside ≡ length (event_text e)
-length-told e h hk hc lc hg ld lk he le hs ha la ln hm hf lf lm li =
-    rw (ld, lk, le, ln, lm, li, lc, la, lf, hc, he, hs, ha, hm, hf, hk, hg) (sym (event-long e h))
+length_told e h hk hc lc hg ld lk he le hs ha la ln hm hf lf lm li =
+    rw (ld, lk, le, ln, lm, li, lc, la, lf, hc, he, hs, ha, hm, hf, hk, hg) (sym (event_long e h))
 
 -- ---- at most 101 bytes
 
 -- an attribute that doesn't stand has no length, and none has more than its parts
-attribute-none : (t : Bool) (n v : ℕ) → t ≡ true → attribute_long (not t) n v ≡ 0
-attribute-none t n v h = rw h
+attribute_none : (t : Bool) (n v : ℕ) → t ≡ true → attribute_long (not t) n v ≡ 0
+attribute_none t n v h = rw h
 
-attribute-most : (b : Bool) (n v : ℕ) → attribute_long b n v ≤ n + v + 4
-attribute-most true n v = omega arith
-attribute-most false n v = omega arith
+attribute_most : (b : Bool) (n v : ℕ) → attribute_long b n v ≤ n + v + 4
+attribute_most true n v = omega arith
+attribute_most false n v = omega arith
 
 -- an event that is allowed, by its kind
 module _ (e : ℕ) where
@@ -298,56 +298,56 @@ module _ (e : ℕ) where
 
   -- an attribute that its kind has none of
   no_end : (n : ℕ) → eqb (end_of e) never || false ≡ true → attribute_long (not (eqb (end_of e) never)) n 10 ≡ 0
-  no_end n h = attribute-none (eqb (end_of e) never) n 10 (sym (or-false (eqb (end_of e) never)) ∙ h)
+  no_end n h = attribute_none (eqb (end_of e) never) n 10 (sym (or-false (eqb (end_of e) never)) ∙ h)
 
-  no-accesses : eqb (accesses_of e) 0 ≡ true → attribute_long (not (eqb (accesses_of e) 0)) 0 (length (spelled (accesses_of e))) ≡ 0
-  no-accesses h = attribute-none (eqb (accesses_of e) 0) 0 (length (spelled (accesses_of e))) h
+  no_accesses : eqb (accesses_of e) 0 ≡ true → attribute_long (not (eqb (accesses_of e) 0)) 0 (length (spelled (accesses_of e))) ≡ 0
+  no_accesses h = attribute_none (eqb (accesses_of e) 0) 0 (length (spelled (accesses_of e))) h
 
-  no-conferma : eqb (conferma_of e) 0 ≡ true → attribute_long (not (eqb (conferma_of e) 0)) 0 (length (spelled (conferma_of e))) ≡ 0
-  no-conferma h = attribute-none (eqb (conferma_of e) 0) 0 (length (spelled (conferma_of e))) h
+  no_conferma : eqb (conferma_of e) 0 ≡ true → attribute_long (not (eqb (conferma_of e) 0)) 0 (length (spelled (conferma_of e))) ≡ 0
+  no_conferma h = attribute_none (eqb (conferma_of e) 0) 0 (length (spelled (conferma_of e))) h
 
   most : (k : ℕ) → Fields k → length (print_on (event_worded (wording_of k) e end) []) ≤ 101
   unfolding all any
   most zero f =
       omega (
         arith,
-        worded-long rivalutazione e,
-        spelled-short 0 (code_of e) (omega (arith, ranges-below (codes_of 0) 2 (code_of e) refl f.code)),
+        worded_long rivalutazione e,
+        spelled_short 0 (code_of e) (omega (arith, ranges_below (codes_of 0) 2 (code_of e) refl f.code)),
         no_end 0 f.end,
-        no-accesses f.accesses,
-        attribute-most (not (eqb (conferma_of e) 0)) 18 (length (spelled (conferma_of e))),
-        spelled-short 0 (conferma_of e) (omega (arith, ranges-below confirmations 2 (conferma_of e) refl f.conferma)),
+        no_accesses f.accesses,
+        attribute_most (not (eqb (conferma_of e) 0)) 18 (length (spelled (conferma_of e))),
+        spelled_short 0 (conferma_of e) (omega (arith, ranges_below confirmations 2 (conferma_of e) refl f.conferma)),
       )
   most (suc zero) f =
       omega (
         arith,
-        worded-long erogazione e,
-        spelled-short 1 (code_of e) (omega (arith, ranges-below (codes_of 1) 99 (code_of e) refl f.code)),
+        worded_long erogazione e,
+        spelled_short 1 (code_of e) (omega (arith, ranges_below (codes_of 1) 99 (code_of e) refl f.code)),
         no_end 0 f.end,
-        attribute-most (not (eqb (accesses_of e) 0)) 10 (length (spelled (accesses_of e))),
-        spelled-short 1 (accesses_of e) (omega (arith, leb-true (accesses_of e) 99 f.accesses)),
-        no-conferma f.conferma,
+        attribute_most (not (eqb (accesses_of e) 0)) 10 (length (spelled (accesses_of e))),
+        spelled_short 1 (accesses_of e) (omega (arith, leb-true (accesses_of e) 99 f.accesses)),
+        no_conferma f.conferma,
       )
   most (suc (suc zero)) f =
       omega (
         arith,
-        worded-long sospensione e,
-        spelled-short 0 (code_of e) (omega (arith, ranges-below (codes_of 2) 9 (code_of e) refl f.code)),
-        attribute-most (not (eqb (end_of e) never)) 8 10,
-        no-accesses f.accesses,
-        no-conferma f.conferma,
+        worded_long sospensione e,
+        spelled_short 0 (code_of e) (omega (arith, ranges_below (codes_of 2) 9 (code_of e) refl f.code)),
+        attribute_most (not (eqb (end_of e) never)) 8 10,
+        no_accesses f.accesses,
+        no_conferma f.conferma,
       )
   most (suc (suc (suc zero))) f =
       omega (
         arith,
-        worded-long conclusione e,
-        spelled-short 1 (code_of e) (omega (arith, ranges-below (codes_of 3) 99 (code_of e) refl f.code)),
+        worded_long conclusione e,
+        spelled_short 1 (code_of e) (omega (arith, ranges_below (codes_of 3) 99 (code_of e) refl f.code)),
         no_end 0 f.end,
-        no-accesses f.accesses,
-        no-conferma f.conferma,
+        no_accesses f.accesses,
+        no_conferma f.conferma,
       )
   most (suc (suc (suc (suc k)))) f = absurd (false≢true f.code)
 
 -- AN EVENT THAT IS ALLOWED HAS AT MOST 101 BYTES OF TEXT
-pub event-most : (e : ℕ) → event_allowed (event_in e) ≡ true → e < 2 ^ event_bits → length (event_text e) ≤ 101
-event-most e h b = most e (kind_of e) (fields e (kind_of e) h)
+pub event_most : (e : ℕ) → event_allowed (event_in e) ≡ true → e < 2 ^ event_bits → length (event_text e) ≤ 101
+event_most e h b = most e (kind_of e) (fields e (kind_of e) h)

@@ -8,15 +8,15 @@ use native.Mathlib.Numerals.{add-one}
 use lib.ListN.{length, take, drop, length-drop, drop_of_length-le}
 use lib.Seq.{take_all}
 use Rattle.text.specs.Put.{Put}
-use Rattle.text.proofs.PutLaws.{put-none, put_on}
+use Rattle.text.proofs.PutLaws.{put_none, put_on}
 use Rattle.schemas.specs.Parts.{most_events}
 use Rattle.home_care.specs.EventRows.{event_at}
 use Rattle.cancellation.specs.Chosen.{dated_in}
 use Rattle.cancellation.specs.FileText.{CaseTexts, events_on}
 use Rattle.cancellation.specs.View.{chosen_in, event_text, events_text, head_text, tail_text, records_text, PutShare}
 use Rattle.cancellation.specs.declared.records.Reached.{Reached}
-use Rattle.cancellation.proofs.ChosenRows.{chosen_none, chosen-next, chosen-skip}
-use Rattle.cancellation.proofs.FileTexts.{events-last, one-record}
+use Rattle.cancellation.proofs.ChosenRows.{chosen_none, chosen_next, chosen_skip}
+use Rattle.cancellation.proofs.FileTexts.{events_last, one_record}
 
 -- one element more of a list whose rest begins with it
 taken_next : (n : ℕ) (l : List ℕ) {a : ℕ} {rest : List ℕ} → drop n l ≡ a ∷ rest → (take (suc n) l ≡ take n l ++ (a ∷ [])) × (drop (suc n) l ≡ rest)
@@ -34,21 +34,21 @@ pub record Putting (reg : List ℕ) (first last lo hi : ℕ) (at : ℕ) (before 
 
 module _ {reg : List ℕ} {first last lo hi at : ℕ} {before : List ℕ} where
   -- nothing is put yet
-  pub none-put : lo ≤ hi → Putting reg first last lo hi at before before lo at 0
+  pub none_put : lo ≤ hi → Putting reg first last lo hi at before before lo at 0
   unfolding events_on
-  none-put h = record { put = put-none at before; low = omega arith; high = h; few = omega arith; rest = refl }
+  none_put h = record { put = put_none at before; low = omega arith; high = h; few = omega arith; rest = refl }
 
   module _ {after : List ℕ} {row next n : ℕ} (p : Putting reg first last lo hi at before after row next n) where
     -- an event that is chosen was put
-    pub one-put : {e r : ℕ} {then : List ℕ} → row < hi → (n ≡ most_events → ⊥) → e ≡ event_at reg row → dated_in first last e ≡ true →
+    pub one_put : {e r : ℕ} {then : List ℕ} → row < hi → (n ≡ most_events → ⊥) → e ≡ event_at reg row → dated_in first last e ≡ true →
         Put next (event_text e) after then r → Putting reg first last lo hi at before then (row + 1) r (n + 1)
-    one-put {e} {r} {then} h m k d q =
+    one_put {e} {r} {then} h m k d q =
         let es = chosen_in reg first last lo hi in
         let c : drop n es ≡ e ∷ chosen_in reg first last (row + 1) hi =
-        sym p.rest ∙ rw k (chosen-next reg first last row hi h (rw k at d)) in
+        sym p.rest ∙ rw k (chosen_next reg first last row hi h (rw k at d)) in
         let t = taken_next n es c in
         record {
-          put = rw (add-one n, t.0, events-last (take n es) e) (put_on p.put q);
+          put = rw (add-one n, t.0, events_last (take n es) e) (put_on p.put q);
           low = omega (arith, p.low);
           high = omega arith;
           few = omega (arith, p.few);
@@ -63,16 +63,16 @@ module _ {reg : List ℕ} {first last lo hi at : ℕ} {before : List ℕ} where
           low = omega (arith, p.low);
           high = omega arith;
           few = p.few;
-          rest = sym (chosen-skip reg first last row hi h (rw k at d)) ∙ p.rest;
+          rest = sym (chosen_skip reg first last row hi h (rw k at d)) ∙ p.rest;
         }
 
     -- a record has no more
-    pub share-full : n ≡ most_events → PutShare reg first last lo hi at before after events_text (record { row = row; at = next })
-    share-full e = record { put = rw e at p.put; low = p.low; high = p.high; rest = p.rest ∙ ap (λ (k : ℕ). drop k (chosen_in reg first last lo hi)) e }
+    pub share_full : n ≡ most_events → PutShare reg first last lo hi at before after events_text (record { row = row; at = next })
+    share_full e = record { put = rw e at p.put; low = p.low; high = p.high; rest = p.rest ∙ ap (λ (k : ℕ). drop k (chosen_in reg first last lo hi)) e }
 
     -- no row is left
-    pub share-done : hi ≤ row → PutShare reg first last lo hi at before after events_text (record { row = row; at = next })
-    share-done h =
+    pub share_done : hi ≤ row → PutShare reg first last lo hi at before after events_text (record { row = row; at = next })
+    share_done h =
         let es = chosen_in reg first last lo hi in
         let z : drop n es ≡ [] = sym p.rest ∙ chosen_none reg first last row hi h in
         let l : length es ≤ n = omega (arith, ap length z, length-drop n es) in
@@ -86,12 +86,12 @@ module _ {reg : List ℕ} {first last lo hi at : ℕ} {before : List ℕ} where
         }
 
   -- what stands before the events, they, and what stands behind them
-  pub record-put : (x : CaseTexts) {a r : ℕ} {b d z : List ℕ} {done : Reached} → Put at (head_text x) before b a →
+  pub record_put : (x : CaseTexts) {a r : ℕ} {b d z : List ℕ} {done : Reached} → Put at (head_text x) before b a →
       PutShare reg first last lo hi a b d events_text done → Put done.at tail_text d z r →
       PutShare reg first last lo hi at before z (λ l. records_text x (l ∷ [])) (record { row = done.row; at = r })
-  record-put x p s q =
+  record_put x p s q =
       record {
-        put = rw (one-record x (take most_events (chosen_in reg first last lo hi))) (put_on p (put_on s.put q));
+        put = rw (one_record x (take most_events (chosen_in reg first last lo hi))) (put_on p (put_on s.put q));
         low = s.low;
         high = s.high;
         rest = s.rest;

@@ -6,41 +6,41 @@ use Rattle.laws.specs.Lists.{bytes}
 use Rattle.markup.specs.Elements.Inside.{end}
 use Rattle.cancellation.specs.FileText.{CaseTexts, event_on, events_on, record_on, records_on, shares, file_text}
 use Rattle.cancellation.specs.View.{event_text, events_text, head_text, tail_text, records_text}
-use Rattle.cancellation.proofs.Printed.{print-before}
+use Rattle.cancellation.proofs.Printed.{print_before}
 
 -- an event's text, and then the others'
-pub events-first : (e : ℕ) (es : List ℕ) → events_text (e ∷ es) ≡ event_text e ++ events_text es
+pub events_first : (e : ℕ) (es : List ℕ) → events_text (e ∷ es) ≡ event_text e ++ events_text es
 unfolding events_on
-events-first e es = print-before (event_on e end) (events_text es)
+events_first e es = print_before (event_on e end) (events_text es)
 
 -- the texts of some events, and then of more
-pub events-append : (es fs : List ℕ) → events_text (es ++ fs) ≡ events_text es ++ events_text fs
+pub events_append : (es fs : List ℕ) → events_text (es ++ fs) ≡ events_text es ++ events_text fs
 unfolding events_on
-events-append [] fs = refl
-events-append (e ∷ es) fs =
-    events-first e (es ++ fs) ∙ ap (λ (t : List ℕ). event_text e ++ t) (events-append es fs)
-    ∙ sym (append_assoc (event_text e) (events_text es) (events_text fs)) ∙ ap (λ (t : List ℕ). t ++ events_text fs) (sym (events-first e es))
+events_append [] fs = refl
+events_append (e ∷ es) fs =
+    events_first e (es ++ fs) ∙ ap (λ (t : List ℕ). event_text e ++ t) (events_append es fs)
+    ∙ sym (append_assoc (event_text e) (events_text es) (events_text fs)) ∙ ap (λ (t : List ℕ). t ++ events_text fs) (sym (events_first e es))
 
 -- and of one more
-pub events-last : (es : List ℕ) (e : ℕ) → events_text (es ++ (e ∷ [])) ≡ events_text es ++ event_text e
+pub events_last : (es : List ℕ) (e : ℕ) → events_text (es ++ (e ∷ [])) ≡ events_text es ++ event_text e
 unfolding events_on
-events-last es e = events-append es (e ∷ [])
+events_last es e = events_append es (e ∷ [])
 
 module _ (x : CaseTexts) where
   -- a record's text
-  pub one-record : (es : List ℕ) → records_text x (es ∷ []) ≡ head_text x ++ (events_text es ++ tail_text)
+  pub one_record : (es : List ℕ) → records_text x (es ∷ []) ≡ head_text x ++ (events_text es ++ tail_text)
   unfolding records_on
-  one-record es = rw (print-before (events_on es) tail_text) (simp append_assoc)
+  one_record es = rw (print_before (events_on es) tail_text) (simp append_assoc)
 
   -- the texts of some records, and then of more
-  pub records-append : (rs ss : List (List ℕ)) → records_text x (rs ++ ss) ≡ records_text x rs ++ records_text x ss
+  pub records_append : (rs ss : List (List ℕ)) → records_text x (rs ++ ss) ≡ records_text x rs ++ records_text x ss
   unfolding records_on
-  records-append [] ss = refl
-  records-append (es ∷ rs) ss =
-      print-before (record_on x es end) (records_text x (rs ++ ss)) ∙ ap (λ (t : List ℕ). records_text x (es ∷ []) ++ t) (records-append rs ss)
+  records_append [] ss = refl
+  records_append (es ∷ rs) ss =
+      print_before (record_on x es end) (records_text x (rs ++ ss)) ∙ ap (λ (t : List ℕ). records_text x (es ∷ []) ++ t) (records_append rs ss)
       ∙ sym (append_assoc (records_text x (es ∷ [])) (records_text x rs) (records_text x ss))
-      ∙ ap (λ (t : List ℕ). t ++ records_text x ss) (sym (print-before (record_on x es end) (records_text x rs)))
+      ∙ ap (λ (t : List ℕ). t ++ records_text x ss) (sym (print_before (record_on x es end) (records_text x rs)))
 
   -- the root's tags stand around the records
-  pub file-parts : (es : List ℕ) → file_text x es ≡ bytes "<FlsAssDom_2>" ++ (records_text x (shares es) ++ bytes "</FlsAssDom_2>")
-  file-parts es = ap (λ (t : List ℕ). bytes "<FlsAssDom_2>" ++ t) (print-before (records_on x (shares es)) (bytes "</FlsAssDom_2>"))
+  pub file_parts : (es : List ℕ) → file_text x es ≡ bytes "<FlsAssDom_2>" ++ (records_text x (shares es) ++ bytes "</FlsAssDom_2>")
+  file_parts es = ap (λ (t : List ℕ). bytes "<FlsAssDom_2>" ++ t) (print_before (records_on x (shares es)) (bytes "</FlsAssDom_2>"))

@@ -14,15 +14,15 @@ use Rattle.register.specs.Layout.{row_at, cases_held, events_held}
 use Rattle.home_care.specs.Row.{siad, event_number_in}
 use Rattle.soundness.specs.Sound.{is_sound}
 use Rattle.soundness.specs.Finding.{Found, texts_allowed, found}
-use Rattle.soundness.proofs.Deciding.{sound-told}
+use Rattle.soundness.proofs.Deciding.{sound_told}
 use Rattle.soundness.proofs.FindAnswers.{unsound, nowhere}
 use Rattle.judge.specs.CaseRows.{OfCase}
 use Rattle.cancellation.specs.Chosen.{those, dated_in, chosen}
 use Rattle.cancellation.specs.FileText.{CaseTexts}
 use Rattle.cancellation.specs.CancelFile.{Written, case_told, unwritten, of_chosen, of_found, cancel_file, CancelTold}
 use Rattle.cancellation.specs.View.{RowsIn, chosen_in}
-use Rattle.cancellation.proofs.CaseFields.{texts-told}
-use Rattle.cancellation.proofs.WriteWays.{says-as, says-unwritten, Sized}
+use Rattle.cancellation.proofs.CaseFields.{texts_told}
+use Rattle.cancellation.proofs.WriteWays.{says_as, says_unwritten, Sized}
 
 -- ---- finding the case
 
@@ -35,17 +35,17 @@ module _ (reg : List ℕ) (x : CaseTexts) where
 
   module _ (first last : ℕ) (out : List ℕ) where
     -- the register isn't sound
-    pub says-3 : {r long : ℕ} → record { answer = 3; place = 0 } ≡ looked → r ≡ 3 → long ≡ 0 → CancelTold (of_found reg x first last out) r long out
-    says-3 e = says-unwritten out 3 (rw (sym (ap (λ (f : Found). f.answer) e)))
+    pub says_3 : {r long : ℕ} → record { answer = 3; place = 0 } ≡ looked → r ≡ 3 → long ≡ 0 → CancelTold (of_found reg x first last out) r long out
+    says_3 e = says_unwritten out 3 (rw (sym (ap (λ (f : Found). f.answer) e)))
 
     -- no such case stands
-    pub says-30 : {r long : ℕ} → record { answer = 30; place = 0 } ≡ looked → r ≡ 30 → long ≡ 0 → CancelTold (of_found reg x first last out) r long out
-    says-30 e = says-unwritten out 30 (rw (sym (ap (λ (f : Found). f.answer) e)))
+    pub says_30 : {r long : ℕ} → record { answer = 30; place = 0 } ≡ looked → r ≡ 30 → long ≡ 0 → CancelTold (of_found reg x first last out) r long out
+    says_30 e = says_unwritten out 30 (rw (sym (ap (λ (f : Found). f.answer) e)))
 
   -- the case stands: the register is sound, and the texts are allowed
   module _ {place : ℕ} (e : record { answer = 0; place = place } ≡ looked) where
-    pub is-sound : is_sound reg ≡ true
-    is-sound = go (is_sound reg) refl
+    pub is_sound_lem : is_sound reg ≡ true
+    is_sound_lem = go (is_sound reg) refl
       where
         go : (b : Bool) → is_sound reg ≡ b → is_sound reg ≡ true
         go true s = s
@@ -53,39 +53,39 @@ module _ (reg : List ℕ) (x : CaseTexts) where
             let n : ◌≡◌ {A = ℕ} 0 3 = ap (λ (f : Found). f.answer) (e ∙ sym (unsound reg x.region x.asl x.date x.id s)) in
             absurd (omega arith)
 
-    pub are-allowed : allowed ≡ true
-    are-allowed = go allowed refl
+    pub are_allowed : allowed ≡ true
+    are_allowed = go allowed refl
       where
         go : (b : Bool) → allowed ≡ b → allowed ≡ true
         go true t = t
         go false t =
-            let n : ◌≡◌ {A = ℕ} 0 30 = ap (λ (f : Found). f.answer) (e ∙ sym (nowhere reg x.region x.asl x.date x.id is-sound t)) in
+            let n : ◌≡◌ {A = ℕ} 0 30 = ap (λ (f : Found). f.answer) (e ∙ sym (nowhere reg x.region x.asl x.date x.id is_sound_lem t)) in
             absurd (omega arith)
 
     -- the texts have their lengths
-    pub are-sized : Sized x
-    are-sized = let t = texts-told x are-allowed in record { region = t.region-long; asl = t.asl-long; date = t.date-long; id = t.id-long }
+    pub are_sized : Sized x
+    are_sized = let t = texts_told x are_allowed in record { region = t.region_long; asl = t.asl_long; date = t.date_long; id = t.id_long }
 
     -- the register's rows lie within it
     pub rows_inside : (4 ≤ length reg) × (row_at siad (cases_held reg + events_held reg) ≤ length reg)
-    rows_inside = let s = sound-told reg is-sound in let a = s.long in let b = s.few in (a, omega arith)
+    rows_inside = let s = sound_told reg is_sound_lem in let a = s.long in let b = s.few in (a, omega arith)
 
     -- the events that are chosen decide
-    at-0 : (first last : ℕ) (out : List ℕ) → of_found reg x first last out ≡ of_chosen x (chosen reg (case_told x) first last) out
-    at-0 first last out = rw (sym (ap (λ (f : Found). f.answer) e))
+    at_0 : (first last : ℕ) (out : List ℕ) → of_found reg x first last out ≡ of_chosen x (chosen reg (case_told x) first last) out
+    at_0 first last out = rw (sym (ap (λ (f : Found). f.answer) e))
 
     module _ {c lo hi : ℕ} (o : OfCase c reg lo hi) where
       -- the case's rows lie within the register
-      pub case-inside : RowsIn reg lo hi
-      case-inside = let s = sound-told reg is-sound in let b = s.few in record { order = o.mid; inside = o.end; few = omega (arith, o.high) }
+      pub case_inside : RowsIn reg lo hi
+      case_inside = let s = sound_told reg is_sound_lem in let b = s.few in record { order = o.mid; inside = o.end; few = omega (arith, o.high) }
 
       -- what is chosen of the case's rows is chosen of the case
-      pub says-chosen : (first last : ℕ) (out : List ℕ) {r long : ℕ} {after : List ℕ} → c ≡ case_told x →
+      pub says_chosen : (first last : ℕ) (out : List ℕ) {r long : ℕ} {after : List ℕ} → c ≡ case_told x →
           CancelTold (of_chosen x (chosen_in reg first last lo hi) out) r long after → CancelTold (of_found reg x first last out) r long after
-      says-chosen first last out k s =
-          says-as
-          (at-0 first last out ∙ ap (λ (l : List ℕ). of_chosen x l out)
-          (ap (λ (n : ℕ). chosen reg n first last) (sym k) ∙ ap (λ (m : Map ℕ). those (dated_in first last) (map event_number_in m)) (o.are is-sound)))
+      says_chosen first last out k s =
+          says_as
+          (at_0 first last out ∙ ap (λ (l : List ℕ). of_chosen x l out)
+          (ap (λ (n : ℕ). chosen reg n first last) (sym k) ∙ ap (λ (m : Map ℕ). those (dated_in first last) (map event_number_in m)) (o.are is_sound_lem)))
           s
 
 -- ---- the period
@@ -95,20 +95,20 @@ module _ (reg : List ℕ) (x : CaseTexts) (y q : ℕ) (out : List ℕ) where
   of_quarter (quarters.Days a b) = of_found reg x a b out
   of_quarter quarters.Refused = unwritten out 1
 
-  by-period : (p : Bool) → cond (not p) (unwritten out 1) (of_found reg x (first_day y q) (last_day y q) out) ≡
+  by_period : (p : Bool) → cond (not p) (unwritten out 1) (of_found reg x (first_day y q) (last_day y q) out) ≡
       of_quarter (cond p (quarters.Days (first_day y q) (last_day y q)) quarters.Refused)
-  by-period true = refl
-  by-period false = refl
+  by_period true = refl
+  by_period false = refl
 
-  by-quarter : {d : Quarter} → d ≡ quarter_of y q → cancel_file reg x y q out ≡ of_quarter d
+  by_quarter : {d : Quarter} → d ≡ quarter_of y q → cancel_file reg x y q out ≡ of_quarter d
   unfolding cancel_file
-  by-quarter e = by-period (is_period y q) ∙ ap of_quarter (sym e)
+  by_quarter e = by_period (is_period y q) ∙ ap of_quarter (sym e)
 
   -- a period that isn't allowed
-  pub says-1 : {r long : ℕ} → quarters.Refused ≡ quarter_of y q → r ≡ 1 → long ≡ 0 → CancelTold (cancel_file reg x y q out) r long out
-  says-1 e = says-unwritten out 1 (by-quarter e)
+  pub says_1 : {r long : ℕ} → quarters.Refused ≡ quarter_of y q → r ≡ 1 → long ≡ 0 → CancelTold (cancel_file reg x y q out) r long out
+  says_1 e = says_unwritten out 1 (by_quarter e)
 
   -- the quarter's days
-  pub says-found : {a b r long : ℕ} {after : List ℕ} → quarters.Days a b ≡ quarter_of y q → CancelTold (of_found reg x a b out) r long after →
+  pub says_found : {a b r long : ℕ} {after : List ℕ} → quarters.Days a b ≡ quarter_of y q → CancelTold (of_found reg x a b out) r long after →
       CancelTold (cancel_file reg x y q out) r long after
-  says-found e s = says-as (by-quarter e) s
+  says_found e s = says_as (by_quarter e) s

@@ -9,19 +9,19 @@ use Rattle.laws.specs.Lists.{bytes}
 use Rattle.register.specs.State.{from}
 use Rattle.cancellation.specs.FileText.{CaseTexts, events_on, records_on, record_count, share_at, shares, file_text}
 use Rattle.cancellation.specs.View.{events_text, head_text, tail_text, records_text}
-use Rattle.cancellation.proofs.FileTexts.{events-append, one-record, records-append, file-parts}
+use Rattle.cancellation.proofs.FileTexts.{events_append, one_record, records_append, file_parts}
 
 -- the events of some records, one after the other
-shares-joined : (es : List ℕ) (i k : ℕ) → take (128 * suc k) (drop (128 * i) es) ≡ share_at es i ++ take (128 * k) (drop (128 * suc i) es)
-shares-joined es i k =
+shares_joined : (es : List ℕ) (i k : ℕ) → take (128 * suc k) (drop (128 * i) es) ≡ share_at es i ++ take (128 * k) (drop (128 * suc i) es)
+shares_joined es i k =
     let a : 128 * suc k ≡ 128 + 128 * k = omega arith in
     let b : 128 * i + 128 ≡ 128 * suc i = omega arith in
     ap (λ (n : ℕ). take n (drop (128 * i) es)) a ∙ take-add 128 (128 * k) (drop (128 * i) es)
     ∙ ap (λ (l : List ℕ). share_at es i ++ take (128 * k) l) (drop-drop 128 (128 * i) es ∙ ap (λ (n : ℕ). drop n es) b)
 
 -- all of them are in the records
-all-shared : (es : List ℕ) → take (128 * record_count (length es)) (drop (128 * 0) es) ≡ es
-all-shared es = take_all (128 * record_count (length es)) es (omega arith)
+all_shared : (es : List ℕ) → take (128 * record_count (length es)) (drop (128 * 0) es) ≡ es
+all_shared es = take_all (128 * record_count (length es)) es (omega arith)
 
 -- nine texts one after the other
 nine : (a b c d e f g h i : List ℕ) →
@@ -31,39 +31,39 @@ nine a b c d e f g h i = simp length-append
 
 module _ (x : CaseTexts) (region : length x.region ≡ 3) (asl : length x.asl ≡ 3) (date : length x.date ≡ 10) (id : length x.id ≡ 88) where
   -- what stands before a record's events
-  head-long : length (head_text x) ≡ 295
-  head-long =
+  head_long : length (head_text x) ≡ 295
+  head_long =
       nine (bytes "<Assistenza><Trasmissione tipo=\"C\"></Trasmissione><Erogatore><CodiceRegione>") x.region (bytes "</CodiceRegione><CodiceASL>") x.asl
       (bytes "</CodiceASL></Erogatore><Eventi><PresaInCarico data=\"") x.date (bytes "\"><Id_Rec>") x.id (bytes "</Id_Rec></PresaInCarico>")
       ∙ omega arith
 
   -- a record
-  one-long : (es : List ℕ) → length (records_text x (es ∷ [])) ≡ 317 + length (events_text es)
-  one-long es =
-      ap length (one-record x es) ∙ length-append (head_text x) (events_text es ++ tail_text) ∙ omega (arith, head-long, length-append (events_text es) tail_text)
+  one_long : (es : List ℕ) → length (records_text x (es ∷ [])) ≡ 317 + length (events_text es)
+  one_long es =
+      ap length (one_record x es) ∙ length-append (head_text x) (events_text es ++ tail_text) ∙ omega (arith, head_long, length-append (events_text es) tail_text)
 
   -- the records from one on
-  records-long : (es : List ℕ) (i k : ℕ) → length (records_text x (from (share_at es) i k)) ≡ 317 * k + length (events_text (take (128 * k) (drop (128 * i) es)))
+  records_long : (es : List ℕ) (i k : ℕ) → length (records_text x (from (share_at es) i k)) ≡ 317 * k + length (events_text (take (128 * k) (drop (128 * i) es)))
   unfolding from records_on events_on
-  records-long es i zero = refl
-  records-long es i (suc k) =
-      ap length (records-append x (share_at es i ∷ []) (from (share_at es) (suc i) k))
+  records_long es i zero = refl
+  records_long es i (suc k) =
+      ap length (records_append x (share_at es i ∷ []) (from (share_at es) (suc i) k))
       ∙ length-append (records_text x (share_at es i ∷ [])) (records_text x (from (share_at es) (suc i) k))
       ∙ omega (
         arith,
-        one-long (share_at es i),
-        records-long es (suc i) k,
+        one_long (share_at es i),
+        records_long es (suc i) k,
         length-append (events_text (share_at es i)) (events_text (take (128 * k) (drop (128 * suc i) es))),
-        ap length (ap events_text (shares-joined es i k) ∙ events-append (share_at es i) (take (128 * k) (drop (128 * suc i) es))),
+        ap length (ap events_text (shares_joined es i k) ∙ events_append (share_at es i) (take (128 * k) (drop (128 * suc i) es))),
       )
 
   -- the root's tags, so much for each record, and the events' texts
-  pub file-long : (es : List ℕ) → length (file_text x es) ≡ 27 + 317 * record_count (length es) + length (events_text es)
-  file-long es =
-      ap length (file-parts x es) ∙ length-append (bytes "<FlsAssDom_2>") (records_text x (shares es) ++ bytes "</FlsAssDom_2>")
+  pub file_long : (es : List ℕ) → length (file_text x es) ≡ 27 + 317 * record_count (length es) + length (events_text es)
+  file_long es =
+      ap length (file_parts x es) ∙ length-append (bytes "<FlsAssDom_2>") (records_text x (shares es) ++ bytes "</FlsAssDom_2>")
       ∙ omega (
         arith,
         length-append (records_text x (shares es)) (bytes "</FlsAssDom_2>"),
-        records-long es 0 (record_count (length es)),
-        ap (λ (l : List ℕ). length (events_text l)) (all-shared es),
+        records_long es 0 (record_count (length es)),
+        ap (λ (l : List ℕ). length (events_text l)) (all_shared es),
       )

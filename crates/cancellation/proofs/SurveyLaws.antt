@@ -11,8 +11,8 @@ use Rattle.cancellation.specs.Chosen.{dated_in, replaces}
 use Rattle.cancellation.specs.FileText.{events_on}
 use Rattle.cancellation.specs.View.{chosen_in, event_text, events_text, Surveyed, OneMore}
 use Rattle.cancellation.specs.declared.survey.Extent.{Extent}
-use Rattle.cancellation.proofs.ChosenRows.{chosen_none, chosen-next, chosen-skip}
-use Rattle.cancellation.proofs.FileTexts.{events-first}
+use Rattle.cancellation.proofs.ChosenRows.{chosen_none, chosen_next, chosen_skip}
+use Rattle.cancellation.proofs.FileTexts.{events_first}
 
 -- what was surveyed together with the rows from i on gives all
 pub record Surveying (reg : List ℕ) (first last lo hi : ℕ) (s : Extent) (i : ℕ) : Type 0 where
@@ -26,18 +26,18 @@ pub record Surveying (reg : List ℕ) (first last lo hi : ℕ) (s : Extent) (i :
 
 module _ {reg : List ℕ} {first last lo hi : ℕ} where
   -- nothing is surveyed yet
-  pub survey-start : lo ≤ hi → Surveying reg first last lo hi (record { events = 0; bytes = 0; replaced = false }) lo
-  survey-start h =
+  pub survey_start : lo ≤ hi → Surveying reg first last lo hi (record { events = 0; bytes = 0; replaced = false }) lo
+  survey_start h =
       record { low = omega arith; high = h; events = omega arith; bytes = omega arith; replaced = refl; few = omega arith; small = omega arith }
 
   module _ {s : Extent} {i : ℕ} (v : Surveying reg first last lo hi s i) where
     -- an event that is chosen
-    pub survey-with : {e : ℕ} {r : Extent} → i < hi → e ≡ event_at reg i → dated_in first last e ≡ true → OneMore s e r → Surveying reg first last lo hi r (i + 1)
+    pub survey_with : {e : ℕ} {r : Extent} → i < hi → e ≡ event_at reg i → dated_in first last e ≡ true → OneMore s e r → Surveying reg first last lo hi r (i + 1)
     unfolding any
-    survey-with {e} {r} h k d o =
+    survey_with {e} {r} h k d o =
         let n : chosen_in reg first last i hi ≡ e ∷ chosen_in reg first last (i + 1) hi =
-        rw k (chosen-next reg first last i hi h (rw k at d)) in
-        let t = ap length (ap events_text n ∙ events-first e (chosen_in reg first last (i + 1) hi)) in
+        rw k (chosen_next reg first last i hi h (rw k at d)) in
+        let t = ap length (ap events_text n ∙ events_first e (chosen_in reg first last (i + 1) hi)) in
         record {
           low = omega (arith, v.low);
           high = omega arith;
@@ -51,9 +51,9 @@ module _ {reg : List ℕ} {first last lo hi : ℕ} where
         }
 
     -- one that isn't
-    pub survey-skip : {e : ℕ} → i < hi → e ≡ event_at reg i → dated_in first last e ≡ false → Surveying reg first last lo hi s (i + 1)
-    survey-skip {e} h k d =
-        let n : chosen_in reg first last i hi ≡ chosen_in reg first last (i + 1) hi = chosen-skip reg first last i hi h (rw k at d) in
+    pub survey_skip : {e : ℕ} → i < hi → e ≡ event_at reg i → dated_in first last e ≡ false → Surveying reg first last lo hi s (i + 1)
+    survey_skip {e} h k d =
+        let n : chosen_in reg first last i hi ≡ chosen_in reg first last (i + 1) hi = chosen_skip reg first last i hi h (rw k at d) in
         record {
           low = omega (arith, v.low);
           high = omega arith;
@@ -65,9 +65,9 @@ module _ {reg : List ℕ} {first last lo hi : ℕ} where
         }
 
     -- no row is left
-    pub survey-done : hi ≤ i → Surveyed (chosen_in reg first last lo hi) s
+    pub survey_done : hi ≤ i → Surveyed (chosen_in reg first last lo hi) s
     unfolding any events_on
-    survey-done h =
+    survey_done h =
         let n = chosen_none reg first last i hi h in
         record {
           events = omega (arith, v.events, ap length n);

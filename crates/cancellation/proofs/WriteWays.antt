@@ -7,20 +7,20 @@ use native.Mathlib.Omega.{arith}
 use lib.ListN.{length, drop}
 use borrow.Author.Tests.{eq-eqb, ne_eqb, lt-ltb, le-ltb}
 use Rattle.text.specs.Put.{Put}
-use Rattle.text.proofs.PutLaws.{put-starts}
+use Rattle.text.proofs.PutLaws.{put_starts}
 use Rattle.cancellation.specs.FileText.{CaseTexts, record_count, file_text}
 use Rattle.cancellation.specs.CancelFile.{Written, unwritten, of_chosen, CancelTold}
 use Rattle.cancellation.specs.View.{Surveyed}
 use Rattle.cancellation.specs.declared.survey.Extent.{Extent}
-use Rattle.cancellation.proofs.Lengths.{file-long}
+use Rattle.cancellation.proofs.Lengths.{file_long}
 
 -- what is answered is what a definition says
-pub says-as : {v w : Written} {answer long : ℕ} {out : List ℕ} → v ≡ w → CancelTold w answer long out → CancelTold v answer long out
-says-as e s = rw e s
+pub says_as : {v w : Written} {answer long : ℕ} {out : List ℕ} → v ≡ w → CancelTold w answer long out → CancelTold v answer long out
+says_as e s = rw e s
 
 -- it is an answer without a file
-pub says-unwritten : {v : Written} (out : List ℕ) (answer : ℕ) {r long : ℕ} → v ≡ unwritten out answer → r ≡ answer → long ≡ 0 → CancelTold v r long out
-says-unwritten out answer e a l = says-as e (record { answer-is = a; long-is = l; output-is = refl })
+pub says_unwritten : {v : Written} (out : List ℕ) (answer : ℕ) {r long : ℕ} → v ≡ unwritten out answer → r ≡ answer → long ≡ 0 → CancelTold v r long out
+says_unwritten out answer e a l = says_as e (record { answer_is = a; long_is = l; output_is = refl })
 
 -- ---- of the events that are chosen
 
@@ -36,28 +36,28 @@ module _ (x : CaseTexts) (es out : List ℕ) {s : Extent} (v : Surveyed es s) wh
   pub measured : Sized x → 27 + 317 * ((s.events + 127) / 128) + s.bytes ≡ length (file_text x es)
   measured z =
       ap₂ (λ (n k : ℕ). 27 + 317 * record_count n + k) v.events v.bytes
-      ∙ sym (file-long x z.region z.asl z.date z.id es)
+      ∙ sym (file_long x z.region z.asl z.date z.id es)
 
   -- a Rivalutazione with conferma 2 is chosen
-  pub says-31 : {r long : ℕ} → s.replaced ≡ true → r ≡ 31 → long ≡ 0 → CancelTold (of_chosen x es out) r long out
-  says-31 h = says-unwritten out 31 (rw (sym v.replaced ∙ h))
+  pub says_31 : {r long : ℕ} → s.replaced ≡ true → r ≡ 31 → long ≡ 0 → CancelTold (of_chosen x es out) r long out
+  says_31 h = says_unwritten out 31 (rw (sym v.replaced ∙ h))
 
   module _ (h : s.replaced ≡ false) where
     -- no event is chosen
-    pub says-32 : {r long : ℕ} → s.events ≡ 0 → r ≡ 32 → long ≡ 0 → CancelTold (of_chosen x es out) r long out
-    says-32 n = says-unwritten out 32 (rw (sym v.replaced ∙ h, eq-eqb (length es) 0 (omega (arith, v.events))))
+    pub says_32 : {r long : ℕ} → s.events ≡ 0 → r ≡ 32 → long ≡ 0 → CancelTold (of_chosen x es out) r long out
+    says_32 n = says_unwritten out 32 (rw (sym v.replaced ∙ h, eq-eqb (length es) 0 (omega (arith, v.events))))
 
     module _ (some : s.events ≡ 0 → ⊥) where
       -- the file has no room
-      pub says-33 : {r long : ℕ} → length out < length (file_text x es) → r ≡ 33 → long ≡ 0 → CancelTold (of_chosen x es out) r long out
-      says-33 l =
-          says-unwritten out 33
+      pub says_33 : {r long : ℕ} → length out < length (file_text x es) → r ≡ 33 → long ≡ 0 → CancelTold (of_chosen x es out) r long out
+      says_33 l =
+          says_unwritten out 33
           (rw (sym v.replaced ∙ h, ne_eqb (length es) 0 (λ n. some (v.events ∙ n)), lt-ltb (length out) (length (file_text x es)) l))
 
       -- the file was put
-      pub says-0 : {r long : ℕ} {after : List ℕ} → length (file_text x es) ≤ length out → Put 0 (file_text x es) out after r → long ≡ length (file_text x es) →
+      pub says_0 : {r long : ℕ} {after : List ℕ} → length (file_text x es) ≤ length out → Put 0 (file_text x es) out after r → long ≡ length (file_text x es) →
           CancelTold (of_chosen x es out) 0 long after
-      says-0 {r} l p e =
-          let t = put-starts p l in
-          says-as (rw (sym v.replaced ∙ h, ne_eqb (length es) 0 (λ n. some (v.events ∙ n)), le-ltb (length out) (length (file_text x es)) l))
-          (record { answer-is = refl; long-is = e; output-is = t.bytes ∙ ap (λ (n : ℕ). file_text x es ++ drop n out) t.count })
+      says_0 {r} l p e =
+          let t = put_starts p l in
+          says_as (rw (sym v.replaced ∙ h, ne_eqb (length es) 0 (λ n. some (v.events ∙ n)), le-ltb (length out) (length (file_text x es)) l))
+          (record { answer_is = refl; long_is = e; output_is = t.bytes ∙ ap (λ (n : ℕ). file_text x es ++ drop n out) t.count })

@@ -48,6 +48,6 @@ cancel_file reg x year quarter out =
 
 -- the call's answer, the length that it reports and the output that it leaves
 pub record CancelTold (v : Written) (answer long : ℕ) (output : List ℕ) : Type 0 where
-  pub answer-is : answer ≡ v.answer
-  pub long-is : long ≡ v.long
-  pub output-is : output ≡ v.output
+  pub answer_is : answer ≡ v.answer
+  pub long_is : long ≡ v.long
+  pub output_is : output ≡ v.output

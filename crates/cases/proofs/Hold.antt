@@ -16,6 +16,6 @@ use Rattle.register.specs.Sound.{ascending}
 use Rattle.soundness.specs.Sound.{is_sound}
 use Rattle.cases.specs.Table.{holds, cases}
 
-pub cases-hold : all holds cases ≡ true
+pub cases_hold : all holds cases ≡ true
 unfolding all any same some_pair first find any_in all_in put put_all keep twice rows_bytes encode event_numbers event_rows is_sound ascending from row_in packs is_date day_of decimal_after first_of years_to
-cases-hold = refl
+cases_hold = refl

@@ -21,17 +21,17 @@ use Rattle.checks.specs.Flow.{next}
 
 pub data PCase : Type 0 where
   -- a date's number, a text that is no day, a day in a quarter and one out of it
-  is-day : string.String → ℕ → PCase
-  no-day : string.String → PCase
+  is_day : string.String → ℕ → PCase
+  no_day : string.String → PCase
   in-quarter out-of-quarter : ℕ → ℕ → string.String → PCase
   -- two suspensions, by their first and last days
   share apart : string.String → string.String → string.String → string.String → PCase
   -- a prevalente, in a record of either track in which nothing else is wrong
   gives-13 gives-no-13 : string.String → PCase
   -- a zero register of so many bytes is sound, with room for so many rows
-  zero-register : ℕ → ℕ → PCase
+  zero_register : ℕ → ℕ → PCase
   -- region, ASL, day of taking in and Id_Rec, as they are written, and the bytes that the row begins with
-  row-begins : string.String → string.String → string.String → List ℕ → List ℕ → PCase
+  row_begins : string.String → string.String → string.String → List ℕ → List ℕ → PCase
 
 -- the quarter that a call declares, with room for two rows
 abbrev declared : ℕ → ℕ → Context
@@ -88,24 +88,24 @@ abbrev row_of : Key → List ℕ
 row_of key = take 6 (drop 4 (encode siad (4 + row_bytes) (next (admitted key "250") empty)))
 
 abbrev pub holds : PCase → Bool
-holds (is-day t n) = is_date (bytes t) && eqb (day_of (bytes t)) n
-holds (no-day t) = not (is_date (bytes t))
+holds (is_day t n) = is_date (bytes t) && eqb (day_of (bytes t)) n
+holds (no_day t) = not (is_date (bytes t))
 holds (in-quarter y q t) = is_date (bytes t) && not (out_of_quarter (declared y q) (day_of (bytes t)))
 holds (out-of-quarter y q t) = is_date (bytes t) && out_of_quarter (declared y q) (day_of (bytes t))
 holds (share a b c d) = shared a b c d
 holds (apart a b c d) = not (shared a b c d)
 holds (gives-13 p) = same (answered p) (13 ∷ 13 ∷ [])
 holds (gives-no-13 p) = same (answered p) (0 ∷ 0 ∷ [])
-holds (zero-register n r) = is_sound (replicate n 0) && eqb (room siad n) r
-holds (row-begins region asl day id bs) = same (row_of (key_written region asl day id)) bs
+holds (zero_register n r) = is_sound (replicate n 0) && eqb (room siad n) r
+holds (row_begins region asl day id bs) = same (row_of (key_written region asl day id)) bs
 
 abbrev pub cases : List PCase
 cases =
     -- P1: "1900-01-01 is 0, 2099-12-31 is 73,048, 2000-02-29 is 36,583", "1900-02-29 is no day"
-    is-day "1900-01-01" 0 ∷
-    is-day "2099-12-31" 73048 ∷
-    is-day "2000-02-29" 36583 ∷
-    no-day "1900-02-29" ∷
+    is_day "1900-01-01" 0 ∷
+    is_day "2099-12-31" 73048 ∷
+    is_day "2000-02-29" 36583 ∷
+    no_day "1900-02-29" ∷
     -- P2: "2018-06-30 is in quarter 2 of 2018", "2018-07-01 is not"
     in-quarter 2018 2 "2018-06-30" ∷
     out-of-quarter 2018 2 "2018-07-01" ∷
@@ -116,9 +116,9 @@ cases =
     gives-13 "000" ∷
     gives-no-13 "0000" ∷
     -- P5: "a zero register of 4 or of 99 bytes is sound, with room 0", "one of 100 is, with room 1"
-    zero-register 4 0 ∷
-    zero-register 99 0 ∷
-    zero-register 100 1 ∷
+    zero_register 4 0 ∷
+    zero_register 99 0 ∷
+    zero_register 100 1 ∷
     -- P6: "region 010, ASL 101, 2018-05-01, Id_Rec of letters A", "the row begins 0A 62 C1 8A A3 4E"
-    row-begins "010" "101" "2018-05-01" letters (0x0A ∷ 0x62 ∷ 0xC1 ∷ 0x8A ∷ 0xA3 ∷ 0x4E ∷ []) ∷
+    row_begins "010" "101" "2018-05-01" letters (0x0A ∷ 0x62 ∷ 0xC1 ∷ 0x8A ∷ 0xA3 ∷ 0x4E ∷ []) ∷
     []

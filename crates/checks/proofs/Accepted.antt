@@ -9,7 +9,7 @@ use native.Mathlib.Omega.{arith}
 use lib.Dec.{eqb}
 use Rattle.laws.specs.Lists.{all, any}
 use Rattle.model.proofs.ChecksLaws.{clear, only}
-use Rattle.model.proofs.Demands.{flow-demand2, demand3, conserved, discarded, one_or_many}
+use Rattle.model.proofs.Demands.{flow_demand2, demand3, conserved, discarded, one_or_many}
 use Rattle.model.proofs.TransmissionLaws.{sequences}
 use Rattle.model.specs.Map.{is_some, find, has, twice}
 use Rattle.model.specs.Checks.{first}
@@ -64,32 +64,32 @@ module _ (c : Context) where
   not17 s (events h es) e = clear 17 (checks_of c (events h es)) s (numbered (events h es)) e
 
   -- J2: no record's answer is 16
-  pub never-16 : (s : State ℕ ℕ) (r : Record) → (siad_machine c).judge s r ≢ 16
+  pub never_16 : (s : State ℕ ℕ) (r : Record) → (siad_machine c).judge s r ≢ 16
   unfolding machine any
-  never-16 s (admission h a) = only 16 (checks_of c (admission h a)) s (λ z. omega arith) refl
-  never-16 s (events h es) = only 16 (checks_of c (events h es)) s (λ z. omega arith) refl
+  never_16 s (admission h a) = only 16 (checks_of c (admission h a)) s (λ z. omega arith) refl
+  never_16 s (events h es) = only 16 (checks_of c (events h es)) s (λ z. omega arith) refl
 
   -- J1: "0 is acceptance": a record is answered 0 exactly when none of its track's anomalies holds, else the first that holds
-  pub siad-demand2 : Demand2 (checks_of c) (siad_machine c)
-  siad-demand2 = flow-demand2 flow (checks_of c) numbered
+  pub siad_demand2 : Demand2 (checks_of c) (siad_machine c)
+  siad_demand2 = flow_demand2 flow (checks_of c) numbered
 
   -- a discarded record leaves what stands as it was
-  pub siad-discarded : Discarded (siad_machine c)
-  siad-discarded = discarded (siad_machine c)
+  pub siad_discarded : Discarded (siad_machine c)
+  siad_discarded = discarded (siad_machine c)
 
   -- the records of one file or of many (for E12)
-  pub siad-one_or_many : OneOrMany (siad_machine c)
-  siad-one_or_many = one_or_many (siad_machine c)
+  pub siad_one_or_many : OneOrMany (siad_machine c)
+  siad_one_or_many = one_or_many (siad_machine c)
 
   -- K1 and K2, of each file
-  pub siad-conserved : (s : State ℕ ℕ) (rs : List Record) → Good s → Conserved flow (siad_machine c) s rs
-  siad-conserved s rs g = conserved flow (checks_of c) lawful s rs g
+  pub siad_conserved : (s : State ℕ ℕ) (rs : List Record) → Good s → Conserved flow (siad_machine c) s rs
+  siad_conserved s rs g = conserved flow (checks_of c) lawful s rs g
 
   module _ {X : Type 0} (entries : State ℕ ℕ → X → List Record) where
     -- what stands after any history, in one quarter
-    pub siad-demand3 : {B : Type 0} (encode : State ℕ ℕ → B) → Demand3 flow (siad_machine c) entries encode
-    siad-demand3 encode = demand3 flow (checks_of c) lawful entries encode
+    pub siad_demand3 : {B : Type 0} (encode : State ℕ ℕ → B) → Demand3 flow (siad_machine c) entries encode
+    siad_demand3 encode = demand3 flow (checks_of c) lawful entries encode
 
     -- FAR 6.3, section 4.3, and J7: 14 and 15 are exactly the table's refusals
-    pub siad-sequences : Sequences flow (siad_machine c) entries
-    siad-sequences = sequences flow (checks_of c) lawful entries
+    pub siad_sequences : Sequences flow (siad_machine c) entries
+    siad_sequences = sequences flow (checks_of c) lawful entries

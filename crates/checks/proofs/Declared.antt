@@ -1,4 +1,4 @@
--- What the events of an accepted record can have for an end (10): none, or a day of a quarter that can be declared. This is what `old-unsound`
+-- What the events of an accepted record can have for an end (10): none, or a day of a quarter that can be declared. This is what `old_unsound`
 -- (soundness/proofs/OldRegister) asks of an event.
 use Prim.Native.Nat.{ℕ, ◌-◌, ◌*◌, ◌≤◌}
 use mathlib.Core.Path.{◌≡◌, refl, ap, sym, ◌∙◌}
@@ -14,7 +14,7 @@ use Rattle.laws.proofs.Every.{Every}
 use Rattle.codes.specs.CodesAndCharacters.{suspension}
 use Rattle.days.specs.DayNumbers.{day_count, month_of}
 use Rattle.days.specs.Quarters.{is_period, first_day}
-use Rattle.days.proofs.Months.{first-mono}
+use Rattle.days.proofs.Months.{first_mono}
 use Rattle.model.specs.Checks.{first}
 use Rattle.model.specs.Flow.{State}
 use Rattle.model.proofs.ChecksLaws.{clear}
@@ -25,14 +25,14 @@ use Rattle.home_care.specs.Anomalies.{Context, out_of_quarter, day_for}
 use Rattle.home_care.proofs.OldRows.{first_declared, EndsDeclared}
 use Rattle.checks.specs.CheckOrder.{checks_of}
 use Rattle.checks.specs.Readable.{event_readable}
-use Rattle.checks.proofs.RowsAllowed.{number-allowed}
+use Rattle.checks.proofs.RowsAllowed.{number_allowed}
 use Rattle.checks.proofs.Accepted.{numbered}
 
 -- no quarter that can be declared begins earlier
-pub declared-first : (y q : ℕ) → is_period y q ≡ true → first_declared ≤ first_day y q
-declared-first y q h =
+pub declared_first : (y q : ℕ) → is_period y q ≡ true → first_declared ≤ first_day y q
+declared_first y q h =
     let b : 2009 ≤ y = leb-true 2009 y (and_left (leb 2009 y) (leb y 2099) (and_left (leb 2009 y && leb y 2099) _ h)) in
-    let m = first-mono (month_of 2009 1) (month_of y (3 * q - 2)) (omega arith) in
+    let m = first_mono (month_of 2009 1) (month_of y (3 * q - 2)) (omega arith) in
     omega arith
 
 module _ (c : Context) (begins : first_declared ≤ c.first) where
@@ -59,10 +59,10 @@ module _ (c : Context) (begins : first_declared ≤ c.first) where
   each [] w h = tt
   each (e ∷ es) w h =
       let r = and_left (event_readable e) (all event_readable es) w in (
-        one e.event (number-allowed e r) (or_left (out_of_quarter c (day_for e.event)) _ h),
+        one e.event (number_allowed e r) (or_left (out_of_quarter c (day_for e.event)) _ h),
         each es (and_right (event_readable e) (all event_readable es) w) (or_right (out_of_quarter c (day_for e.event)) _ h),
       )
 
-  pub ends-declared : (h : Head) (es : List Said) (s : State ℕ ℕ) → all event_readable es ≡ true → first (checks_of c (events h es)) s ≡ 0 →
+  pub ends_declared : (h : Head) (es : List Said) (s : State ℕ ℕ) → all event_readable es ≡ true → first (checks_of c (events h es)) s ≡ 0 →
       Every (λ e. EndsDeclared (end_of e.event)) es
-  ends-declared h es s w e = each es w (clear 10 (checks_of c (events h es)) s (numbered c (events h es)) e)
+  ends_declared h es s w e = each es w (clear 10 (checks_of c (events h es)) s (numbered c (events h es)) e)

@@ -20,12 +20,12 @@ use Rattle.register.specs.Stored.{Sized}
 use Rattle.home_care.specs.Row.{Event, never, key_bits, char_bits, code_bits, event_bits, siad, key_number, event_number, event_row, end_of}
 use Rattle.home_care.specs.Fits.{KeyFits, EventFits, event_with}
 use Rattle.home_care.specs.Record.{Record, event_numbers}
-use Rattle.home_care.proofs.KeyWords.{key-words, rows_words}
+use Rattle.home_care.proofs.KeyWords.{key_words, rows_words}
 use Rattle.home_care.proofs.OldRows.{EndsDeclared}
-use Rattle.home_care.proofs.ReadBack.{event-sized}
+use Rattle.home_care.proofs.ReadBack.{event_sized}
 use Rattle.checks.specs.Flow.{case_row, event_rows}
 use Rattle.checks.specs.CheckOrder.{siad_machine}
-use Rattle.checks.proofs.Declared.{declared-first, ends-declared}
+use Rattle.checks.proofs.Declared.{declared_first, ends_declared}
 use Rattle.checks.proofs.Worked.{context, key, head, case_said, day, said, send}
 
 -- a nurse, a physiotherapist, a physician
@@ -90,14 +90,14 @@ key_fits =
       id-length = refl;
     }
 
-visit-fits : (code : ℕ) → code < 2 ^ code_bits → EventFits (event_with service (day 10) code never 1 0)
+visit_fits : (code : ℕ) → code < 2 ^ code_bits → EventFits (event_with service (day 10) code never 1 0)
 unfolding first_of
-visit-fits code h = record { kind = omega arith; date = omega arith; code = h; end = omega arith; accesses = omega arith; conferma = omega arith }
+visit_fits code h = record { kind = omega arith; date = omega arith; code = h; end = omega arith; accesses = omega arith; conferma = omega arith }
 
 -- two operators, two keys, by what the records say
-pub two-keys : (row (nurse 10)).key ≡ (row (physio 10)).key → ⊥
-two-keys e =
-    let q : ◌≡◌ {A = ℕ} 2 7 = ((key-words key key (nurse 10) (physio 10) 0 0 key_fits key_fits (visit-fits 2 (omega arith)) (visit-fits 7 (omega arith)) (omega arith) (omega arith)).0 e).own.operator refl in
+pub two_keys : (row (nurse 10)).key ≡ (row (physio 10)).key → ⊥
+two_keys e =
+    let q : ◌≡◌ {A = ℕ} 2 7 = ((key_words key key (nurse 10) (physio 10) 0 0 key_fits key_fits (visit_fits 2 (omega arith)) (visit_fits 7 (omega arith)) (omega arith) (omega arith)).0 e).own.operator refl in
     omega arith
 
 small : key_number key < 2 ^ key_bits
@@ -105,7 +105,7 @@ unfolding packs first_of
 small = ltb-true (key_number key) (2 ^ key_bits) refl
 
 sized : (e : Event) → event_number e < 2 ^ event_bits → Sized stored.events siad (row e)
-sized e h = event-sized (key_number key) (event_number e) 0 h (omega arith) small
+sized e h = event_sized (key_number key) (event_number e) 0 h (omega arith) small
 
 -- two motives, one key, by the rows
 pub one_key : (row (review 1 12)).key ≡ (row (review 2 12)).key
@@ -115,6 +115,6 @@ one_key =
     (refl, record { kind = refl; date = refl; operator = λ h. let z : ◌≡◌ {A = ℕ} 0 1 = h in absurd (omega arith) })
 
 -- the accepted visits have an end as 10 leaves it: none
-pub visits-end : Every (λ e. EndsDeclared (end_of e.event)) (said (nurse 10) ∷ said (physio 10) ∷ [])
+pub visits_end : Every (λ e. EndsDeclared (end_of e.event)) (said (nurse 10) ∷ said (physio 10) ∷ [])
 unfolding first find put keep put_all del_all any_in all_in twice event_rows event_numbers all any same some_pair packs years_to first_of
-visits-end = ends-declared context (declared-first 2018 2 refl) (head "I") (said (nurse 10) ∷ said (physio 10) ∷ []) (standing []) refl refl
+visits_end = ends_declared context (declared_first 2018 2 refl) (head "I") (said (nurse 10) ∷ said (physio 10) ∷ []) (standing []) refl refl

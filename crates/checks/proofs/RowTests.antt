@@ -8,7 +8,7 @@ use lib.Dec.{eqb, ltb}
 use borrow.Author.Tests.{eqb-true, eq-eqb, ltb-true, lt-ltb}
 use Rattle.laws.specs.Lists.{all}
 use Rattle.laws.proofs.Truth.{and_left, and_right, and-false}
-use Rattle.laws.proofs.Every.{and-tell}
+use Rattle.laws.proofs.Every.{and_tell}
 use Rattle.model.specs.Map.{Row, Map, is_some, find, has, put, keep, put_all, del_all}
 use Rattle.model.proofs.MapLaws.{keep_same, keep-keep}
 use Rattle.model.specs.Transmission.{Kind, insert, vary, cancel}
@@ -93,27 +93,27 @@ module _ {F : Type 0} (p : ℕ → Bool) where
   unfolding all
   key-all [] h = refl
   key-all (x ∷ m) h =
-      and-tell (p x.key) (all (λ x. p x.key) m) (h x.key (has_first x m)) (key-all m (λ k g. h k (has_more x m k g)))
+      and_tell (p x.key) (all (λ x. p x.key) m) (h x.key (has_first x m)) (key-all m (λ k g. h k (has_more x m k g)))
 
   -- rows none of whose keys passes
-  pub keep-no : (m : Map F) → ((k : ℕ) → has k m ≡ true → p k ≡ false) → keep p m ≡ []
+  pub keep_no : (m : Map F) → ((k : ℕ) → has k m ≡ true → p k ≡ false) → keep p m ≡ []
   unfolding keep
-  keep-no [] h = refl
-  keep-no (x ∷ m) h = rw (h x.key (has_first x m)) (keep-no m (λ k g. h k (has_more x m k g)))
+  keep_no [] h = refl
+  keep_no (x ∷ m) h = rw (h x.key (has_first x m)) (keep_no m (λ k g. h k (has_more x m k g)))
 
   -- rows all of whose keys pass a second test
-  pub keep-within : (q : ℕ → Bool) (m : Map F) → ((k : ℕ) → p k ≡ true → q k ≡ true) → keep p (keep q m) ≡ keep p m
-  keep-within q m h = keep-keep p q m ∙ keep_same (λ k. q k && p k) p m (λ k. both (p k) (q k) (h k))
+  pub keep_within : (q : ℕ → Bool) (m : Map F) → ((k : ℕ) → p k ≡ true → q k ≡ true) → keep p (keep q m) ≡ keep p m
+  keep_within q m h = keep-keep p q m ∙ keep_same (λ k. q k && p k) p m (λ k. both (p k) (q k) (h k))
     where
       both : (a b : Bool) → (a ≡ true → b ≡ true) → b && a ≡ a
       both true b f = rw (f refl)
       both false b f = and-false b
 
   -- a test of the rows whose keys pass, as one of every row
-  pub kept-all : (q : Row F → Bool) (m : Map F) → all q (keep p m) ≡ all (λ x. not (p x.key) || q x) m
+  pub kept_all : (q : Row F → Bool) (m : Map F) → all q (keep p m) ≡ all (λ x. not (p x.key) || q x) m
   unfolding all keep
-  kept-all q [] = refl
-  kept-all q (x ∷ m) = go (p x.key) (kept-all q m)
+  kept_all q [] = refl
+  kept_all q (x ∷ m) = go (p x.key) (kept_all q m)
     where
       go : (b : Bool) → all q (keep p m) ≡ all (λ x. not (p x.key) || q x) m →
           all q (cond b (x ∷ keep p m) (keep p m)) ≡ (not b || q x) && all (λ x. not (p x.key) || q x) m
@@ -137,14 +137,14 @@ module _ (g : Group) (r : Row ℕ) where
       (ltb-true r.key _ (and_left key_sized _ e), ltb-true r.val _ (and_left val_sized _ v), eqb-true (key_part g siad r.key) r.key (and_right val_sized _ v))
 
   pub row_sized : Sized g siad r → sized ≡ true
-  row_sized f = and-tell key_sized _ (lt-ltb _ _ f.0) (and-tell val_sized _ (lt-ltb _ _ f.1) (eq-eqb _ _ f.2))
+  row_sized f = and_tell key_sized _ (lt-ltb _ _ f.0) (and_tell val_sized _ (lt-ltb _ _ f.1) (eq-eqb _ _ f.2))
 
-pub sized-fits : (g : Group) (m : Map ℕ) → all (sized g) m ≡ true → Fits g siad m
+pub sized_fits : (g : Group) (m : Map ℕ) → all (sized g) m ≡ true → Fits g siad m
 unfolding all Fits
-sized-fits g [] a = tt
-sized-fits g (r ∷ m) a = (sized_row g r (and_left (sized g r) (all (sized g) m) a), sized-fits g m (and_right (sized g r) (all (sized g) m) a))
+sized_fits g [] a = tt
+sized_fits g (r ∷ m) a = (sized_row g r (and_left (sized g r) (all (sized g) m) a), sized_fits g m (and_right (sized g r) (all (sized g) m) a))
 
-pub fits-sized : (g : Group) (m : Map ℕ) → Fits g siad m → all (sized g) m ≡ true
+pub fits_sized : (g : Group) (m : Map ℕ) → Fits g siad m → all (sized g) m ≡ true
 unfolding all Fits
-fits-sized g [] f = refl
-fits-sized g (r ∷ m) f = and-tell (sized g r) (all (sized g) m) (row_sized g r f.0) (fits-sized g m f.1)
+fits_sized g [] f = refl
+fits_sized g (r ∷ m) f = and_tell (sized g r) (all (sized g) m) (row_sized g r f.0) (fits_sized g m f.1)

@@ -15,7 +15,7 @@ use Rattle.model.specs.Checks.{first}
 use Rattle.model.specs.Machine.{run, answers}
 use Rattle.model.specs.Flow.{State, empty, machine}
 use Rattle.model.specs.Log.{sum_of, distinct, at_zeros, accepted_by, events_in, events_out, cases_cancelled, carried_once}
-use Rattle.model.proofs.MachineLaws.{taken-answers}
+use Rattle.model.proofs.MachineLaws.{taken_answers}
 use Rattle.rows.specs.Packing.{packs}
 use Rattle.register.specs.Layout.{case_named}
 use Rattle.register.specs.Sound.{events_of}
@@ -130,13 +130,13 @@ abbrev accepted : List Record
 accepted = accepted_by (siad_machine context) before file
 
 -- each record is accepted, and nothing is left
-pub all-zero : answers (siad_machine context) before file ≡ 0 ∷ 0 ∷ 0 ∷ []
+pub all_zero : answers (siad_machine context) before file ≡ 0 ∷ 0 ∷ 0 ∷ []
 unfolding answers machine first find put keep put_all del_all any_in all_in twice event_rows event_numbers all any same some_pair packs years_to first_of
-all-zero = refl
+all_zero = refl
 
-pub all-accepted : accepted ≡ file
+pub all_accepted : accepted ≡ file
 unfolding at_zeros
-all-accepted = taken-answers (siad_machine context) before file [] ∙ ap (λ (ns : List ℕ). at_zeros (ns ++ []) file) all-zero
+all_accepted = taken_answers (siad_machine context) before file [] ∙ ap (λ (ns : List ℕ). at_zeros (ns ++ []) file) all_zero
 
 pub none_left : run (siad_machine context) before file ≡ empty
 unfolding run machine first find put keep put_all del_all any_in all_in twice event_rows event_numbers all any same some_pair packs years_to first_of
@@ -145,23 +145,23 @@ none_left = refl
 -- the two visits once
 pub once : carried_once flow (case_named siad) before.events accepted ≡ 2
 unfolding sum_of distinct flat_map keep any packs first_of
-once = ap (carried_once flow (case_named siad) before.events) all-accepted
+once = ap (carried_once flow (case_named siad) before.events) all_accepted
 
 -- counted for each cancellation they would be four, and the total wrong
 abbrev each_time : List Record → ℕ
 each_time log = sum_of (λ c. length (events_of siad c before.events)) (flat_map (cases_cancelled flow) log)
 
-pub each-time : each_time accepted ≡ 4
+pub each_time_lem : each_time accepted ≡ 4
 unfolding sum_of flat_map keep packs first_of
-each-time = ap each_time all-accepted
+each_time_lem = ap each_time all_accepted
 
-pub not-each-time :
+pub not_each_time :
     length (run (siad_machine context) before file).events + (sum_of (events_out flow) accepted + each_time accepted) ≡
     length before.events + sum_of (events_in flow) accepted → ⊥
 unfolding sum_of
-not-each-time e =
+not_each_time e =
     let gone : length (run (siad_machine context) before file).events ≡ 0 = ap (λ (s : State ℕ ℕ). length s.events) none_left in
-    let named : sum_of (events_out flow) accepted ≡ 0 = ap (sum_of (events_out flow)) all-accepted in
-    let new : sum_of (events_in flow) accepted ≡ 0 = ap (sum_of (events_in flow)) all-accepted in
-    let four = each-time in
+    let named : sum_of (events_out flow) accepted ≡ 0 = ap (sum_of (events_out flow)) all_accepted in
+    let new : sum_of (events_in flow) accepted ≡ 0 = ap (sum_of (events_in flow)) all_accepted in
+    let four = each_time_lem in
     omega arith

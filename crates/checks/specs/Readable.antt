@@ -16,9 +16,9 @@ pub record KeyReadable (k : Key) : Type 0 where
 -- V3: "3 to 5 characters that a text may hold, then zeros"; six evaluation fields, RischioInfettivo 0 to 2. The birth year is left to 11
 pub record CaseReadable (c : Case) : Type 0 where
   pub prevalente : prevalente_filled c.prevalente ≡ true
-  pub prevalente-fits : Fit (each 7 c.prevalente)
+  pub prevalente_fits : Fit (each 7 c.prevalente)
   pub prevalente-length : length c.prevalente ≡ 5
-  pub scales-fit : Fit (each 2 c.scales)
+  pub scales_fit : Fit (each 2 c.scales)
   pub scales-length : length c.scales ≡ 6
   pub rischio : get_or c.scales 5 0 ≤ 2
 
@@ -41,7 +41,7 @@ event_readable e = ltb e.event (2 ^ event_bits) && (event_allowed (event_in e.ev
 -- an event with conferma 2 has an allowed evaluation, which is never zeros
 pub record Evaluates (e : Said) : Type 0 where
   pub allowed : evaluation_allowed (evaluation_of e.evaluation) ≡ true
-  pub not-zero : e.evaluation ≢ 0
+  pub not_zero : e.evaluation ≢ 0
 
 abbrev pub Readable : Record → Type 0
 Readable (admission h a) = KeyReadable h.key × CaseReadable a.case

@@ -10,11 +10,11 @@ use Rattle.laws.proofs.Truth.{and_left, and_right}
 abbrev agree : Bool → Bool → Bool
 agree a b = cond a b (not b)
 
-agree-is : (a b : Bool) → agree a b ≡ true → a ≡ b
-agree-is true true e = refl
-agree-is true false e = absurd (false≢true e)
-agree-is false true e = absurd (false≢true e)
-agree-is false false e = refl
+agree_is : (a b : Bool) → agree a b ≡ true → a ≡ b
+agree_is true true e = refl
+agree_is true false e = absurd (false≢true e)
+agree_is false true e = absurd (false≢true e)
+agree_is false false e = refl
 
 unfoldable pub agree_below : ℕ → (ℕ → Bool) → (ℕ → Bool) → Bool
 agree_below zero p q = true
@@ -27,4 +27,4 @@ same_test (suc n) p q e b h = go (ltb b n) refl (same_test n p q (and_right (agr
   where
     go : (l : Bool) → ltb b n ≡ l → (b < n → p b ≡ q b) → p b ≡ q b
     go true u r = r (ltb-true b n u)
-    go false u r = let v = ltb-false b n u in let w : n ≡ b = omega arith in rw w at (agree-is (p n) (q n) (and_left (agree (p n) (q n)) (agree_below n p q) e))
+    go false u r = let v = ltb-false b n u in let w : n ≡ b = omega arith in rw w at (agree_is (p n) (q n) (and_left (agree (p n) (q n)) (agree_below n p q) e))

@@ -16,18 +16,18 @@ use Rattle.laws.proofs.Truth.{and_left, and_right}
 use Rattle.codes.specs.Capped.{up_to}
 
 module _ (most : ℕ) where
-  pub up-to-low : (n : ℕ) → n ≤ most → up_to most n ≡ n
-  up-to-low n h = rw (le-leb n most h)
+  pub up_to_low : (n : ℕ) → n ≤ most → up_to most n ≡ n
+  up_to_low n h = rw (le-leb n most h)
 
-  pub up-to-high : (n : ℕ) → most ≤ n → up_to most n ≡ most
-  up-to-high n h = go (leb n most) refl
+  pub up_to_high : (n : ℕ) → most ≤ n → up_to most n ≡ most
+  up_to_high n h = go (leb n most) refl
     where
       go : (b : Bool) → leb n most ≡ b → cond b n most ≡ most
       go true e = let l = leb-true n most e in omega arith
       go false e = refl
 
-  pub up-to-le : (n : ℕ) → up_to most n ≤ most
-  up-to-le n = go (leb n most) refl
+  pub up_to_le : (n : ℕ) → up_to most n ≤ most
+  up_to_le n = go (leb n most) refl
     where
       go : (b : Bool) → leb n most ≡ b → cond b n most ≤ most
       go true e = leb-true n most e
@@ -39,44 +39,44 @@ module _ (most : ℕ) where
     where
       go : (b : Bool) → leb n most ≡ b → up_to most (cond b n most * 10 + d) ≡ up_to most (n * 10 + d)
       go true e = refl
-      go false e = let l = leb-false n most e in up-to-high (most * 10 + d) (omega arith) ∙ sym (up-to-high (n * 10 + d) (omega arith))
+      go false e = let l = leb-false n most e in up_to_high (most * 10 + d) (omega arith) ∙ sym (up_to_high (n * 10 + d) (omega arith))
 
-  up-to-after : (n : ℕ) (l : List ℕ) → up_to most (decimal_after (up_to most n) l) ≡ up_to most (decimal_after n l)
+  up_to_after : (n : ℕ) (l : List ℕ) → up_to most (decimal_after (up_to most n) l) ≡ up_to most (decimal_after n l)
   unfolding decimal_after
-  up-to-after n [] = up-to-low (up_to most n) (up-to-le n)
-  up-to-after n (b ∷ l) =
+  up_to_after n [] = up_to_low (up_to most n) (up_to_le n)
+  up_to_after n (b ∷ l) =
       let d = b - code "0" in
-      sym (up-to-after (up_to most n * 10 + d) l) ∙ ap (λ (k : ℕ). up_to most (decimal_after k l)) (goes_on n d) ∙ up-to-after (n * 10 + d) l
+      sym (up_to_after (up_to most n * 10 + d) l) ∙ ap (λ (k : ℕ). up_to most (decimal_after k l)) (goes_on n d) ∙ up_to_after (n * 10 + d) l
 
   -- a loop over the text x, after i bytes
   module _ (x : List ℕ) (n i : ℕ) where
-    pub digits-on : (d : ℕ) → i < length x → d ≡ get_or x i 0 - code "0"
+    pub digits_on : (d : ℕ) → i < length x → d ≡ get_or x i 0 - code "0"
         → up_to most (decimal_after (up_to most (n * 10 + d)) (drop (i + 1) x)) ≡ up_to most (decimal_after n (drop i x))
     unfolding decimal_after
-    digits-on d h e =
+    digits_on d h e =
         let q : decimal_after n (drop i x) ≡ decimal_after (n * 10 + (get_or x i 0 - code "0")) (drop (i + 1) x) = rw (front x i h) in
-        up-to-after (n * 10 + d) (drop (i + 1) x) ∙ ap (λ (k : ℕ). up_to most (decimal_after (n * 10 + k) (drop (i + 1) x))) e ∙ ap (λ (k : ℕ). up_to most k) (sym q)
+        up_to_after (n * 10 + d) (drop (i + 1) x) ∙ ap (λ (k : ℕ). up_to most (decimal_after (n * 10 + k) (drop (i + 1) x))) e ∙ ap (λ (k : ℕ). up_to most k) (sym q)
 
-    pub digits-over : length x ≤ i → n ≤ most → n ≡ up_to most (decimal_after n (drop i x))
+    pub digits_over : length x ≤ i → n ≤ most → n ≡ up_to most (decimal_after n (drop i x))
     unfolding decimal_after
-    digits-over h k = sym (rw (drop_of_length-le x h) (up-to-low n k))
+    digits_over h k = sym (rw (drop_of_length-le x h) (up_to_low n k))
 
 -- so many digits write a number below that power of ten
-digits-after : (n : ℕ) (t : List ℕ) → all is_digit t ≡ true → decimal_after n t < (n + 1) * 10 ^ length t
+digits_after : (n : ℕ) (t : List ℕ) → all is_digit t ≡ true → decimal_after n t < (n + 1) * 10 ^ length t
 unfolding all decimal_after
-digits-after n [] e = omega arith
-digits-after n (b ∷ t) e =
+digits_after n [] e = omega arith
+digits_after n (b ∷ t) e =
     let d = and_left (is_digit b) (all is_digit t) e in
     let z = leb-true b (code "9") (and_right (leb (code "0") b) (leb b (code "9")) d) in
     let s = b - code "0" in
-    let i = digits-after (n * 10 + (b - code "0")) t (and_right (is_digit b) (all is_digit t) e) in
+    let i = digits_after (n * 10 + (b - code "0")) t (and_right (is_digit b) (all is_digit t) e) in
     let l : n * 10 + (b - code "0") + 1 ≤ n * 10 + 10 = omega arith in
     let m = mul-le-mul_right (10 ^ length t) l in
     rw (pow-suc 10 (length t)) (omega arith)
 
-pub digits-below : (t : List ℕ) → all is_digit t ≡ true → decimal t < 10 ^ length t
-digits-below t e = omega (arith, digits-after 0 t e)
+pub digits_below : (t : List ℕ) → all is_digit t ≡ true → decimal t < 10 ^ length t
+digits_below t e = omega (arith, digits_after 0 t e)
 
 -- at most four digits are the whole number
-pub four-digits : (t : List ℕ) → all is_digit t ≡ true → length t ≤ 4 → up_to 9999 (decimal t) ≡ decimal t
-four-digits t e h = up-to-low 9999 (decimal t) (omega (arith, digits-below t e, pow-le-pow_right {n = 10} (omega arith) h))
+pub four_digits : (t : List ℕ) → all is_digit t ≡ true → length t ≤ 4 → up_to 9999 (decimal t) ≡ decimal t
+four_digits t e h = up_to_low 9999 (decimal t) (omega (arith, digits_below t e, pow-le-pow_right {n = 10} (omega arith) h))

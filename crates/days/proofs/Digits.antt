@@ -14,7 +14,7 @@ use borrow.Author.Tests.{leb-true}
 use Rattle.laws.proofs.Truth.{and_left, and_right}
 use Rattle.laws.specs.Decimal.{is_digit, decimal_after, decimal}
 use Rattle.laws.specs.Lists.{all}
-use Rattle.laws.proofs.Places.{front, all-step, all_end}
+use Rattle.laws.proofs.Places.{front, all_step, all_end}
 
 -- after i digits of w, which write n
 pub record Left (w : List ℕ) (n i : ℕ) : Type 0 where
@@ -22,22 +22,22 @@ pub record Left (w : List ℕ) (n i : ℕ) : Type 0 where
   pub digits : all is_digit w ≡ all is_digit (drop i w)
   pub value : decimal w ≡ decimal_after n (drop i w)
 
-pub left-start : (w : List ℕ) → Left w 0 0
-left-start w = record { within = omega arith; digits = refl; value = refl }
+pub left_start : (w : List ℕ) → Left w 0 0
+left_start w = record { within = omega arith; digits = refl; value = refl }
 
 module _ (w : List ℕ) (n i : ℕ) (l : Left w n i) where
-  pub left-next : (b : ℕ) → i < length w → b ≡ get_or w i 0 → is_digit b ≡ true → Left w (n * 10 + (b - code "0")) (i + 1)
+  pub left_next : (b : ℕ) → i < length w → b ≡ get_or w i 0 → is_digit b ≡ true → Left w (n * 10 + (b - code "0")) (i + 1)
   unfolding decimal_after
-  left-next b h e d =
+  left_next b h e d =
       record {
         within = omega arith;
-        digits = l.digits ∙ all-step is_digit w i h ∙ simp (← e, d);
+        digits = l.digits ∙ all_step is_digit w i h ∙ simp (← e, d);
         value = l.value ∙ rw (front w i h, ← e);
       }
 
-  pub left-bad : (b : ℕ) → i < length w → b ≡ get_or w i 0 → is_digit b ≡ false → 0 ≡ cond (all is_digit w) (decimal w) 0
-  left-bad b h e d =
-      let a : all is_digit w ≡ false = l.digits ∙ all-step is_digit w i h ∙ simp (← e, d) in
+  pub left_bad : (b : ℕ) → i < length w → b ≡ get_or w i 0 → is_digit b ≡ false → 0 ≡ cond (all is_digit w) (decimal w) 0
+  left_bad b h e d =
+      let a : all is_digit w ≡ false = l.digits ∙ all_step is_digit w i h ∙ simp (← e, d) in
       rw a
 
   pub left_end : length w ≤ i → n ≡ cond (all is_digit w) (decimal w) 0
@@ -51,11 +51,11 @@ module _ (w : List ℕ) (n i : ℕ) (l : Left w n i) where
 pub grows : (n d i : ℕ) → n < 10 ^ i → d < 10 → n * 10 + d < 10 ^ (i + 1)
 grows n d i h k = rw (add-one i, pow-suc 10 i) (omega arith)
 
-pub at-most-four : (n i : ℕ) → n < 10 ^ i → i ≤ 4 → n < 10000
-at-most-four n i h k = omega (arith, pow-le-pow_right {n = 10} (omega arith) k)
+pub at_most_four : (n i : ℕ) → n < 10 ^ i → i ≤ 4 → n < 10000
+at_most_four n i h k = omega (arith, pow-le-pow_right {n = 10} (omega arith) k)
 
-pub digit-between : (b : ℕ) → is_digit b ≡ true → (code "0" ≤ b) × (b ≤ code "9")
-digit-between b e = (
+pub digit_between : (b : ℕ) → is_digit b ≡ true → (code "0" ≤ b) × (b ≤ code "9")
+digit_between b e = (
   leb-true (code "0") b (and_left (leb (code "0") b) (leb b (code "9")) e),
   leb-true b (code "9") (and_right (leb (code "0") b) (leb b (code "9")) e),
 )
@@ -72,10 +72,10 @@ module _ (s : List ℕ) (at n : ℕ) (fits : at + n ≤ length s) where
   byte i h = rw (get_or-take, get_or-drop)
 
   pub at_next : (m i : ℕ) → Left word m i → i < n → is_digit (get_or s (at + i) 0) ≡ true → Left word (m * 10 + (get_or s (at + i) 0 - code "0")) (i + 1)
-  at_next m i l h d = left-next word m i l (get_or s (at + i) 0) (omega (arith, long)) (byte i h) d
+  at_next m i l h d = left_next word m i l (get_or s (at + i) 0) (omega (arith, long)) (byte i h) d
 
-  pub at-bad : (m i : ℕ) → Left word m i → i < n → is_digit (get_or s (at + i) 0) ≡ false → 0 ≡ cond (all is_digit word) (decimal word) 0
-  at-bad m i l h d = left-bad word m i l (get_or s (at + i) 0) (omega (arith, long)) (byte i h) d
+  pub at_bad : (m i : ℕ) → Left word m i → i < n → is_digit (get_or s (at + i) 0) ≡ false → 0 ≡ cond (all is_digit word) (decimal word) 0
+  at_bad m i l h d = left_bad word m i l (get_or s (at + i) 0) (omega (arith, long)) (byte i h) d
 
-  pub at-end : (m i : ℕ) → Left word m i → n ≤ i → m ≡ cond (all is_digit word) (decimal word) 0
-  at-end m i l h = left_end word m i l (omega (arith, long))
+  pub at_end_lem : (m i : ℕ) → Left word m i → n ≤ i → m ≡ cond (all is_digit word) (decimal word) 0
+  at_end_lem m i l h = left_end word m i l (omega (arith, long))

@@ -7,8 +7,8 @@ use native.Mathlib.Nat.{zero-add}
 use native.Mathlib.Omega.{arith}
 use lib.ListN.{length, get_or}
 use Rattle.days.specs.DayNumbers.{month_of, first_of, length_of, day_number, day_count}
-use Rattle.days.proofs.Follows.{follows, at_entry, at-end}
-use Rattle.days.proofs.Months.{first_next, first-mono, length-between, month-length, RealDay}
+use Rattle.days.proofs.Follows.{follows, at_entry, at_end_lem}
+use Rattle.days.proofs.Months.{first_next, first_mono, length_between, month_length_lem, RealDay}
 
 unfoldable pub firsts : List ℕ
 firsts =
@@ -30,16 +30,16 @@ pub first_entry : (k : ℕ) → k < 2400 → get_or firsts k 0 ≡ first_of k
 first_entry k h = rw (zero-add k) at (at_entry 0 0 firsts zeroth tested k (omega (arith, long)))
 
 -- 2099 ends with day 73,048
-pub all-days : first_of 2400 ≡ day_count
-all-days = rw (long, zero-add 2400) at (at-end 0 0 firsts zeroth tested)
+pub all_days : first_of 2400 ≡ day_count
+all_days = rw (long, zero-add 2400) at (at_end_lem 0 0 firsts zeroth tested)
 
 -- a day of a month of the table is a day
-pub day-below : (k d : ℕ) → k < 2400 → d < length_of k → first_of k + d < day_count
-day-below k d h l = omega (arith, first_next k, first-mono (k + 1) 2400 (omega arith), all-days)
+pub day_below : (k d : ℕ) → k < 2400 → d < length_of k → first_of k + d < day_count
+day_below k d h l = omega (arith, first_next k, first_mono (k + 1) 2400 (omega arith), all_days)
 
 pub first_below : (k : ℕ) → k < 2400 → first_of k < day_count
-first_below k h = omega (arith, day-below k 0 h (omega (arith, length-between k)))
+first_below k h = omega (arith, day_below k 0 h (omega (arith, length_between k)))
 
 -- a real day has its number
-pub day-found : (y m d : ℕ) → RealDay y m d → day_number y m d < day_count
-day-found y m d r = day-below (month_of y m) (d - 1) (omega arith) (omega (arith, month-length y m r.from r.low r.high))
+pub day_found : (y m d : ℕ) → RealDay y m d → day_number y m d < day_count
+day_found y m d r = day_below (month_of y m) (d - 1) (omega arith) (omega (arith, month_length_lem y m r.from r.low r.high))

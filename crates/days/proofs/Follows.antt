@@ -26,12 +26,12 @@ at_entry k x (y ∷ l) e f (suc i) h =
     let b : x + length_of k ≡ first_of (suc k) = ap (λ (n : ℕ). n + length_of k) e in
     rw a (at_entry (suc k) (x + length_of k) l b (and_right (eqb x y) (follows (suc k) (x + length_of k) l) f) i (omega arith))
 
-pub at-end : (k x : ℕ) (l : List ℕ) → x ≡ first_of k → follows k x l ≡ true → first_of (k + length l) ≡ day_count
+pub at_end_lem : (k x : ℕ) (l : List ℕ) → x ≡ first_of k → follows k x l ≡ true → first_of (k + length l) ≡ day_count
 unfolding first_of
-at-end k x [] e f =
+at_end_lem k x [] e f =
     let a : k + 0 ≡ k = omega arith in
     rw a (sym e ∙ eqb-true x day_count f)
-at-end k x (y ∷ l) e f =
+at_end_lem k x (y ∷ l) e f =
     let a : k + suc (length l) ≡ suc k + length l = omega arith in
     let b : x + length_of k ≡ first_of (suc k) = ap (λ (n : ℕ). n + length_of k) e in
-    rw a (at-end (suc k) (x + length_of k) l b (and_right (eqb x y) (follows (suc k) (x + length_of k) l) f))
+    rw a (at_end_lem (suc k) (x + length_of k) l b (and_right (eqb x y) (follows (suc k) (x + length_of k) l) f))

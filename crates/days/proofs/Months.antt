@@ -9,7 +9,7 @@ use lib.Dec.{leb}
 use lib.ListN.{get_or, get_or-eq_default}
 use borrow.Author.Tests.{leb-true, le-leb}
 use Rattle.laws.specs.Lists.{all}
-use Rattle.laws.proofs.Lists.{all-at}
+use Rattle.laws.proofs.Lists.{all_at}
 use Rattle.laws.proofs.Truth.{and_left, and_right}
 use Rattle.days.specs.DayNumbers.{is_leap, month_length, month_of, length_of, first_of, real_day}
 
@@ -17,52 +17,52 @@ pub first_next : (k : ℕ) → first_of (k + 1) ≡ first_of k + length_of k
 unfolding first_of
 first_next k = rw (add-one k)
 
-pub first-rises : (k n : ℕ) → first_of k ≤ first_of (k + n)
+pub first_rises : (k n : ℕ) → first_of k ≤ first_of (k + n)
 unfolding first_of
-first-rises k zero = let e : k + 0 ≡ k = omega arith in rw e (omega arith)
-first-rises k (suc n) =
+first_rises k zero = let e : k + 0 ≡ k = omega arith in rw e (omega arith)
+first_rises k (suc n) =
     let e : k + suc n ≡ suc (k + n) = omega arith in
-    rw e (omega (arith, first-rises k n))
+    rw e (omega (arith, first_rises k n))
 
-pub first-mono : (j k : ℕ) → j ≤ k → first_of j ≤ first_of k
-first-mono j k h =
+pub first_mono : (j k : ℕ) → j ≤ k → first_of j ≤ first_of k
+first_mono j k h =
     let e : k ≡ j + (k - j) = omega arith in
-    rw e (first-rises j (k - j))
+    rw e (first_rises j (k - j))
 
 -- only February's length depends on the year
-pub not-february : (c d i : ℕ) → (i ≡ 2 → ⊥) → get_or (0 ∷ 31 ∷ c ∷ 31 ∷ 30 ∷ 31 ∷ 30 ∷ 31 ∷ 31 ∷ 30 ∷ 31 ∷ 30 ∷ 31 ∷ []) i 0 ≡ get_or (0 ∷ 31 ∷ d ∷ 31 ∷ 30 ∷ 31 ∷ 30 ∷ 31 ∷ 31 ∷ 30 ∷ 31 ∷ 30 ∷ 31 ∷ []) i 0
-not-february c d zero f = refl
-not-february c d (suc zero) f = refl
-not-february c d (suc (suc zero)) f = absurd (f refl)
-not-february c d (suc (suc (suc i))) f = refl
+pub not_february : (c d i : ℕ) → (i ≡ 2 → ⊥) → get_or (0 ∷ 31 ∷ c ∷ 31 ∷ 30 ∷ 31 ∷ 30 ∷ 31 ∷ 31 ∷ 30 ∷ 31 ∷ 30 ∷ 31 ∷ []) i 0 ≡ get_or (0 ∷ 31 ∷ d ∷ 31 ∷ 30 ∷ 31 ∷ 30 ∷ 31 ∷ 31 ∷ 30 ∷ 31 ∷ 30 ∷ 31 ∷ []) i 0
+not_february c d zero f = refl
+not_february c d (suc zero) f = refl
+not_february c d (suc (suc zero)) f = absurd (f refl)
+not_february c d (suc (suc (suc i))) f = refl
 
-pub past-december : (y m : ℕ) → 12 < m → 0 ≡ month_length y m
-past-december y m h =
+pub past_december : (y m : ℕ) → 12 < m → 0 ≡ month_length y m
+past_december y m h =
     sym (get_or-eq_default (0 ∷ 31 ∷ cond (is_leap y) 29 28 ∷ 31 ∷ 30 ∷ 31 ∷ 30 ∷ 31 ∷ 31 ∷ 30 ∷ 31 ∷ 30 ∷ 31 ∷ []) 0 h)
 
 -- a month has 28 to 31 days
 abbrev usual : ℕ → Bool
 usual n = leb 28 n && leb n 31
 
-lengths-usual : (b : Bool) → all usual (31 ∷ cond b 29 28 ∷ 31 ∷ 30 ∷ 31 ∷ 30 ∷ 31 ∷ 31 ∷ 30 ∷ 31 ∷ 30 ∷ 31 ∷ []) ≡ true
+lengths_usual : (b : Bool) → all usual (31 ∷ cond b 29 28 ∷ 31 ∷ 30 ∷ 31 ∷ 30 ∷ 31 ∷ 31 ∷ 30 ∷ 31 ∷ 30 ∷ 31 ∷ []) ≡ true
 unfolding all
-lengths-usual true = refl
-lengths-usual false = refl
+lengths_usual true = refl
+lengths_usual false = refl
 
-pub month-between : (y m : ℕ) → 1 ≤ m → m ≤ 12 → (28 ≤ month_length y m) × (month_length y m ≤ 31)
-month-between y zero l h = absurd (omega arith)
-month-between y (suc i) l h =
+pub month_between : (y m : ℕ) → 1 ≤ m → m ≤ 12 → (28 ≤ month_length y m) × (month_length y m ≤ 31)
+month_between y zero l h = absurd (omega arith)
+month_between y (suc i) l h =
     let n : ℕ = month_length y (suc i) in
-    let u : usual n ≡ true = all-at usual _ (lengths-usual (is_leap y)) i (omega arith) in
+    let u : usual n ≡ true = all_at usual _ (lengths_usual (is_leap y)) i (omega arith) in
     (leb-true 28 n (and_left (leb 28 n) (leb n 31) u), leb-true n 31 (and_right (leb 28 n) (leb n 31) u))
 
-pub length-between : (k : ℕ) → (28 ≤ length_of k) × (length_of k ≤ 31)
-length-between k = month-between (1900 + k / 12) (k % 12 + 1) (omega arith) (omega arith)
+pub length_between : (k : ℕ) → (28 ≤ length_of k) × (length_of k ≤ 31)
+length_between k = month_between (1900 + k / 12) (k % 12 + 1) (omega arith) (omega arith)
 
 -- month k of all is month m of year y
 module _ (y m : ℕ) (from : 1900 ≤ y) (low : 1 ≤ m) (high : m ≤ 12) where
-  pub month-length : length_of (month_of y m) ≡ month_length y m
-  month-length =
+  pub month_length_lem : length_of (month_of y m) ≡ month_length y m
+  month_length_lem =
       let a : 1900 + (12 * (y - 1900) + (m - 1)) / 12 ≡ y = omega arith in
       let b : (12 * (y - 1900) + (m - 1)) % 12 + 1 ≡ m = omega arith in
       rw (a, b)
@@ -113,8 +113,8 @@ module _ (j : ℕ) where
   feb false = omega arith
 
   -- twelve months, of which only February's length depends on the year
-  pub year-long : first_of (12 * j) + 365 ≤ first_of (12 * (j + 1))
-  year-long =
+  pub year_long : first_of (12 * j) + 365 ≤ first_of (12 * (j + 1))
+  year_long =
       let z : 12 * j ≡ 12 * j + 0 = omega arith in
       let e : 12 * (j + 1) ≡ 12 * j + 12 = omega arith in
       rw e
@@ -137,8 +137,8 @@ module _ (j : ℕ) where
       ))
 
 -- so a year begins 365 days or more after the one before it
-pub years-long : (j : ℕ) → 365 * j ≤ first_of (12 * j)
-years-long zero = omega arith
-years-long (suc j) =
+pub years_long : (j : ℕ) → 365 * j ≤ first_of (12 * j)
+years_long zero = omega arith
+years_long (suc j) =
     let e : 12 * suc j ≡ 12 * (j + 1) = omega arith in
-    rw e (omega (arith, year-long j, years-long j))
+    rw e (omega (arith, year_long j, years_long j))

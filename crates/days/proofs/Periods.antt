@@ -8,7 +8,7 @@ use borrow.Author.Tests.{leb-true}
 use Rattle.laws.proofs.Truth.{and_left, and_right}
 use Rattle.days.specs.DayNumbers.{month_length, real_day}
 use Rattle.days.specs.Quarters.{is_period}
-use Rattle.days.proofs.Months.{is_real, month-between}
+use Rattle.days.proofs.Months.{is_real, month_between}
 
 pub record Period (y q : ℕ) : Type 0 where
   pub from : 2009 ≤ y
@@ -29,14 +29,14 @@ period y q e =
 
 -- a quarter's first and last day are real
 module _ (y q : ℕ) (p : Period y q) where
-  pub first-real : real_day y (3 * q - 2) 1 ≡ true
-  first-real =
-      let b = month-between y (3 * q - 2) (omega arith) (omega arith) in
+  pub first_real : real_day y (3 * q - 2) 1 ≡ true
+  first_real =
+      let b = month_between y (3 * q - 2) (omega arith) (omega arith) in
       is_real y (3 * q - 2) 1
       (record { from = omega arith; to = p.to; low = omega arith; high = omega arith; first = omega arith; last = omega arith })
 
-  pub last-real : real_day y (3 * q) (month_length y (3 * q)) ≡ true
-  last-real =
-      let b = month-between y (3 * q) (omega arith) (omega arith) in
+  pub last_real : real_day y (3 * q) (month_length y (3 * q)) ≡ true
+  last_real =
+      let b = month_between y (3 * q) (omega arith) (omega arith) in
       is_real y (3 * q) (month_length y (3 * q))
       (record { from = omega arith; to = p.to; low = omega arith; high = omega arith; first = omega arith; last = omega arith })

@@ -48,9 +48,9 @@ both true true e = refl
 both true false e = absurd (true≢false e)
 both false b e = absurd (true≢false e)
 
-pub date-short : (s : List ℕ) (at : ℕ) → length s < at + 10 → is_date (take 10 (drop at s)) ≡ false
+pub date_short : (s : List ℕ) (at : ℕ) → length s < at + 10 → is_date (take 10 (drop at s)) ≡ false
 unfolding is_date
-date-short s at h =
+date_short s at h =
     let l : length (take 10 (drop at s)) < 10 = simp (length-take, length-drop) (omega arith) in
     let e : eqb (length (take 10 (drop at s))) 10 ≡ false = ne_eqb (length (take 10 (drop at s))) 10 (λ e. omega arith) in
     rw e
@@ -82,45 +82,45 @@ module _ (s : List ℕ) (at : ℕ) (fits : at + 10 ≤ length s) where
 
   -- the three numbers as the code reads them
   module _ (y m d : ℕ) (ys : y ≡ number (take 4 (drop at s))) (ms : m ≡ number (take 2 (drop (at + 5) s))) (ds : d ≡ number (take 2 (drop (at + 8) s))) where
-    is-date : is_date text ≡ (dashes && real_day y m d)
+    is_date_lem : is_date text ≡ (dashes && real_day y m d)
     unfolding is_date dashes
-    is-date =
+    is_date_lem =
         rw (long, year, part 5 2 (omega arith), part 8 2 (omega arith), dash 4 (omega arith), dash 7 (omega arith), ys, ms, ds)
         (shuffle (decimal (take 4 (drop at s))) (decimal (take 2 (drop (at + 5) s))) (decimal (take 2 (drop (at + 8) s)))
         (all is_digit (take 4 (drop at s))) (all is_digit (take 2 (drop (at + 5) s))) (all is_digit (take 2 (drop (at + 8) s)))
         (eqb (get_or s (at + 4) 0) (code "-")) (eqb (get_or s (at + 7) 0) (code "-")))
 
-    pub date-unreal : real_day y m d ≡ false → is_date text ≡ false
-    date-unreal e = rw (is-date, e) (and-false dashes)
+    pub date_unreal : real_day y m d ≡ false → is_date text ≡ false
+    date_unreal e = rw (is_date_lem, e) (and-false dashes)
 
-    pub date-real : not (eqb (get_or s (at + 4) 0) (code "-")) || not (eqb (get_or s (at + 7) 0) (code "-")) ≡ false → real_day y m d ≡ true → DateIs text y m d
+    pub date_real : not (eqb (get_or s (at + 4) 0) (code "-")) || not (eqb (get_or s (at + 7) 0) (code "-")) ≡ false → real_day y m d ≡ true → DateIs text y m d
     unfolding dashes
-    date-real h e =
+    date_real h e =
         let f =
         told (decimal (take 4 (drop at s))) (decimal (take 2 (drop (at + 5) s))) (decimal (take 2 (drop (at + 8) s)))
         (all is_digit (take 4 (drop at s))) (all is_digit (take 2 (drop (at + 5) s))) (all is_digit (take 2 (drop (at + 8) s))) (rw (ys, ms, ds) at e)
         in
         record {
-          date = rw (is-date, both (eqb (get_or s (at + 4) 0) (code "-")) (eqb (get_or s (at + 7) 0) (code "-")) h, e);
+          date = rw (is_date_lem, both (eqb (get_or s (at + 4) 0) (code "-")) (eqb (get_or s (at + 7) 0) (code "-")) h, e);
           year = rw year (ys ∙ f.0);
           month = rw (part 5 2 (omega arith)) (ms ∙ f.1);
           day = rw (part 8 2 (omega arith)) (ds ∙ f.2);
         }
 
-  pub date-undashed : not (eqb (get_or s (at + 4) 0) (code "-")) || not (eqb (get_or s (at + 7) 0) (code "-")) ≡ true → is_date text ≡ false
+  pub date_undashed : not (eqb (get_or s (at + 4) 0) (code "-")) || not (eqb (get_or s (at + 7) 0) (code "-")) ≡ true → is_date text ≡ false
   unfolding dashes
-  date-undashed h =
-      rw (is-date (number (take 4 (drop at s))) (number (take 2 (drop (at + 5) s))) (number (take 2 (drop (at + 8) s))) refl refl refl, nand (eqb (get_or s (at + 4) 0) (code "-")) (eqb (get_or s (at + 7) 0) (code "-")) h)
+  date_undashed h =
+      rw (is_date_lem (number (take 4 (drop at s))) (number (take 2 (drop (at + 5) s))) (number (take 2 (drop (at + 8) s))) refl refl refl, nand (eqb (get_or s (at + 4) 0) (code "-")) (eqb (get_or s (at + 7) 0) (code "-")) h)
 
 -- the day number, from the parts
-pub parts-real : {w : List ℕ} {y m d : ℕ} → DateIs w y m d → real_day y m d ≡ true
+pub parts_real : {w : List ℕ} {y m d : ℕ} → DateIs w y m d → real_day y m d ≡ true
 unfolding is_date
-parts-real {w} p =
+parts_real {w} p =
     rw (p.year, p.month, p.day) (and_right (has_date_form w) (real_day (decimal (year_text w)) (decimal (month_text w)) (decimal (day_text w))) p.date)
 
-pub parts-dated : (s : List ℕ) (at : ℕ) {y m d : ℕ} → DateIs (take 10 (drop at s)) y m d → dated (day_number y m d) (drop (at + 10) s) ≡ date_at (drop at s)
+pub parts_dated : (s : List ℕ) (at : ℕ) {y m d : ℕ} → DateIs (take 10 (drop at s)) y m d → dated (day_number y m d) (drop (at + 10) s) ≡ date_at (drop at s)
 unfolding date_at day_of
-parts-dated s at p = rw (p.date, drop-drop 10 at s, p.year, p.month, p.day)
+parts_dated s at p = rw (p.date, drop-drop 10 at s, p.year, p.month, p.day)
 
 pub parts_none : (s : List ℕ) (at : ℕ) → is_date (take 10 (drop at s)) ≡ false → undated ≡ date_at (drop at s)
 unfolding date_at

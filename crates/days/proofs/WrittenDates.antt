@@ -11,14 +11,14 @@ use lib.ListN.{length}
 use borrow.Author.Tests.{leb-true, leb-false, le-leb}
 use Rattle.laws.specs.Decimal.{decimal_after}
 use Rattle.laws.specs.Lists.{all}
-use Rattle.laws.proofs.Every.{and-tell}
+use Rattle.laws.proofs.Every.{and_tell}
 use Rattle.text.specs.Spelled.{digit}
-use Rattle.text.proofs.SpelledLaws.{digit-is}
+use Rattle.text.proofs.SpelledLaws.{digit_is}
 use Rattle.days.specs.DayNumbers.{month_of, length_of, first_of, day_number, real_day, day_count}
 use Rattle.days.specs.Dates.{is_date, day_of}
 use Rattle.days.specs.WrittenDates.{months_to, month_in, date_spelled, date_text}
-use Rattle.days.proofs.Months.{first_next, first-mono, length-between, RealDay, is_real}
-use Rattle.days.proofs.Firsts.{all-days}
+use Rattle.days.proofs.Months.{first_next, first_mono, length_between, RealDay, is_real}
+use Rattle.days.proofs.Firsts.{all_days}
 
 -- of the months before `end`, month lo has begun on day n, and month hi, where there is one, has not
 pub record Around (end n lo hi : ℕ) : Type 0 where
@@ -28,10 +28,10 @@ pub record Around (end n lo hi : ℕ) : Type 0 where
   pub later : hi < end → n < first_of hi
 
 -- the month of a day is the last that has begun
-months-around : (k n : ℕ) → Around (k + 1) n (months_to k n) (months_to k n + 1)
+months_around : (k n : ℕ) → Around (k + 1) n (months_to k n) (months_to k n + 1)
 unfolding months_to first_of
-months-around zero n = record { order = omega arith; inside = omega arith; begun = omega arith; later = λ h. absurd (omega arith) }
-months-around (suc k) n = go (leb (first_of (suc k)) n) refl (months-around k n)
+months_around zero n = record { order = omega arith; inside = omega arith; begun = omega arith; later = λ h. absurd (omega arith) }
+months_around (suc k) n = go (leb (first_of (suc k)) n) refl (months_around k n)
   where
     over : (m : ℕ) → Around (k + 1) n m (m + 1) → n < first_of (suc k) → m + 1 < suc k + 1 → n < first_of (m + 1)
     over m a b h = pick (leb (suc m) k) refl
@@ -51,31 +51,31 @@ months-around (suc k) n = go (leb (first_of (suc k)) n) refl (months-around k n)
           later = over (months_to k n) a (leb-false (first_of (suc k)) n e);
         }
 
-pub month-around : (n : ℕ) → Around 2400 n (month_in n) (month_in n + 1)
-month-around n = months-around 2399 n
+pub month_around : (n : ℕ) → Around 2400 n (month_in n) (month_in n + 1)
+month_around n = months_around 2399 n
 
 -- the search for a day's month: where it starts, a step up, a step down, and where it stops
-pub search-month : (n : ℕ) → Around 2400 n 0 2400
+pub search_month : (n : ℕ) → Around 2400 n 0 2400
 unfolding first_of
-search-month n = record { order = omega arith; inside = omega arith; begun = omega arith; later = λ h. absurd (omega arith) }
+search_month n = record { order = omega arith; inside = omega arith; begun = omega arith; later = λ h. absurd (omega arith) }
 
 module _ {end n lo hi : ℕ} (a : Around end n lo hi) where
-  pub search-up : {mid : ℕ} → mid < hi → first_of mid ≤ n → Around end n mid hi
-  search-up h e = record { order = h; inside = a.inside; begun = e; later = a.later }
+  pub search_up : {mid : ℕ} → mid < hi → first_of mid ≤ n → Around end n mid hi
+  search_up h e = record { order = h; inside = a.inside; begun = e; later = a.later }
 
-  pub search-down : {mid : ℕ} → lo < mid → mid < hi → n < first_of mid → Around end n lo mid
-  search-down h l e = record { order = h; inside = omega (arith, a.inside); begun = a.begun; later = λ k. e }
+  pub search_down : {mid : ℕ} → lo < mid → mid < hi → n < first_of mid → Around end n lo mid
+  search_down h l e = record { order = h; inside = omega (arith, a.inside); begun = a.begun; later = λ k. e }
 
   -- two months that stand so are the same
-  never-before : {m : ℕ} → hi ≡ lo + 1 → Around end n m (m + 1) → lo < m → ⊥
-  never-before {m} e b h = omega (arith, a.later (omega (arith, b.inside)), first-mono hi m (omega arith), b.begun)
+  never_before : {m : ℕ} → hi ≡ lo + 1 → Around end n m (m + 1) → lo < m → ⊥
+  never_before {m} e b h = omega (arith, a.later (omega (arith, b.inside)), first_mono hi m (omega arith), b.begun)
 
 -- a day's month has begun
-pub month-begun : (n : ℕ) {k first : ℕ} → k ≡ month_in n → first ≡ first_of k → first ≤ n
-month-begun n e f = rw (f, e) (month-around n).begun
+pub month_begun : (n : ℕ) {k first : ℕ} → k ≡ month_in n → first ≡ first_of k → first ≤ n
+month_begun n e f = rw (f, e) (month_around n).begun
 
-pub search-ends : {n lo hi : ℕ} → Around 2400 n lo hi → hi ≤ lo + 1 → (lo ≡ month_in n) × (lo < 2400)
-search-ends {n} {lo} {hi} a h = (pick (leb (suc lo) (month_in n)) refl (leb (suc (month_in n)) lo) refl, omega (arith, a.order, a.inside))
+pub search_ends : {n lo hi : ℕ} → Around 2400 n lo hi → hi ≤ lo + 1 → (lo ≡ month_in n) × (lo < 2400)
+search_ends {n} {lo} {hi} a h = (pick (leb (suc lo) (month_in n)) refl (leb (suc (month_in n)) lo) refl, omega (arith, a.order, a.inside))
   where
     e : hi ≡ lo + 1
     e = omega (arith, a.order)
@@ -84,57 +84,57 @@ search-ends {n} {lo} {hi} a h = (pick (leb (suc lo) (month_in n)) refl (leb (suc
     o = rw e at a
 
     pick : (s : Bool) → leb (suc lo) (month_in n) ≡ s → (t : Bool) → leb (suc (month_in n)) lo ≡ t → lo ≡ month_in n
-    pick true p t q = absurd (never-before a e (month-around n) (leb-true (suc lo) (month_in n) p))
-    pick false p true q = absurd (never-before (month-around n) refl o (leb-true (suc (month_in n)) lo q))
+    pick true p t q = absurd (never_before a e (month_around n) (leb-true (suc lo) (month_in n) p))
+    pick false p true q = absurd (never_before (month_around n) refl o (leb-true (suc (month_in n)) lo q))
     pick false p false q = omega (arith, leb-false (suc lo) (month_in n) p, leb-false (suc (month_in n)) lo q)
 
 -- what a date's text is read as
 module _ (y m d : ℕ) (ly : y < 10000) (lm : m < 100) (ld : d < 100) where
   -- the number that its digits write
-  year-reads : (((0 * 10 + (48 + y / 1000 % 10 - 48)) * 10 + (48 + y / 100 % 10 - 48)) * 10 + (48 + y / 10 % 10 - 48)) * 10 + (48 + y % 10 - 48) ≡ y
-  year-reads = let a : 0 * 10 + (48 + y / 1000 % 10 - 48) ≡ y / 1000 = omega arith in omega arith
+  year_reads : (((0 * 10 + (48 + y / 1000 % 10 - 48)) * 10 + (48 + y / 100 % 10 - 48)) * 10 + (48 + y / 10 % 10 - 48)) * 10 + (48 + y % 10 - 48) ≡ y
+  year_reads = let a : 0 * 10 + (48 + y / 1000 % 10 - 48) ≡ y / 1000 = omega arith in omega arith
 
-  two-reads : (k : ℕ) → k < 100 → (0 * 10 + (48 + k / 10 % 10 - 48)) * 10 + (48 + k % 10 - 48) ≡ k
-  two-reads k h = omega arith
+  two_reads : (k : ℕ) → k < 100 → (0 * 10 + (48 + k / 10 % 10 - 48)) * 10 + (48 + k % 10 - 48) ≡ k
+  two_reads k h = omega arith
 
-  date-is : is_date (date_spelled y m d) ≡ real_day y m d
+  date_is : is_date (date_spelled y m d) ≡ real_day y m d
   unfolding is_date all decimal_after
-  date-is =
+  date_is =
       simp (
-        digit-is (y / 1000 % 10) (omega arith),
-        digit-is (y / 100 % 10) (omega arith),
-        digit-is (y / 10 % 10) (omega arith),
-        digit-is (y % 10) (omega arith),
-        digit-is (m / 10 % 10) (omega arith),
-        digit-is (m % 10) (omega arith),
-        digit-is (d / 10 % 10) (omega arith),
-        digit-is (d % 10) (omega arith),
-        year-reads,
-        two-reads m lm,
-        two-reads d ld,
+        digit_is (y / 1000 % 10) (omega arith),
+        digit_is (y / 100 % 10) (omega arith),
+        digit_is (y / 10 % 10) (omega arith),
+        digit_is (y % 10) (omega arith),
+        digit_is (m / 10 % 10) (omega arith),
+        digit_is (m % 10) (omega arith),
+        digit_is (d / 10 % 10) (omega arith),
+        digit_is (d % 10) (omega arith),
+        year_reads,
+        two_reads m lm,
+        two_reads d ld,
       )
 
-  date-counts : day_of (date_spelled y m d) ≡ day_number y m d
+  date_counts : day_of (date_spelled y m d) ≡ day_number y m d
   unfolding day_of decimal_after
-  date-counts = simp (year-reads, two-reads m lm, two-reads d ld)
+  date_counts = simp (year_reads, two_reads m lm, two_reads d ld)
 
 -- a day's place in its month
-day-over : (n : ℕ) → n < day_count → n < first_of (month_in n + 1)
-day-over n h = pick (leb (month_in n + 1) 2399) refl
+day_over : (n : ℕ) → n < day_count → n < first_of (month_in n + 1)
+day_over n h = pick (leb (month_in n + 1) 2399) refl
   where
     pick : (t : Bool) → leb (month_in n + 1) 2399 ≡ t → n < first_of (month_in n + 1)
-    pick true e = (month-around n).later (omega (arith, leb-true (month_in n + 1) 2399 e))
+    pick true e = (month_around n).later (omega (arith, leb-true (month_in n + 1) 2399 e))
     pick false e =
-        let x : month_in n + 1 ≡ 2400 = omega (arith, leb-false (month_in n + 1) 2399 e, (month-around n).inside) in
-        rw (x, all-days) h
+        let x : month_in n + 1 ≡ 2400 = omega (arith, leb-false (month_in n + 1) 2399 e, (month_around n).inside) in
+        rw (x, all_days) h
 
 -- A DAY WRITTEN AS A DATE IS READ BACK AS THAT DAY
-pub date-spelled : (n : ℕ) → n < day_count → (is_date (date_text n) ≡ true) × (day_of (date_text n) ≡ n)
+pub date_spelled_lem : (n : ℕ) → n < day_count → (is_date (date_text n) ≡ true) × (day_of (date_text n) ≡ n)
 unfolding date_text
-date-spelled n h =
+date_spelled_lem n h =
     let k : ℕ = month_in n in
-    let i = month-around n in
-    let o : n < first_of k + length_of k = rw (first_next k) at (day-over n h) in
+    let i = month_around n in
+    let o : n < first_of k + length_of k = rw (first_next k) at (day_over n h) in
     let y : ℕ = 1900 + k / 12 in
     let m : ℕ = k % 12 + 1 in
     let d : ℕ = n - first_of k + 1 in
@@ -149,48 +149,48 @@ date-spelled n h =
       last = omega (arith, i.begun, o);
     }
     in
-    let ld : d < 100 = omega (arith, i.begun, o, (length-between k).1) in (
-      date-is y m d (omega (arith, i.inside)) (omega arith) ld ∙ is_real y m d r,
-      date-counts y m d (omega (arith, i.inside)) (omega arith) ld ∙ ap (λ (j : ℕ). first_of j + (d - 1)) same ∙ omega (arith, i.begun),
+    let ld : d < 100 = omega (arith, i.begun, o, (length_between k).1) in (
+      date_is y m d (omega (arith, i.inside)) (omega arith) ld ∙ is_real y m d r,
+      date_counts y m d (omega (arith, i.inside)) (omega arith) ld ∙ ap (λ (j : ℕ). first_of j + (d - 1)) same ∙ omega (arith, i.begun),
     )
 
 -- its text has ten bytes
-pub date-long : (n : ℕ) → length (date_text n) ≡ 10
+pub date_long : (n : ℕ) → length (date_text n) ≡ 10
 unfolding date_text
-date-long n = refl
+date_long n = refl
 
 -- which are digits and dashes: each lies between "-" and "9"
 abbrev pub in_date : ℕ → Bool
 in_date b = leb (code "-") b && leb b (code "9")
 
-digit-plain : (n : ℕ) → n < 10 → in_date (digit n) ≡ true
-digit-plain n h =
-    and-tell (leb (code "-") (digit n)) (leb (digit n) (code "9")) (le-leb (code "-") (digit n) (omega arith)) (le-leb (digit n) (code "9") (omega arith))
+digit_plain : (n : ℕ) → n < 10 → in_date (digit n) ≡ true
+digit_plain n h =
+    and_tell (leb (code "-") (digit n)) (leb (digit n) (code "9")) (le-leb (code "-") (digit n) (omega arith)) (le-leb (digit n) (code "9") (omega arith))
 
-dates-plain : (y m d : ℕ) → all in_date (date_spelled y m d) ≡ true
+dates_plain : (y m d : ℕ) → all in_date (date_spelled y m d) ≡ true
 unfolding all
-dates-plain y m d =
+dates_plain y m d =
     simp (
-      digit-plain (y / 1000 % 10) (omega arith),
-      digit-plain (y / 100 % 10) (omega arith),
-      digit-plain (y / 10 % 10) (omega arith),
-      digit-plain (y % 10) (omega arith),
-      digit-plain (m / 10 % 10) (omega arith),
-      digit-plain (m % 10) (omega arith),
-      digit-plain (d / 10 % 10) (omega arith),
-      digit-plain (d % 10) (omega arith),
+      digit_plain (y / 1000 % 10) (omega arith),
+      digit_plain (y / 100 % 10) (omega arith),
+      digit_plain (y / 10 % 10) (omega arith),
+      digit_plain (y % 10) (omega arith),
+      digit_plain (m / 10 % 10) (omega arith),
+      digit_plain (m % 10) (omega arith),
+      digit_plain (d / 10 % 10) (omega arith),
+      digit_plain (d % 10) (omega arith),
     )
 
-pub date-plain : (n : ℕ) → all in_date (date_text n) ≡ true
+pub date_plain : (n : ℕ) → all in_date (date_text n) ≡ true
 unfolding date_text
-date-plain n = dates-plain (1900 + month_in n / 12) (month_in n % 12 + 1) (n - first_of (month_in n) + 1)
+date_plain n = dates_plain (1900 + month_in n / 12) (month_in n % 12 + 1) (n - first_of (month_in n) + 1)
 
 -- the bytes that the code puts together, each a digit by its unit
-pub put-together : (n : ℕ) {k first a b c d e f g h : ℕ} → k ≡ month_in n → first ≡ first_of k
+pub put_together : (n : ℕ) {k first a b c d e f g h : ℕ} → k ≡ month_in n → first ≡ first_of k
     → a ≡ digit ((1900 + k / 12) / 1000 % 10) → b ≡ digit ((1900 + k / 12) / 100 % 10)
     → c ≡ digit ((1900 + k / 12) / 10 % 10) → d ≡ digit ((1900 + k / 12) / 1 % 10)
     → e ≡ digit ((k % 12 + 1) / 10 % 10) → f ≡ digit ((k % 12 + 1) / 1 % 10)
     → g ≡ digit ((n - first + 1) / 10 % 10) → h ≡ digit ((n - first + 1) / 1 % 10)
     → a ∷ b ∷ c ∷ d ∷ code "-" ∷ e ∷ f ∷ code "-" ∷ g ∷ h ∷ [] ≡ date_text n
 unfolding date_text
-put-together n kn fk a b c d e f g h = simp (a, b, c, d, e, f, g, h, fk, kn, div-one)
+put_together n kn fk a b c d e f g h = simp (a, b, c, d, e, f, g, h, fk, kn, div-one)

@@ -22,26 +22,26 @@ use Rattle.evaluation.specs.View.{StandsAt}
 abbrev answers : Bool → Bool → ℕ → Found
 answers s b q = cond (not s) (record { answer = 3; place = 0 }) (cond b (record { answer = 0; place = q }) (record { answer = 30; place = 0 }))
 
-told-3 : (s b : Bool) (p q : ℕ) → record { answer = 3; place = p } ≡ answers s b q → s ≡ false
-told-3 false b p q e = refl
-told-3 true true p q e = let n : ◌≡◌ {A = ℕ} 3 0 = ap (λ (f : Found). f.answer) e in absurd (omega arith)
-told-3 true false p q e = let n : ◌≡◌ {A = ℕ} 3 30 = ap (λ (f : Found). f.answer) e in absurd (omega arith)
+told_3 : (s b : Bool) (p q : ℕ) → record { answer = 3; place = p } ≡ answers s b q → s ≡ false
+told_3 false b p q e = refl
+told_3 true true p q e = let n : ◌≡◌ {A = ℕ} 3 0 = ap (λ (f : Found). f.answer) e in absurd (omega arith)
+told_3 true false p q e = let n : ◌≡◌ {A = ℕ} 3 30 = ap (λ (f : Found). f.answer) e in absurd (omega arith)
 
-told-30 : (s b : Bool) (p q : ℕ) → record { answer = 30; place = p } ≡ answers s b q → (s ≡ true) × (b ≡ false)
-told-30 false b p q e = let n : ◌≡◌ {A = ℕ} 30 3 = ap (λ (f : Found). f.answer) e in absurd (omega arith)
-told-30 true true p q e = let n : ◌≡◌ {A = ℕ} 30 0 = ap (λ (f : Found). f.answer) e in absurd (omega arith)
-told-30 true false p q e = (refl, refl)
+told_30 : (s b : Bool) (p q : ℕ) → record { answer = 30; place = p } ≡ answers s b q → (s ≡ true) × (b ≡ false)
+told_30 false b p q e = let n : ◌≡◌ {A = ℕ} 30 3 = ap (λ (f : Found). f.answer) e in absurd (omega arith)
+told_30 true true p q e = let n : ◌≡◌ {A = ℕ} 30 0 = ap (λ (f : Found). f.answer) e in absurd (omega arith)
+told_30 true false p q e = (refl, refl)
 
-told-0 : (s b : Bool) (p q : ℕ) → record { answer = 0; place = p } ≡ answers s b q → (s ≡ true) × (b ≡ true) × (p ≡ q)
-told-0 false b p q e = let n : ◌≡◌ {A = ℕ} 0 3 = ap (λ (f : Found). f.answer) e in absurd (omega arith)
-told-0 true true p q e = (refl, refl, ap (λ (f : Found). f.place) e)
-told-0 true false p q e = let n : ◌≡◌ {A = ℕ} 0 30 = ap (λ (f : Found). f.answer) e in absurd (omega arith)
+told_0 : (s b : Bool) (p q : ℕ) → record { answer = 0; place = p } ≡ answers s b q → (s ≡ true) × (b ≡ true) × (p ≡ q)
+told_0 false b p q e = let n : ◌≡◌ {A = ℕ} 0 3 = ap (λ (f : Found). f.answer) e in absurd (omega arith)
+told_0 true true p q e = (refl, refl, ap (λ (f : Found). f.place) e)
+told_0 true false p q e = let n : ◌≡◌ {A = ℕ} 0 30 = ap (λ (f : Found). f.answer) e in absurd (omega arith)
 
 -- a test more changes nothing where the first ones fail
-and-less : (t h r : Bool) → t && h ≡ false → t && (h && r) ≡ false
-and-less true true r e = absurd (true≢false e)
-and-less true false r e = refl
-and-less false h r e = refl
+and_less : (t h r : Bool) → t && h ≡ false → t && (h && r) ≡ false
+and_less true true r e = absurd (true≢false e)
+and_less true false r e = refl
+and_less false h r e = refl
 
 module _ (reg region asl date id day : List ℕ) where
   abbrev case : ℕ
@@ -64,43 +64,43 @@ module _ (reg region asl date id day : List ℕ) where
   says v e a f = (a ∙ ap (λ (w : Evaluated). w.answer) (sym e), f ∙ ap (λ (w : Evaluated). w.fields) (sym e))
 
   -- the register isn't sound
-  pub says-3 : record { answer = 3; place = 0 } ≡ found reg region asl date id → wanted ≡ without 3
+  pub says_3 : record { answer = 3; place = 0 } ≡ found reg region asl date id → wanted ≡ without 3
   unfolding found evaluated
-  says-3 e = rw (told-3 (is_sound reg) (allowed && stands) 0 spot e)
+  says_3 e = rw (told_3 (is_sound reg) (allowed && stands) 0 spot e)
 
   -- no such case stands
-  pub says-30 : record { answer = 30; place = 0 } ≡ found reg region asl date id → wanted ≡ without 30
+  pub says_30 : record { answer = 30; place = 0 } ≡ found reg region asl date id → wanted ≡ without 30
   unfolding found evaluated
-  says-30 e =
-      let t = told-30 (is_sound reg) (allowed && stands) 0 spot e in
-      rw (t.0, and-less allowed stands (is_date day && leb (day_of date) (day_of day)) t.1)
+  says_30 e =
+      let t = told_30 (is_sound reg) (allowed && stands) 0 spot e in
+      rw (t.0, and_less allowed stands (is_date day && leb (day_of date) (day_of day)) t.1)
 
   module _ (place : ℕ) (e : record { answer = 0; place = place } ≡ found reg region asl date id) where
     told : (is_sound reg ≡ true) × (allowed && stands ≡ true) × (place ≡ spot)
     unfolding found
-    told = told-0 (is_sound reg) (allowed && stands) place spot e
+    told = told_0 (is_sound reg) (allowed && stands) place spot e
 
-    pub are-allowed : allowed ≡ true
-    are-allowed = and_left allowed stands told.1
+    pub are_allowed : allowed ≡ true
+    are_allowed = and_left allowed stands told.1
 
-    it-stands : stands ≡ true
-    it-stands = and_right allowed stands told.1
+    it_stands : stands ≡ true
+    it_stands = and_right allowed stands told.1
 
     -- the case of the probe
     pub stands_at : (c : ℕ) → c ≡ case → StandsAt reg c place
-    stands_at c k = rw k (record { sound = told.0; stands = it-stands; there = told.2 })
+    stands_at c k = rw k (record { sound = told.0; stands = it_stands; there = told.2 })
 
     -- the day isn't one
-    pub says-undated : is_date day ≡ false → wanted ≡ without 30
+    pub says_undated : is_date day ≡ false → wanted ≡ without 30
     unfolding evaluated
-    says-undated d = rw (told.0, are-allowed, it-stands, d)
+    says_undated d = rw (told.0, are_allowed, it_stands, d)
 
     -- it is the day n, and the case was taken in on the day t
     module _ (d : is_date day ≡ true) (n t : ℕ) (en : n ≡ day_of day) (et : t ≡ day_of date) where
-      pub says-before : n < t → wanted ≡ without 30
+      pub says_before : n < t → wanted ≡ without 30
       unfolding evaluated
-      says-before l = rw (told.0, are-allowed, it-stands, d, lt-leb (day_of date) (day_of day) (omega arith))
+      says_before l = rw (told.0, are_allowed, it_stands, d, lt-leb (day_of date) (day_of day) (omega arith))
 
-      pub says-fields : (c : ℕ) → c ≡ case → t ≤ n → wanted ≡ record { answer = 0; fields = fields_of (in_force (state_of siad reg) c n) }
+      pub says_fields : (c : ℕ) → c ≡ case → t ≤ n → wanted ≡ record { answer = 0; fields = fields_of (in_force (state_of siad reg) c n) }
       unfolding evaluated
-      says-fields c k l = rw (told.0, are-allowed, it-stands, d, le-leb (day_of date) (day_of day) (omega arith), k, en)
+      says_fields c k l = rw (told.0, are_allowed, it_stands, d, le-leb (day_of date) (day_of day) (omega arith), k, en)

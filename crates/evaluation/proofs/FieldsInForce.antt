@@ -10,23 +10,23 @@ use Rattle.model.specs.Map.{Row, Map, find, last_of}
 use Rattle.rows.specs.Packing.{num}
 use Rattle.register.specs.Layout.{case_rest, row_at, row_in, cases_held, events_held}
 use Rattle.register.specs.State.{split, events_from, state_of}
-use Rattle.register.proofs.Ascending.{asc-told}
-use Rattle.register.proofs.States.{room-holds}
+use Rattle.register.proofs.Ascending.{asc_told}
+use Rattle.register.proofs.States.{room_holds}
 use Rattle.home_care.specs.Row.{row_bytes, siad}
 use Rattle.home_care.specs.EventRows.{Climbs}
 use Rattle.soundness.specs.Sound.{is_sound}
-use Rattle.soundness.proofs.Deciding.{sound-told}
+use Rattle.soundness.proofs.Deciding.{sound_told}
 use Rattle.evaluation.specs.InForce.{in_force_by, last_else, own_in, in_force, fields_of}
 use Rattle.judge.specs.CaseRows.{OfCase}
 use Rattle.evaluation.specs.View.{event_row_at, LastKept, StandsAt}
 use Rattle.evaluation.specs.declared.in_force.Kept.{Kept}
 use Rattle.evaluation.specs.declared.in_force.Kept.TheVariants as found
 use Rattle.evaluation.proofs.FieldsRead.{runs_at, own_scales, own_prevalente, kept_scales, kept_prevalente, own_read, kept_read}
-use Rattle.evaluation.proofs.LastOf.{last_none, last-at, smaller, row-found}
+use Rattle.evaluation.proofs.LastOf.{last_none, last_at, smaller, row_found}
 
 -- a sound register's rows lie within it
 pub rows_inside : (reg : List ℕ) → is_sound reg ≡ true → (4 ≤ length reg) × (row_at siad (cases_held reg + events_held reg) ≤ length reg)
-rows_inside reg h = let s = sound-told reg h in (s.long, (room-holds siad (length reg) (cases_held reg + events_held reg) s.long s.few).1)
+rows_inside reg h = let s = sound_told reg h in (s.long, (room_holds siad (length reg) (cases_held reg + events_held reg) s.long s.few).1)
 
 -- ---- the case's row
 
@@ -38,7 +38,7 @@ module _ (reg : List ℕ) (c place : ℕ) (s : StandsAt reg c place) where
   cases = (state_of siad reg).cases
 
   here : (smaller c cases < cases_held reg) × (find c cases ≡ some (case_row reg (0 + smaller c cases)).val)
-  here = row-found (case_row reg) c 0 0 (cases_held reg) (asc-told cases (sound-told reg s.sound).cases_up) s.stands
+  here = row_found (case_row reg) c 0 0 (cases_held reg) (asc_told cases (sound_told reg s.sound).cases_up) s.stands
 
   pub place_inside : place + row_bytes ≤ length reg
   place_inside = let r = (rows_inside reg s.sound).1 in let h = here.0 in omega (arith, s.there)
@@ -66,21 +66,21 @@ module _ (reg : List ℕ) (c place : ℕ) (s : StandsAt reg c place) where
         at : LastKept reg day lo hi (found.At i)
         at = subst (LastKept reg day lo hi) is last
 
-        pub kept-inside : row_at siad (i + 1) ≤ length reg
-        kept-inside = let a = at.1 in let b = o.end in omega arith
+        pub kept_inside : row_at siad (i + 1) ≤ length reg
+        kept_inside = let a = at.1 in let b = o.end in omega arith
 
-        pub kept-fields : (x row : List ℕ) → row ≡ take row_bytes (drop (row_at siad i) reg) → x ≡ runs_at kept_scales kept_prevalente (num row) → x ≡ fields_of (in_force (state_of siad reg) c day)
+        pub kept_fields : (x row : List ℕ) → row ≡ take row_bytes (drop (row_at siad i) reg) → x ≡ runs_at kept_scales kept_prevalente (num row) → x ≡ fields_of (in_force (state_of siad reg) c day)
         unfolding row_in
-        kept-fields x row r e =
+        kept_fields x row r e =
             let m = o.mid in
             e ∙ ap (λ (b : List ℕ). runs_at kept_scales kept_prevalente (num b)) r ∙ kept_read (row_in siad reg i)
-            ∙ sym (by_rows (last-at (in_force_by day) (event_row_at reg) lo (hi - lo) i at.0 (let h = at.1 in omega arith) at.2 (λ j a b. at.3 j a (omega arith))))
+            ∙ sym (by_rows (last_at (in_force_by day) (event_row_at reg) lo (hi - lo) i at.0 (let h = at.1 in omega arith) at.2 (λ j a b. at.3 j a (omega arith))))
 
       -- none is
-      pub own-fields : k ≡ found.Never → (x row : List ℕ) → row ≡ take (place + row_bytes - place) (drop place reg) → x ≡ runs_at own_scales own_prevalente (num row) →
+      pub own_fields : k ≡ found.Never → (x row : List ℕ) → row ≡ take (place + row_bytes - place) (drop place reg) → x ≡ runs_at own_scales own_prevalente (num row) →
           x ≡ fields_of (in_force (state_of siad reg) c day)
       unfolding row_in
-      own-fields is x row r e =
+      own_fields is x row r e =
           let m = o.mid in
           let n : LastKept reg day lo hi found.Never = subst (LastKept reg day lo hi) is last in
           let w : place + row_bytes - place ≡ row_bytes = omega arith in

@@ -13,7 +13,7 @@ use Rattle.register.specs.State.{split, split_by}
 use Rattle.register.specs.Stored.{events}
 use Rattle.register.proofs.MixedKeys.{number_of}
 use Rattle.home_care.specs.Row.{row_bytes, char_bits, scale_bits, key_bits, case_bits, event_bits, evaluation_bits, birth_bits, case_widths, evaluation_widths, siad, own_evaluation, case_in, evaluation_of, evaluation_in, case_zeros_wide, tail_bits, zero_bits}
-use Rattle.home_care.proofs.RowFields.{unpacks-append, unpacks-low, prevalente-in}
+use Rattle.home_care.proofs.RowFields.{unpacks_append, unpacks_low, prevalente_in}
 use Rattle.evaluation.specs.InForce.{fields_of, field_count}
 
 -- ---- two parts of the fields, filled one after the other
@@ -22,8 +22,8 @@ drop_all : (l : List ℕ) (n : ℕ) → length l ≡ n → drop n l ≡ []
 drop_all l n e = ap (drop n) (sym (append-nil l)) ∙ drop_at l [] n e
 
 -- a is put over the first k, then b over the others
-parts-put : (k : ℕ) (f a b : List ℕ) → length a ≡ k → length b ≡ length f - k → put_mid k (length (a ++ drop k f) - k) (a ++ drop k f) b ≡ a ++ b
-parts-put k f a b ea eb =
+parts_put : (k : ℕ) (f a b : List ℕ) → length a ≡ k → length b ≡ length f - k → put_mid k (length (a ++ drop k f) - k) (a ++ drop k f) b ≡ a ++ b
+parts_put k f a b ea eb =
     let la : length (a ++ drop k f) ≡ k + (length f - k) = length-append a (drop k f) ∙ ap₂ ◌+◌ ea (length-drop k f) in
     let n : length (drop k f) ≡ length (a ++ drop k f) - k = omega (arith, length-drop k f) in
     ap₂ (λ (x y : List ℕ). x ++ (b ++ y)) (take_at a (drop k f) k ea)
@@ -31,18 +31,18 @@ parts-put k f a b ea eb =
     ∙ ap (λ (l : List ℕ). a ++ l) (append-nil b)
 
 -- how many the code lends
-pub first-six : (f : List ℕ) → length f ≡ field_count → length (take 6 f) ≡ 6
-first-six f h = length-take-le 6 f (omega arith)
+pub first_six : (f : List ℕ) → length f ≡ field_count → length (take 6 f) ≡ 6
+first_six f h = length-take-le 6 f (omega arith)
 
-last-five : (f a : List ℕ) → length f ≡ field_count → length a ≡ 6 → length (take (length (a ++ drop 6 f) - 6) (drop 6 (a ++ drop 6 f))) ≡ 5
-last-five f a h e =
+last_five : (f a : List ℕ) → length f ≡ field_count → length a ≡ 6 → length (take (length (a ++ drop 6 f) - 6) (drop 6 (a ++ drop 6 f))) ≡ 5
+last_five f a h e =
     let l : length (a ++ drop 6 f) ≡ field_count = length-append a (drop 6 f) ∙ omega (arith, length-drop 6 f) in
     let m : length (drop 6 (a ++ drop 6 f)) ≡ 5 = length-drop 6 (a ++ drop 6 f) ∙ omega arith in
     ap length (take_all (length (a ++ drop 6 f) - 6) (drop 6 (a ++ drop 6 f)) (omega arith)) ∙ m
 
 -- as many fields of w bits, of the row with the number n
-run-read : (size at w n k m : ℕ) (l : List ℕ) → k ≡ m → l ≡ each_at (size - (at + w * k)) k w n → l ≡ each_at (size - (at + w * m)) m w n
-run-read size at w n k m l e h = h ∙ ap (λ (j : ℕ). each_at (size - (at + w * j)) j w n) e
+run_read : (size at w n k m : ℕ) (l : List ℕ) → k ≡ m → l ≡ each_at (size - (at + w * k)) k w n → l ≡ each_at (size - (at + w * m)) m w n
+run_read size at w n k m l e h = h ∙ ap (λ (j : ℕ). each_at (size - (at + w * j)) j w n) e
 
 -- what is read so: six scales from one place of the row with the number n, five characters from another
 abbrev pub runs_at : ℕ → ℕ → ℕ → List ℕ
@@ -51,25 +51,25 @@ runs_at s p n = each_at (8 * row_bytes - (s + scale_bits * 6)) 6 scale_bits n ++
 module _ (row : List ℕ) (long : length row ≡ row_bytes) (s p : ℕ) (f a b : List ℕ) (eleven : length f ≡ field_count)
     (first : a ≡ each_at (8 * length row - (s + scale_bits * length (take 6 f))) (length (take 6 f)) scale_bits (num row)) where
   first_run : a ≡ each_at (8 * row_bytes - (s + scale_bits * 6)) 6 scale_bits (num row)
-  first_run = run-read (8 * row_bytes) s scale_bits (num row) _ 6 a (first-six f eleven) (rw long at first)
+  first_run = run_read (8 * row_bytes) s scale_bits (num row) _ 6 a (first_six f eleven) (rw long at first)
 
-  first-long : length a ≡ 6
-  first-long = ap length first_run
+  first_long : length a ≡ 6
+  first_long = ap length first_run
 
   pub fields_read :
       b ≡ each_at (8 * length row - (p + char_bits * length (take (length (a ++ drop 6 f) - 6) (drop 6 (a ++ drop 6 f))))) (length (take (length (a ++ drop 6 f) - 6) (drop 6 (a ++ drop 6 f)))) char_bits (num row) →
       put_mid 6 (length (a ++ drop 6 f) - 6) (a ++ drop 6 f) b ≡ runs_at s p (num row)
   fields_read then =
-      let e : b ≡ each_at (8 * row_bytes - (p + char_bits * 5)) 5 char_bits (num row) = run-read (8 * row_bytes) p char_bits (num row) _ 5 b (last-five f a eleven first-long) (rw long at then) in
+      let e : b ≡ each_at (8 * row_bytes - (p + char_bits * 5)) 5 char_bits (num row) = run_read (8 * row_bytes) p char_bits (num row) _ 5 b (last_five f a eleven first_long) (rw long at then) in
       let n : length b ≡ 5 = ap length e in
-      parts-put 6 f a b first-long (omega arith) ∙ ap₂ ◌++◌ first_run e
+      parts_put 6 f a b first_long (omega arith) ∙ ap₂ ◌++◌ first_run e
 
 -- ---- the fields are those of an evaluation
 
 -- a run of a number's last bits, of which more stand above
-run-low : (k w below above n : ℕ) → unpacks (replicate k w) (n % 2 ^ (above + total (replicate k w) + below) / 2 ^ below) ≡ unpacks (replicate k w) (n / 2 ^ below)
-run-low k w below above n =
-    ap (unpacks (replicate k w)) (field n (above + total (replicate k w)) below) ∙ unpacks-low (replicate k w) above (n / 2 ^ below)
+run_low : (k w below above n : ℕ) → unpacks (replicate k w) (n % 2 ^ (above + total (replicate k w) + below) / 2 ^ below) ≡ unpacks (replicate k w) (n / 2 ^ below)
+run_low k w below above n =
+    ap (unpacks (replicate k w)) (field n (above + total (replicate k w)) below) ∙ unpacks_low (replicate k w) above (n / 2 ^ below)
 
 -- where its two runs begin: in a case's row, and behind an event
 abbrev pub own_scales : ℕ
@@ -98,14 +98,14 @@ case_zeros = case_zeros_wide row_bytes
 pub own_read : (n : ℕ) → runs_at own_scales own_prevalente n ≡ fields_of (own_evaluation (case_in (split (case_rest siad) n).val))
 own_read n =
     let cut : ℕ = n % 2 ^ case_rest siad in
-    sym (ap₂ ◌++◌ (run-low 6 scale_bits case_zeros (case_bits - scales_bits) n)
-    (prevalente-in (cut / 2 ^ case_zeros) ∙ ap (unpacks (replicate 5 char_bits)) (shr-shr cut case_zeros scales_bits) ∙ run-low 5 char_bits (case_zeros + scales_bits) birth_bits n))
+    sym (ap₂ ◌++◌ (run_low 6 scale_bits case_zeros (case_bits - scales_bits) n)
+    (prevalente_in (cut / 2 ^ case_zeros) ∙ ap (unpacks (replicate 5 char_bits)) (shr-shr cut case_zeros scales_bits) ∙ run_low 5 char_bits (case_zeros + scales_bits) birth_bits n))
 
 -- the one that an event's row keeps
 pub kept_read : (n : ℕ) → runs_at kept_scales kept_prevalente n ≡ fields_of (evaluation_of (evaluation_in (split_by siad.spare (event_rest siad) n)))
 kept_read n =
     let cut : ℕ = n % 2 ^ tail_bits in
     sym (ap (λ (m : ℕ). unpacks evaluation_widths (m % 2 ^ tail_bits / 2 ^ zero_bits)) (number_of events siad n)
-    ∙ unpacks-append (replicate 6 scale_bits) (replicate 5 char_bits) (cut / 2 ^ zero_bits)
-    ∙ ap₂ ◌++◌ (ap (unpacks (replicate 6 scale_bits)) (shr-shr cut zero_bits chars_bits) ∙ run-low 6 scale_bits (zero_bits + chars_bits) 0 n)
-    (run-low 5 char_bits zero_bits (evaluation_bits - chars_bits) n))
+    ∙ unpacks_append (replicate 6 scale_bits) (replicate 5 char_bits) (cut / 2 ^ zero_bits)
+    ∙ ap₂ ◌++◌ (ap (unpacks (replicate 6 scale_bits)) (shr-shr cut zero_bits chars_bits) ∙ run_low 6 scale_bits (zero_bits + chars_bits) 0 n)
+    (run_low 5 char_bits zero_bits (evaluation_bits - chars_bits) n))

@@ -23,9 +23,9 @@ pub none-some : {A : Type 0} (a : A) → none ≡ some a → ⊥
 none-some a e = let z : ◌≡◌ {A = ℕ} 0 1 = cc in omega arith
 
 -- a row that stands is the first, or stands in the rest
-pub first-or : {P : Type 0} (r x : Row ℕ) (m : Map ℕ) → Stands r (x ∷ m) → (r ≡ x → P) → (Stands r m → P) → P
+pub first_or : {P : Type 0} (r x : Row ℕ) (m : Map ℕ) → Stands r (x ∷ m) → (r ≡ x → P) → (Stands r m → P) → P
 unfolding find
-first-or {P} r x m h f g = go (eqb r.key x.key) refl h
+first_or {P} r x m h f g = go (eqb r.key x.key) refl h
   where
     go : (b : Bool) → eqb r.key x.key ≡ b → cond b (some x.val) (find r.key m) ≡ some r.val → P
     go true e h =
@@ -35,24 +35,24 @@ first-or {P} r x m h f g = go (eqb r.key x.key) refl h
     go false e h = g h
 
 -- what holds of every row holds of one that stands
-pub every-stands : (P : Row ℕ → Type 0) (m : Map ℕ) (r : Row ℕ) → Every P m → Stands r m → P r
+pub every_stands : (P : Row ℕ → Type 0) (m : Map ℕ) (r : Row ℕ) → Every P m → Stands r m → P r
 unfolding find
-every-stands P [] r h s = absurd (none-some r.val s)
-every-stands P (x ∷ m) r h s = first-or r x m s (λ e. subst P (sym e) h.0) (λ t. every-stands P m r h.1 t)
+every_stands P [] r h s = absurd (none-some r.val s)
+every_stands P (x ∷ m) r h s = first_or r x m s (λ e. subst P (sym e) h.0) (λ t. every_stands P m r h.1 t)
 
-pub every-keep : (P : Row ℕ → Type 0) (p : ℕ → Bool) (m : Map ℕ) → Every P m → Every P (keep p m)
+pub every_keep : (P : Row ℕ → Type 0) (p : ℕ → Bool) (m : Map ℕ) → Every P m → Every P (keep p m)
 unfolding keep
-every-keep P p [] h = tt
-every-keep P p (x ∷ m) h = go (p x.key) (every-keep P p m h.1)
+every_keep P p [] h = tt
+every_keep P p (x ∷ m) h = go (p x.key) (every_keep P p m h.1)
   where
     go : (b : Bool) → Every P (keep p m) → Every P (cond b (x ∷ keep p m) (keep p m))
     go true k = (h.0, k)
     go false k = k
 
-pub fits-every : (g : Group) (l : Layout) (m : Map ℕ) → Fits g l m → Every (Sized g l) m
+pub fits_every : (g : Group) (l : Layout) (m : Map ℕ) → Fits g l m → Every (Sized g l) m
 unfolding Fits
-fits-every g l [] h = tt
-fits-every g l (x ∷ m) h = (h.0, fits-every g l m h.1)
+fits_every g l [] h = tt
+fits_every g l (x ∷ m) h = (h.0, fits_every g l m h.1)
 
 -- ---- the last that passes
 
@@ -70,10 +70,10 @@ module _ (p : Row ℕ → Bool) where
       go (some r) e b t h ih = absurd (none-some r (sym h))
 
   -- where there is one, it passes, and it is one of them
-  pub some-told : (P : Row ℕ → Type 0) (m : Map ℕ) (r : Row ℕ) → Every P m → last_of p m ≡ some r → P r × (p r ≡ true)
+  pub some_told : (P : Row ℕ → Type 0) (m : Map ℕ) (r : Row ℕ) → Every P m → last_of p m ≡ some r → P r × (p r ≡ true)
   unfolding last_of
-  some-told P [] r h s = absurd (none-some r s)
-  some-told P (x ∷ m) r h s = go (last_of p m) refl (p x) refl s (some-told P m r h.1)
+  some_told P [] r h s = absurd (none-some r s)
+  some_told P (x ∷ m) r h s = go (last_of p m) refl (p x) refl s (some_told P m r h.1)
     where
       go : (o : Option (Row ℕ)) → last_of p m ≡ o → (b : Bool) → p x ≡ b → or_else o (cond b (some x) none) ≡ some r → (last_of p m ≡ some r → P r × (p r ≡ true)) → P r × (p r ≡ true)
       go none e true t s ih = subst (λ (y : Row ℕ). P y × (p y ≡ true)) (some_same x r s) (h.0, t)
@@ -96,7 +96,7 @@ module _ (p : Row ℕ → Bool) where
         record {
           stands = rw (ne_eqb r.key x.key (λ e. omega arith)) g.0.stands;
           passes = g.0.passes;
-          above = λ q t u. first-or q x m t (λ e. let k : q.key ≡ x.key = ap (λ (y : Row ℕ). y.key) e in omega arith) (λ v. g.0.above q v u);
+          above = λ q t u. first_or q x m t (λ e. let k : q.key ≡ x.key = ap (λ (y : Row ℕ). y.key) e in omega arith) (λ v. g.0.above q v u);
         },
         omega arith,
       )
@@ -108,8 +108,8 @@ module _ (p : Row ℕ → Bool) where
               stands = rw (eq-eqb r.key x.key (sym k)) (ap (λ (y : Row ℕ). some y.val) e);
               passes = ap p (sym e) ∙ t;
               above = λ q v u.
-                  first-or q x m v (λ f. let j : q.key ≡ x.key = ap (λ (y : Row ℕ). y.key) f in omega arith)
-                  (λ w. absurd (true≢false (sym u ∙ every-stands (λ y. p y ≡ false) m q n w)));
+                  first_or q x m v (λ f. let j : q.key ≡ x.key = ap (λ (y : Row ℕ). y.key) f in omega arith)
+                  (λ w. absurd (true≢false (sym u ∙ every_stands (λ y. p y ≡ false) m q n w)));
             },
             omega arith,
           )

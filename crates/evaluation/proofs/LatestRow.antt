@@ -21,7 +21,7 @@ use Rattle.home_care.specs.Row.{row_bytes, key_bits, kind_bits, day_bits, event_
 use Rattle.home_care.specs.EventRows.{event_at, Climbs}
 use Rattle.home_care.specs.Fits.{as_event}
 use Rattle.home_care.proofs.EventKeys.{dated}
-use Rattle.home_care.proofs.EventRows.{first-bits, bits-rise}
+use Rattle.home_care.proofs.EventRows.{first_bits, bits_rise}
 use Rattle.evaluation.specs.InForce.{in_force_by}
 use Rattle.evaluation.specs.View.{event_row_at, LastKept}
 use Rattle.evaluation.specs.declared.in_force.Kept.TheVariants as found
@@ -47,25 +47,25 @@ module _ (reg : List ℕ) (day : ℕ) where
   dates = field_in row_bytes key_bits (kind_bits + day_bits) reg
 
   -- the bits that are compared: kind and date
-  dates-are : (k : ℕ) → dates k ≡ dated (event_at reg k)
-  dates-are k = first-bits reg (kind_bits + day_bits) k (omega arith) ∙ front (event_at reg k)
+  dates_are : (k : ℕ) → dates k ≡ dated (event_at reg k)
+  dates_are k = first_bits reg (kind_bits + day_bits) k (omega arith) ∙ front (event_at reg k)
     where
       front : (e : ℕ) → e / 2 ^ (event_bits - (kind_bits + day_bits)) ≡ dated e
       front e = omega arith
 
   -- a row whose bits are greater than the day is of another kind or of a later date
-  too-late : (k : ℕ) → day + 1 ≤ dates k → in_force_by day (event_row_at reg k) ≡ false
-  too-late k h =
+  too_late : (k : ℕ) → day + 1 ≤ dates k → in_force_by day (event_row_at reg k) ≡ false
+  too_late k h =
       let e : ℕ = event_at reg k in
       both_false (evaluates e) _ (λ t.
       let q : kind_of e ≡ revaluation = eqb-true (kind_of e) revaluation (and_left (eqb (kind_of e) revaluation) (eqb (conferma_of e) anew) t) in
-      rw (lt-leb (date_of e) day (omega (arith, dates-are k))) (and-false (not (eqb (evaluation_in (event_row_at reg k)) 0))))
+      rw (lt-leb (date_of e) day (omega (arith, dates_are k))) (and-false (not (eqb (evaluation_in (event_row_at reg k)) 0))))
 
   -- any other is in force where it keeps an evaluation
-  in-time : (k : ℕ) → dates k < day + 1 → in_force_by day (event_row_at reg k) ≡ keeps_one (event_row_at reg k)
-  in-time k h =
+  in_time : (k : ℕ) → dates k < day + 1 → in_force_by day (event_row_at reg k) ≡ keeps_one (event_row_at reg k)
+  in_time k h =
       let e : ℕ = event_at reg k in
-      rw (le-leb (date_of e) day (omega (arith, dates-are k))) (and-true (evaluates e) (not (eqb (evaluation_in (event_row_at reg k)) 0)))
+      rw (le-leb (date_of e) day (omega (arith, dates_are k))) (and-true (evaluates e) (not (eqb (evaluation_in (event_row_at reg k)) 0)))
 
   -- ---- the way down from the first row that is too late
 
@@ -82,13 +82,13 @@ module _ (reg : List ℕ) (day : ℕ) where
         record {
           low = p.low;
           high = p.high;
-          before = λ up. p.under (bits-rise reg lo hi up (kind_bits + day_bits) (omega arith));
-          after = λ up k a b. too-late k (p.over (bits-rise reg lo hi up (kind_bits + day_bits) (omega arith)) k a b);
+          before = λ up. p.under (bits_rise reg lo hi up (kind_bits + day_bits) (omega arith));
+          after = λ up k a b. too_late k (p.over (bits_rise reg lo hi up (kind_bits + day_bits) (omega arith)) k a b);
         }
 
     module _ (i : ℕ) (p : Passed i) (more : lo < i) (kept : Bool) (told : kept ≡ keeps_one (event_row_at reg (i - 1))) where
-      last-is : Climbs reg lo hi → in_force_by day (event_row_at reg (i - 1)) ≡ kept
-      last-is up = in-time (i - 1) (p.before up (i - 1) (omega arith) (omega arith)) ∙ sym told
+      last_is : Climbs reg lo hi → in_force_by day (event_row_at reg (i - 1)) ≡ kept
+      last_is up = in_time (i - 1) (p.before up (i - 1) (omega arith) (omega arith)) ∙ sym told
 
       pub passed_on : kept ≡ false → Passed (i - 1)
       passed_on e =
@@ -101,13 +101,13 @@ module _ (reg : List ℕ) (day : ℕ) where
         where
           go : Climbs reg lo hi → (k : ℕ) → i - 1 ≤ k → k < hi → Tri (i - 1) k → in_force_by day (event_row_at reg k) ≡ false
           go up k a b (below l _ _) = p.after up k (omega arith) b
-          go up k a b (equal l _ _) = ap (λ (j : ℕ). in_force_by day (event_row_at reg j)) (sym l) ∙ last-is up ∙ e
+          go up k a b (equal l _ _) = ap (λ (j : ℕ). in_force_by day (event_row_at reg j)) (sym l) ∙ last_is up ∙ e
           go up k a b (above l _ _) = absurd (omega arith)
 
       pub found_here : kept ≡ true → Climbs reg lo hi → LastKept reg day lo hi (found.At (i - 1))
       found_here e up =
           let h = p.high in
-          (omega arith, omega arith, last-is up ∙ e, λ j a b. p.after up j (omega arith) b)
+          (omega arith, omega arith, last_is up ∙ e, λ j a b. p.after up j (omega arith) b)
 
     pub found_none : {i : ℕ} → Passed i → i ≤ lo → Climbs reg lo hi → LastKept reg day lo hi found.Never
     found_none p l up j a b = p.after up j (omega arith) b

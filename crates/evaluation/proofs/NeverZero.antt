@@ -22,9 +22,9 @@ use Rattle.home_care.specs.Anomalies.{t11}
 use Rattle.home_care.specs.Allowed.{key_allowed, prevalente_filled, prevalente_allowed, evaluation_allowed, case_allowed, case_row_allowed, event_allowed, room_to_evaluate, event_row_allowed}
 use Rattle.soundness.specs.Sound.{is_sound}
 use Rattle.soundness.specs.Finding.{texts_allowed, key_of_texts}
-use Rattle.soundness.proofs.Deciding.{sound-told}
+use Rattle.soundness.proofs.Deciding.{sound_told}
 use Rattle.evaluation.specs.InForce.{in_force_by, own_in, last_else, in_force, fields_of, field_count, Evaluated, without, evaluated}
-use Rattle.evaluation.proofs.Found.{every-stands, every-keep, some-told}
+use Rattle.evaluation.proofs.Found.{every_stands, every_keep, some_told}
 
 -- ---- what is in force is allowed, and has its eleven fields
 
@@ -49,8 +49,8 @@ kept_whole r h n = record { allowed = kept; long = refl; seventh = refl; begins 
         (either (eqb t 0) _ (and_right (event_allowed (event_in e)) _ h))
 
 -- a case's row
-own-whole : (c u : ℕ) → case_row_allowed (record { key = c; val = u }) ≡ true → Whole (own_evaluation (case_in u))
-own-whole c u h = record { allowed = kept; long = refl; seventh = refl; begins = λ e. omega arith }
+own_whole : (c u : ℕ) → case_row_allowed (record { key = c; val = u }) ≡ true → Whole (own_evaluation (case_in u))
+own_whole c u h = record { allowed = kept; long = refl; seventh = refl; begins = λ e. omega arith }
   where
     kept : evaluation_allowed (own_evaluation (case_in u)) ≡ true
     kept = and_right (not (t11 (key_in c) (case_in u))) _ (and_left (case_allowed (key_in c) (case_in u)) (eqb (case_pad u) 0) (and_right (key_allowed (key_in c)) _ h))
@@ -59,22 +59,22 @@ module _ (reg : List ℕ) (h : is_sound reg ≡ true) (c day : ℕ) where
   abbrev rows : Map ℕ
   rows = events_of siad c (state_of siad reg).events
 
-  rows-allowed : Every (λ r. event_row_allowed r ≡ true) rows
-  rows-allowed =
-      every-keep (λ r. event_row_allowed r ≡ true) (λ k. eqb (case_named siad k) c) (state_of siad reg).events
-      (all_told event_row_allowed (state_of siad reg).events (sound-told reg h).event-rows)
+  rows_allowed : Every (λ r. event_row_allowed r ≡ true) rows
+  rows_allowed =
+      every_keep (λ r. event_row_allowed r ≡ true) (λ k. eqb (case_named siad k) c) (state_of siad reg).events
+      (all_told event_row_allowed (state_of siad reg).events (sound_told reg h).event_rows_lem)
 
   pub whole : has c (state_of siad reg).cases ≡ true → Whole (in_force (state_of siad reg) c day)
   whole s = go (find c (state_of siad reg).cases) refl (last_of (in_force_by day) rows) refl
     where
       go : (v : Option ℕ) → find c (state_of siad reg).cases ≡ v → (o : Option (Row ℕ)) → last_of (in_force_by day) rows ≡ o → Whole (last_else (own_in v) o)
       go v f (some r) e =
-          let t = some-told (in_force_by day) (λ q. event_row_allowed q ≡ true) rows r rows-allowed e in
+          let t = some_told (in_force_by day) (λ q. event_row_allowed q ≡ true) rows r rows_allowed e in
           let n = and_left (not (eqb (evaluation_in r) 0)) _ (and_right (evaluates (event_number_in r)) _ t.1) in
           kept_whole r t.0 (eqb-false (evaluation_in r) 0 (not-true (eqb (evaluation_in r) 0) n))
       go (some u) f none e =
-          own-whole c u
-          (every-stands (λ r. case_row_allowed r ≡ true) (state_of siad reg).cases (record { key = c; val = u }) (all_told case_row_allowed (state_of siad reg).cases (sound-told reg h).case_rows) f)
+          own_whole c u
+          (every_stands (λ r. case_row_allowed r ≡ true) (state_of siad reg).cases (record { key = c; val = u }) (all_told case_row_allowed (state_of siad reg).cases (sound_told reg h).case_rows) f)
       go none f none e = absurd (false≢true (sym (ap is_some f) ∙ s))
 
 -- ---- its first character is none that is 0
@@ -86,19 +86,19 @@ first_passes q o a l h =
     let one : (n : ℕ) (b : Bool) → (q a && all q (take n l)) && b ≡ true → q a ≡ true = λ n b e. and_left (q a) _ (and_left (q a && all q (take n l)) b e) in
     ⊎_elim (one 2 _) (λ k. ⊎_elim (one 3 _) (λ j. ⊎_elim (one 4 _) (λ e. absurd (false≢true e)) (either _ _ j)) (either _ _ k)) (either _ _ h)
 
-zero-passes : (q o : ℕ → Bool) (a : ℕ) (l : List ℕ) → any (λ n. all q (take n (a ∷ l)) && all o (drop n (a ∷ l))) (3 ∷ 4 ∷ 5 ∷ []) ≡ true → a ≡ 0 → q 0 ≡ true
-zero-passes q o a l h z = ap q (sym z) ∙ first_passes q o a l h
+zero_passes : (q o : ℕ → Bool) (a : ℕ) (l : List ℕ) → any (λ n. all q (take n (a ∷ l)) && all o (drop n (a ∷ l))) (3 ∷ 4 ∷ 5 ∷ []) ≡ true → a ≡ 0 → q 0 ≡ true
+zero_passes q o a l h z = ap q (sym z) ∙ first_passes q o a l h
 
 -- and 0 does not
-text-first : (a : ℕ) (l : List ℕ) → prevalente_filled (a ∷ l) ≡ true → a ≡ 0 → ⊥
-text-first a l h z = false≢true (zero-passes _ _ a l h z)
+text_first : (a : ℕ) (l : List ℕ) → prevalente_filled (a ∷ l) ≡ true → a ≡ 0 → ⊥
+text_first a l h z = false≢true (zero_passes _ _ a l h z)
 
-pub not-zero : (v : Evaluation) → Whole v → fields_of v ≡ replicate field_count 0 → ⊥
-not-zero v w e = go v.prevalente w.begins (and_left (prevalente_filled v.prevalente) _ (and_left (prevalente_allowed v.prevalente) _ w.allowed)) (sym w.seventh ∙ ap (λ (l : List ℕ). get_or l 6 0) e)
+pub not_zero : (v : Evaluation) → Whole v → fields_of v ≡ replicate field_count 0 → ⊥
+not_zero v w e = go v.prevalente w.begins (and_left (prevalente_filled v.prevalente) _ (and_left (prevalente_allowed v.prevalente) _ w.allowed)) (sym w.seventh ∙ ap (λ (l : List ℕ). get_or l 6 0) e)
   where
     go : (p : List ℕ) → (length p ≡ 0 → ⊥) → prevalente_filled p ≡ true → get_or p 0 0 ≡ 0 → ⊥
     go [] n f z = n refl
-    go (a ∷ l) n f z = text-first a l f z
+    go (a ∷ l) n f z = text_first a l f z
 
 -- ---- the answers
 
@@ -127,19 +127,19 @@ module _ (reg region asl date id day : List ℕ) where
       go true es true et true eh true ed = given (in_force (state_of siad reg) case (day_of day)) (whole reg es case (day_of day) eh) (rw (es, et, eh, ed))
 
   -- N6: "With 3 and with 30 all eleven are 0, which no evaluation is"
-  pub refused-zero : (told.answer ≡ 0 → ⊥) → told.fields ≡ replicate field_count 0
-  refused-zero n = go answered
+  pub refused_zero : (told.answer ≡ 0 → ⊥) → told.fields ≡ replicate field_count 0
+  refused_zero n = go answered
     where
       go : Answered → told.fields ≡ replicate field_count 0
       go (refused a z e) = ap (λ (v : Evaluated). v.fields) e
       go (given v w e) = absurd (n (ap (λ (v : Evaluated). v.answer) e))
 
-  pub never-zero : told.answer ≡ 0 → told.fields ≡ replicate field_count 0 → ⊥
-  never-zero a f = go answered
+  pub never_zero : told.answer ≡ 0 → told.fields ≡ replicate field_count 0 → ⊥
+  never_zero a f = go answered
     where
       go : Answered → ⊥
       go (refused n z e) = z (sym (ap (λ (v : Evaluated). v.answer) e) ∙ a)
-      go (given v w e) = not-zero v w (sym (ap (λ (v : Evaluated). v.fields) e) ∙ f)
+      go (given v w e) = not_zero v w (sym (ap (λ (v : Evaluated). v.fields) e) ∙ f)
 
   -- there are always eleven
   pub eleven : length told.fields ≡ field_count

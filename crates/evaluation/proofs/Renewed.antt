@@ -65,9 +65,9 @@ unfolding is_sound all any same some_pair row_in from packs first_of years_to as
 sound = (refl, refl)
 
 -- from the taking in on the case's own, from its own day on the other
-pub on-each-day : (asked held "2018-05-01" ≡ first) × (asked held "2018-05-09" ≡ first) × (asked held "2018-05-10" ≡ second) × (asked held "2018-05-11" ≡ second)
+pub on_each_day : (asked held "2018-05-01" ≡ first) × (asked held "2018-05-09" ≡ first) × (asked held "2018-05-10" ≡ second) × (asked held "2018-05-11" ≡ second)
 unfolding evaluated is_date day_of decimal_after is_sound all any same some_pair row_in from packs first_of years_to ascending find keep last_of
-on-each-day = (refl, refl, refl, refl)
+on_each_day = (refl, refl, refl, refl)
 
 -- before the taking in, and on no day
 pub on_none : (asked held "2018-04-30" ≡ without 30) × (asked held "2018-05-32" ≡ without 30)

@@ -10,7 +10,7 @@ use Rattle.evaluation.specs.InForce.{in_force_by}
 -- an event of the case c stands, and passes on that day
 pub record Candidate (s : State ℕ ℕ) (c day : ℕ) (r : Row ℕ) : Type 0 where
   pub stands : find r.key s.events ≡ some r.val
-  pub of-case : case_named siad r.key ≡ c
+  pub of_case : case_named siad r.key ≡ c
   pub passes : in_force_by day r ≡ true
 
 -- N4: "those of the latest Rivalutazione of the case that ..; where there is none, the case's own"

@@ -13,35 +13,35 @@ use Rattle.register.specs.Stored.{events, Sized}
 use Rattle.home_care.specs.Row.{Key, Event, row_bytes, siad, key_number, event_number, event_row, event_number_in, event_in, event_bits, evaluation_bits, own_bits, code_bits, kind_of, code_of, event_key_of}
 use Rattle.home_care.specs.Fits.{KeyFits, EventFits}
 use Rattle.home_care.specs.Keys.{OwnAgree, OneKey}
-use Rattle.home_care.proofs.Laid.{row-width}
-use Rattle.home_care.proofs.Table.{key-injective, event-lt}
-use Rattle.home_care.proofs.EventAllowed.{event-back}
-use Rattle.home_care.proofs.EventKeys.{key-dated, key-code, own-lt, row-parts, narrow}
-use Rattle.home_care.proofs.ReadBack.{event-key}
+use Rattle.home_care.proofs.Laid.{row_width}
+use Rattle.home_care.proofs.Table.{key_injective, event_lt}
+use Rattle.home_care.proofs.EventAllowed.{event_back}
+use Rattle.home_care.proofs.EventKeys.{key_dated, key_code, own_lt, row_parts, narrow}
+use Rattle.home_care.proofs.ReadBack.{event_key}
 
 module _ (a b : ℕ) (ha : a < 2 ^ event_bits) (hb : b < 2 ^ event_bits) where
   same_code : event_key_of a ≡ event_key_of b → kind_of a ≡ service → kind_of b ≡ service → code_of a ≡ code_of b
   same_code h s t =
-      let x : event_key_of a % 2 ^ code_bits ≡ code_of a = key-code a ha ∙ ap (λ (k : Bool). cond k (code_of a) 0) (eq-eqb (kind_of a) service s) in
-      let y : event_key_of b % 2 ^ code_bits ≡ code_of b = key-code b hb ∙ ap (λ (k : Bool). cond k (code_of b) 0) (eq-eqb (kind_of b) service t) in
+      let x : event_key_of a % 2 ^ code_bits ≡ code_of a = key_code a ha ∙ ap (λ (k : Bool). cond k (code_of a) 0) (eq-eqb (kind_of a) service s) in
+      let y : event_key_of b % 2 ^ code_bits ≡ code_of b = key_code b hb ∙ ap (λ (k : Bool). cond k (code_of b) 0) (eq-eqb (kind_of b) service t) in
       sym x ∙ ap (λ (k : ℕ). k % 2 ^ code_bits) h ∙ y
 
-  own-words : (event_key_of a ≡ event_key_of b) ↔ OwnAgree (event_in a) (event_in b)
-  own-words = (to, from)
+  own_words : (event_key_of a ≡ event_key_of b) ↔ OwnAgree (event_in a) (event_in b)
+  own_words = (to, from)
     where
       to : event_key_of a ≡ event_key_of b → OwnAgree (event_in a) (event_in b)
       to h =
-          let x = key-dated a in
-          let y = key-dated b in
+          let x = key_dated a in
+          let y = key_dated b in
           let k : kind_of a ≡ kind_of b = omega arith in
           record { kind = k; date = omega arith; operator = λ s. same_code h s (sym k ∙ s) }
 
       from : OwnAgree (event_in a) (event_in b) → event_key_of a ≡ event_key_of b
       from h =
-          let x = key-dated a in
-          let y = key-dated b in
-          let u = key-code a ha in
-          let v = key-code b hb in
+          let x = key_dated a in
+          let y = key_dated b in
+          let u = key_code a ha in
+          let v = key_code b hb in
           let c = codes (eqb (kind_of a) service) (λ e. h.operator (eqb-true (kind_of a) service e)) in
           let d = ap (λ (k : ℕ). cond (eqb k service) (code_of b) 0) h.kind in
           let p = h.kind in
@@ -53,8 +53,8 @@ module _ (a b : ℕ) (ha : a < 2 ^ event_bits) (hb : b < 2 ^ event_bits) where
           codes false e = refl
 
 -- two keys, each a case's and an own one behind it, are the same where both are
-both-parts : (c d a b : ℕ) → a < 2 ^ own_bits → b < 2 ^ own_bits → c * 2 ^ own_bits + a ≡ d * 2 ^ own_bits + b → (c ≡ d) × (a ≡ b)
-both-parts c d a b h g e = (omega arith, omega arith)
+both_parts : (c d a b : ℕ) → a < 2 ^ own_bits → b < 2 ^ own_bits → c * 2 ^ own_bits + a ≡ d * 2 ^ own_bits + b → (c ≡ d) × (a ≡ b)
+both_parts c d a b h g e = (omega arith, omega arith)
 
 -- of what records say, whatever evaluations are kept beside it
 module _ (k l : Key) (a b : Event) (u v : ℕ) (hk : KeyFits k) (hl : KeyFits l) (ha : EventFits a) (hb : EventFits b) (hu : u < 2 ^ evaluation_bits) (hv : v < 2 ^ evaluation_bits) where
@@ -65,34 +65,34 @@ module _ (k l : Key) (a b : Event) (u v : ℕ) (hk : KeyFits k) (hl : KeyFits l)
   n = event_number b
 
   back : OwnAgree (event_in m) (event_in n) ≡ OwnAgree a b
-  back = ap₂ OwnAgree (event-back a ha) (event-back b hb)
+  back = ap₂ OwnAgree (event_back a ha) (event_back b hb)
 
   parts : ((event_row (key_number k) m u).key ≡ key_number k * 2 ^ own_bits + event_key_of m) × ((event_row (key_number l) n v).key ≡ key_number l * 2 ^ own_bits + event_key_of n)
-  parts = (event-key (key_number k) m u (event-lt a ha) hu, event-key (key_number l) n v (event-lt b hb) hv)
+  parts = (event_key (key_number k) m u (event_lt a ha) hu, event_key (key_number l) n v (event_lt b hb) hv)
 
-  pub key-words : ((event_row (key_number k) m u).key ≡ (event_row (key_number l) n v).key) ↔ OneKey k l a b
-  key-words = (to, from)
+  pub key_words : ((event_row (key_number k) m u).key ≡ (event_row (key_number l) n v).key) ↔ OneKey k l a b
+  key_words = (to, from)
     where
       to : (event_row (key_number k) m u).key ≡ (event_row (key_number l) n v).key → OneKey k l a b
       to h =
-          let w = both-parts (key_number k) (key_number l) (event_key_of m) (event_key_of n) (own-lt m (event-lt a ha)) (own-lt n (event-lt b hb)) (sym parts.0 ∙ h ∙ parts.1) in
-          let g = subst (λ (t : Type 0). t) back ((own-words m n (event-lt a ha) (event-lt b hb)).0 w.1) in
-          record { case = key-injective k l hk hl w.0; own = g }
+          let w = both_parts (key_number k) (key_number l) (event_key_of m) (event_key_of n) (own_lt m (event_lt a ha)) (own_lt n (event_lt b hb)) (sym parts.0 ∙ h ∙ parts.1) in
+          let g = subst (λ (t : Type 0). t) back ((own_words m n (event_lt a ha) (event_lt b hb)).0 w.1) in
+          record { case = key_injective k l hk hl w.0; own = g }
 
       from : OneKey k l a b → (event_row (key_number k) m u).key ≡ (event_row (key_number l) n v).key
       from h =
           parts.0
-          ∙ ap₂ (λ (c o : ℕ). c * 2 ^ own_bits + o) (ap key_number h.case) ((own-words m n (event-lt a ha) (event-lt b hb)).1 (subst (λ (t : Type 0). t) (sym back) h.own))
+          ∙ ap₂ (λ (c o : ℕ). c * 2 ^ own_bits + o) (ap key_number h.case) ((own_words m n (event_lt a ha) (event_lt b hb)).1 (subst (λ (t : Type 0). t) (sym back) h.own))
           ∙ sym parts.1
 
 -- and of rows that stand
 module _ (r t : Row ℕ) (hr : Sized events siad r) (ht : Sized events siad t) where
   pub rows_words : (r.key ≡ t.key) ↔ ((case_named siad r.key ≡ case_named siad t.key) × OwnAgree (event_in (event_number_in r)) (event_in (event_number_in t)))
   rows_words =
-      let x = row-parts row_bytes row-width r hr in
-      let y = row-parts row_bytes row-width t ht in (
+      let x = row_parts row_bytes row_width r hr in
+      let y = row_parts row_bytes row_width t ht in (
         λ h.
-            let w = both-parts (case_named siad r.key) (case_named siad t.key) _ _ (own-lt (event_number_in r) (narrow row_bytes r)) (own-lt (event_number_in t) (narrow row_bytes t)) (sym x ∙ h ∙ y) in
-            (w.0, (own-words (event_number_in r) (event_number_in t) (narrow row_bytes r) (narrow row_bytes t)).0 w.1),
-        λ h. x ∙ ap₂ (λ (c o : ℕ). c * 2 ^ own_bits + o) h.0 ((own-words (event_number_in r) (event_number_in t) (narrow row_bytes r) (narrow row_bytes t)).1 h.1) ∙ sym y,
+            let w = both_parts (case_named siad r.key) (case_named siad t.key) _ _ (own_lt (event_number_in r) (narrow row_bytes r)) (own_lt (event_number_in t) (narrow row_bytes t)) (sym x ∙ h ∙ y) in
+            (w.0, (own_words (event_number_in r) (event_number_in t) (narrow row_bytes r) (narrow row_bytes t)).0 w.1),
+        λ h. x ∙ ap₂ (λ (c o : ℕ). c * 2 ^ own_bits + o) h.0 ((own_words (event_number_in r) (event_number_in t) (narrow row_bytes r) (narrow row_bytes t)).1 h.1) ∙ sym y,
       )

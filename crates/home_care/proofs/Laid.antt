@@ -9,13 +9,13 @@ use Rattle.register.specs.Stored.{Laid}
 use Rattle.home_care.specs.Row.{row_bytes, old_bytes, code_bits, own_bits, spare_bits, kind_in, home_care, siad}
 use Rattle.home_care.specs.Fits.{RowWidth}
 
-pub laid-wide : (w : ℕ) → RowWidth w → Laid (home_care w)
-laid-wide w h =
+pub laid_wide : (w : ℕ) → RowWidth w → Laid (home_care w)
+laid_wide w h =
     record {
       some_bytes = omega arith;
-      case-first = omega arith;
+      case_first = omega arith;
       in_row = omega arith;
-      spare-few = λ q. at_most (eqb (kind_in q) service);
+      spare_few = λ q. at_most (eqb (kind_in q) service);
       told = λ p q e. ap spare_bits (same_kind p q (eqb (kind_in p) service) e);
     }
   where
@@ -28,12 +28,12 @@ laid-wide w h =
     same_kind p q true e = omega arith
     same_kind p q false e = omega arith
 
-pub row-width : RowWidth row_bytes
-row-width = record { least = omega arith; most = omega arith }
+pub row_width : RowWidth row_bytes
+row_width = record { least = omega arith; most = omega arith }
 
 -- so have those of before
-pub old-width : RowWidth old_bytes
-old-width = record { least = omega arith; most = omega arith }
+pub old_width : RowWidth old_bytes
+old_width = record { least = omega arith; most = omega arith }
 
-pub laid-siad : Laid siad
-laid-siad = laid-wide row_bytes row-width
+pub laid_siad : Laid siad
+laid_siad = laid_wide row_bytes row_width

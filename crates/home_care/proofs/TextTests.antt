@@ -15,9 +15,9 @@ use Rattle.home_care.specs.Allowed.{prevalente_allowed}
 abbrev pub is_text_of : List ℕ → ℕ → Bool
 is_text_of p n = all (λ b. in_file b && is_text b) (take n p) && all (λ b. eqb b 0) (drop n p)
 
-pub text-told : (p : List ℕ) (n : ℕ) (text zeros : Bool) → text ≡ all (λ b. in_file b && is_text b) (take n p) → zeros ≡ all (λ b. eqb b 0) (take (length p - n) (drop n p)) →
+pub text_told : (p : List ℕ) (n : ℕ) (text zeros : Bool) → text ≡ all (λ b. in_file b && is_text b) (take n p) → zeros ≡ all (λ b. eqb b 0) (take (length p - n) (drop n p)) →
     text && zeros ≡ is_text_of p n
-text-told p n text zeros t z =
+text_told p n text zeros t z =
     let l : length (drop n p) ≤ length p - n = simp length-drop (omega arith) in
     rw (t, z, take_all (length p - n) (drop n p) l)
 
@@ -30,15 +30,15 @@ and-true : (a : Bool) → a ≡ a && true
 and-true true = refl
 and-true false = refl
 
-pub prevalente-told : (p : List ℕ) (three four five : Bool) → length p ≡ 5 → three ≡ is_text_of p 3 → four ≡ is_text_of p 4 → five ≡ is_text_of p 5 →
+pub prevalente_told : (p : List ℕ) (three four five : Bool) → length p ≡ 5 → three ≡ is_text_of p 3 → four ≡ is_text_of p 4 → five ≡ is_text_of p 5 →
     ((three || (four || five)) && not (eqb (get_or p 0 0) (code "0") && (eqb (get_or p 1 0) (code "0") && (eqb (get_or p 2 0) (code "0") && (eqb (get_or p 3 0) 0 && eqb (get_or p 4 0) 0)))))
     ≡ prevalente_allowed p
 unfolding any same
-prevalente-told [] three four five l t f v = absurd (omega arith)
-prevalente-told (a ∷ []) three four five l t f v = absurd (omega arith)
-prevalente-told (a ∷ b ∷ []) three four five l t f v = absurd (omega arith)
-prevalente-told (a ∷ b ∷ c ∷ []) three four five l t f v = absurd (omega arith)
-prevalente-told (a ∷ b ∷ c ∷ d ∷ []) three four five l t f v = absurd (omega arith)
-prevalente-told (a ∷ b ∷ c ∷ d ∷ e ∷ []) three four five l t f v =
+prevalente_told [] three four five l t f v = absurd (omega arith)
+prevalente_told (a ∷ []) three four five l t f v = absurd (omega arith)
+prevalente_told (a ∷ b ∷ []) three four five l t f v = absurd (omega arith)
+prevalente_told (a ∷ b ∷ c ∷ []) three four five l t f v = absurd (omega arith)
+prevalente_told (a ∷ b ∷ c ∷ d ∷ []) three four five l t f v = absurd (omega arith)
+prevalente_told (a ∷ b ∷ c ∷ d ∷ e ∷ []) three four five l t f v =
     rw (t, f, v, ← or-false (is_text_of (a ∷ b ∷ c ∷ d ∷ e ∷ []) 4) (is_text_of (a ∷ b ∷ c ∷ d ∷ e ∷ []) 5), ← and-true (eqb e 0))
-prevalente-told (a ∷ b ∷ c ∷ d ∷ e ∷ g ∷ p) three four five l t f v = absurd (omega arith)
+prevalente_told (a ∷ b ∷ c ∷ d ∷ e ∷ g ∷ p) three four five l t f v = absurd (omega arith)

@@ -94,7 +94,7 @@ event_widths = kind_bits ∷ day_bits ∷ code_bits ∷ day_bits ∷ accesses_bi
 abbrev pub evaluation_widths : List ℕ
 evaluation_widths = replicate 6 scale_bits ++ replicate 5 char_bits
 
--- the sums of these widths (`widths-sum`). R8: "A case's key is its row's first 662 bits"; a case and an event after the case's key
+-- the sums of these widths (`widths_sum`). R8: "A case's key is its row's first 662 bits"; a case and an event after the case's key
 abbrev pub key_bits : ℕ
 key_bits = 662
 

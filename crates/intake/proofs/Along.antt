@@ -51,22 +51,22 @@ module _ {S R : Type 0} (d : Driver S R) where
   -- ---- one child
 
   module _ (before : Tally) (reg list : List ℕ) (a : Tree) {b : Bool} (e : b ≡ same d.named a.named) where
-    pub kid-passed : b ≡ false → TookKid d before reg list a before reg list
-    kid-passed f = record { taken = λ y. absurd (false≢true (sym f ∙ e ∙ y)); passed = λ _. (refl, refl, refl) }
+    pub kid_passed : b ≡ false → TookKid d before reg list a before reg list
+    kid_passed f = record { taken = λ y. absurd (false≢true (sym f ∙ e ∙ y)); passed = λ _. (refl, refl, refl) }
 
     module _ (f : b ≡ true) {later : List ℕ} (n : ℕ) (k : Took d reg a n later) where
       counted : (j : ℕ) → j ≡ before.accepted + cond (eqb n 0) 1 0 → TookKid d before reg list a (tallied (before.records + 1) j) later (set list before.records n)
       counted j q =
           record {
-            taken = λ _. (n, record { took = k; list-after = refl; records = refl; accepted = q });
+            taken = λ _. (n, record { took = k; list_after = refl; records = refl; accepted = q });
             passed = λ y. absurd (false≢true (sym y ∙ sym e ∙ f));
           }
 
-      pub kid-accepted : n ≡ 0 → TookKid d before reg list a (tallied (before.records + 1) (before.accepted + 1)) later (set list before.records n)
-      kid-accepted z = counted (before.accepted + 1) (rw (eq-eqb n 0 z))
+      pub kid_accepted : n ≡ 0 → TookKid d before reg list a (tallied (before.records + 1) (before.accepted + 1)) later (set list before.records n)
+      kid_accepted z = counted (before.accepted + 1) (rw (eq-eqb n 0 z))
 
-      pub kid-discarded : (n ≡ 0 → ⊥) → TookKid d before reg list a (tallied (before.records + 1) before.accepted) later (set list before.records n)
-      kid-discarded z = counted before.accepted (rw (ne_eqb n 0 z) (omega arith))
+      pub kid_discarded : (n ≡ 0 → ⊥) → TookKid d before reg list a (tallied (before.records + 1) before.accepted) later (set list before.records n)
+      kid_discarded z = counted before.accepted (rw (ne_eqb n 0 z) (omega arith))
 
   -- ---- from a state and a list with so many answers on, after the children ahead
 
@@ -78,17 +78,17 @@ module _ {S R : Type 0} (d : Driver S R) where
   ends r reg list ts = end_of r.records r.accepted list (d.state_of reg) reg (map d.record_of (ours ts))
 
   -- nothing is ahead
-  pub ends-end : (r : Tally) (reg list : List ℕ) → d.encode (length reg) (d.state_of reg) ≡ reg → ends r reg list [] ≡ ended reg list r.accepted
+  pub ends_end : (r : Tally) (reg list : List ℕ) → d.encode (length reg) (d.state_of reg) ≡ reg → ends r reg list [] ≡ ended reg list r.accepted
   unfolding ends named_in run answers zeros
-  ends-end r reg list b =
+  ends_end r reg list b =
       let z : r.records + 0 ≡ r.records = omega arith in
       let k : r.accepted + 0 ≡ r.accepted = omega arith in
       rw (b, z, k, take-append-drop r.records list)
 
   -- no record is ahead
-  pub ends-past : (r : Tally) (reg list : List ℕ) (a : Tree) (ts : List Tree) → same d.named a.named ≡ false → ends r reg list (a ∷ ts) ≡ ends r reg list ts
+  pub ends_past : (r : Tally) (reg list : List ℕ) (a : Tree) (ts : List Tree) → same d.named a.named ≡ false → ends r reg list (a ∷ ts) ≡ ends r reg list ts
   unfolding ends named_in
-  ends-past r reg list a ts e = rw e
+  ends_past r reg list a ts e = rw e
 
   -- one record on
   one_on : (n k v : ℕ) (list : List ℕ) (s u : S) (b c : List ℕ) (r : R) (rs : List R) → n < length list → v ≡ m.judge s r → u ≡ step m s r → length c ≡ length b →
@@ -104,17 +104,17 @@ module _ {S R : Type 0} (d : Driver S R) where
       ends r reg list (a ∷ ts) ≡ ends q later told ts
   unfolding ends named_in
   ends_on r q reg list a ts {n} {later} {told} e h k back long =
-      rw (e, k.list-after, k.records, k.accepted)
+      rw (e, k.list_after, k.records, k.accepted)
       (one_on r.records r.accepted n list (d.state_of reg) (d.state_of later) reg later (d.record_of a) (map d.record_of (ours ts)) h k.took.answer back long)
 
   -- all of them
-  pub ends-all : (reg list : List ℕ) (ts : List Tree) {later told : List ℕ} {k : ℕ} → ends (tallied 0 0) reg list ts ≡ ended later told k → TookAll d reg list (ours ts) k later told
+  pub ends_all : (reg list : List ℕ) (ts : List Tree) {later told : List ℕ} {k : ℕ} → ends (tallied 0 0) reg list ts ≡ ended later told k → TookAll d reg list (ours ts) k later told
   unfolding ends
-  ends-all reg list ts e =
+  ends_all reg list ts e =
       let rs : List R = map d.record_of (ours ts) in
       let j : 0 + length rs ≡ length (ours ts) = omega (arith, length-map (ours ts) d.record_of) in
       record {
         counted = sym (ap (λ (x : End). x.accepted) e) ∙ omega arith;
         register = sym (ap (λ (x : End). x.register) e);
-        list-after = sym (ap (λ (x : End). x.list) e) ∙ ap (λ (n : ℕ). answers m (d.state_of reg) rs ++ drop n list) j;
+        list_after = sym (ap (λ (x : End). x.list) e) ∙ ap (λ (n : ℕ). answers m (d.state_of reg) rs ++ drop n list) j;
       }

@@ -29,13 +29,13 @@ use Rattle.checks.specs.Flow.{next}
 use Rattle.checks.specs.CheckOrder.{checks_of}
 use Rattle.checks.specs.Readable.{Readable}
 use Rattle.checks.proofs.Accepted.{numbered}
-use Rattle.checks.proofs.RowsAllowed.{case-fits}
+use Rattle.checks.proofs.RowsAllowed.{case_fits}
 use Rattle.checks.proofs.WellReadable.{readable}
 use Rattle.judge.specs.View.{IsOf, IsAdmitted}
 use Rattle.intake.specs.Driving.{Took}
 use Rattle.intake.specs.Taking.{Here, siad_driver}
-use Rattle.intake.proofs.SoundBytes.{sound-stored}
-use Rattle.intake.proofs.RecordRead.{of-shape, record-1}
+use Rattle.intake.proofs.SoundBytes.{sound_stored}
+use Rattle.intake.proofs.RecordRead.{of_shape, record_1}
 use Rattle.intake.proofs.RecordTaken.{discarded, accepted}
 
 -- judged with the answer n: where that is 0 the case fits its row, and the two ways out
@@ -51,21 +51,21 @@ pub record CaseWays (r : AdmissionRead) (h : HeadRead) (probe reg : List ℕ) (c
 module _ (s : List ℕ) (top : Six) (r : AdmissionRead)
     (told : (a : Tree) → OfShape 1 s top a → IsAdmission s r (admission_of a))
     (a : Tree) (x : Here 1 s top a) where
-  is-admission : IsAdmission s r (admission_of a)
-  is-admission = told a (of-shape x)
+  is_admission : IsAdmission s r (admission_of a)
+  is_admission = told a (of_shape x)
 
-  readable-1 : Readable (admission (head_of a) (admission_of a))
-  readable-1 = readable (admission (head_of a) (admission_of a)) (rw (record-1 a) at x.good.well)
+  readable_1 : Readable (admission (head_of a) (admission_of a))
+  readable_1 = readable (admission (head_of a) (admission_of a)) (rw (record_1 a) at x.good.well)
 
   pub five : length r.prevalente ≡ 5
-  five = ap length is-admission.prevalente ∙ readable-1.1.prevalente-length
+  five = ap length is_admission.prevalente ∙ readable_1.1.prevalente-length
 
   pub six : length r.scales ≡ 6
-  six = ap length is-admission.scales ∙ readable-1.1.scales-length
+  six = ap length is_admission.scales ∙ readable_1.1.scales-length
 
-  case-is : (admission_of a).case ≡ case_with r.birth r.prevalente r.scales
-  case-is = λ i.
-      record { birth = sym is-admission.birth i; prevalente = sym is-admission.prevalente i; scales = sym is-admission.scales i }
+  case_is : (admission_of a).case ≡ case_with r.birth r.prevalente r.scales
+  case_is = λ i.
+      record { birth = sym is_admission.birth i; prevalente = sym is_admission.prevalente i; scales = sym is_admission.scales i }
 
   abbrev said : Record
   said = admission (head_of a) (admission_of a)
@@ -76,35 +76,35 @@ module _ (s : List ℕ) (top : Six) (r : AdmissionRead)
       (reg : List ℕ) (f : Fit (each 8 reg)) (sound : is_sound reg ≡ true) (c : Context) (n : ℕ)
       (judge-told : (g : Head) (b : Admission) → IsOf probe h.tipo h.day g → IsAdmitted r.birth r.prevalente region home comune stato b →
       is_sound reg ≡ true → n ≡ first (checks_of c (admission g b)) (state_of siad reg)) where
-    is-admitted : IsAdmitted r.birth r.prevalente region home comune stato (admission_of a)
-    is-admitted =
+    is_admitted : IsAdmitted r.birth r.prevalente region home comune stato (admission_of a)
+    is_admitted =
         record {
-          birth = is-admission.birth;
-          prevalente = is-admission.prevalente;
-          region = er ∙ is-admission.region;
-          asl = eh ∙ is-admission.asl;
-          comune = ec ∙ is-admission.comune;
-          stato = es ∙ is-admission.stato;
+          birth = is_admission.birth;
+          prevalente = is_admission.prevalente;
+          region = er ∙ is_admission.region;
+          asl = eh ∙ is_admission.asl;
+          comune = ec ∙ is_admission.comune;
+          stato = es ∙ is_admission.stato;
         }
 
     judged : n ≡ first (checks_of c said) (state_of siad reg)
-    judged = judge-told (head_of a) (admission_of a) held is-admitted sound
+    judged = judge-told (head_of a) (admission_of a) held is_admitted sound
 
     -- 11 bounds the birth year
-    case-held : n ≡ 0 → CaseFits (case_with r.birth r.prevalente r.scales)
-    case-held z =
-        subst CaseFits case-is
-        (case-fits (head_of a).key (admission_of a).case readable-1.0 readable-1.1
+    case_held : n ≡ 0 → CaseFits (case_with r.birth r.prevalente r.scales)
+    case_held z =
+        subst CaseFits case_is
+        (case_fits (head_of a).key (admission_of a).case readable_1.0 readable_1.1
         (clear 11 (checks_of c said) (state_of siad reg) (numbered c said) (sym judged ∙ z)))
 
-    pub case-ways : CaseWays r h probe reg c n a
-    case-ways =
+    pub case_ways : CaseWays r h probe reg c n a
+    case_ways =
         record {
-          fits = case-held;
-          discarded = discarded 1 a said (record-1 a) c reg f sound n judged;
+          fits = case_held;
+          discarded = discarded 1 a said (record_1 a) c reg f sound n judged;
           accepted = λ z q later apply-told l.
-              accepted 1 a said (record-1 a) c reg f sound n judged later z
-              (apply-told (head_of a) (admission_of a) (state_of siad reg) c (sym held.key) held.tipo case-is q
-              (sound-stored reg f sound) (sym judged ∙ z))
+              accepted 1 a said (record_1 a) c reg f sound n judged later z
+              (apply-told (head_of a) (admission_of a) (state_of siad reg) c (sym held.key) held.tipo case_is q
+              (sound_stored reg f sound) (sym judged ∙ z))
               l;
         }

@@ -1,4 +1,4 @@
--- Places computed from a file's bytes on, so that `fault-placed` has something to say: a text, an attribute, a child that is missing, and a fault outside.
+-- Places computed from a file's bytes on, so that `fault_placed` has something to say: a text, an attribute, a child that is missing, and a fault outside.
 use Prim.Native.Nat.{ℕ}
 use Prim.Native.String as string
 use mathlib.Core.Path.{◌≡◌, refl, ap}
@@ -23,7 +23,7 @@ use Rattle.register.specs.State.{from}
 use Rattle.soundness.specs.Sound.{is_sound}
 use Rattle.intake.specs.FileAnswers.{Call, call_of, Submitted, refusal, submitted}
 use Rattle.intake.specs.Demands.{Placed}
-use Rattle.intake.proofs.Placing.{fault-placed}
+use Rattle.intake.proofs.Placing.{fault_placed}
 
 -- a record of Track 2 up to its end, of that type and region
 abbrev begins : string.String → string.String → List ℕ
@@ -59,10 +59,10 @@ pub record Given : Type 0 where
   pub missing : submitted missing_child register ≡ refusal missing_child register 6 1 85
   pub outside : submitted outside_all register ≡ refusal outside_all register 6 0 36
   -- what stands there
-  pub text-there : take 15 (drop 96 bad_text.file) ≡ bytes "<CodiceRegione>"
-  pub attribute-there : take 14 (drop 61 bad_attribute.file) ≡ bytes "<Trasmissione "
-  pub missing-there : take 11 (drop 85 missing_child.file) ≡ bytes "<Erogatore>"
-  pub outside-there : take 13 (drop 36 outside_all.file) ≡ bytes "<FlsAssDom_2>"
+  pub text_there : take 15 (drop 96 bad_text.file) ≡ bytes "<CodiceRegione>"
+  pub attribute_there : take 14 (drop 61 bad_attribute.file) ≡ bytes "<Trasmissione "
+  pub missing_there : take 11 (drop 85 missing_child.file) ≡ bytes "<Erogatore>"
+  pub outside_there : take 13 (drop 36 outside_all.file) ≡ bytes "<FlsAssDom_2>"
 
 pub gives : Given
 unfolding all any same turns loop decimal_after run_length skip_ws byte name value comment dashed declared attribute attributes_step attributes differ tag end_tag
@@ -73,16 +73,16 @@ gives =
       attribute = refl;
       missing = refl;
       outside = refl;
-      text-there = refl;
-      attribute-there = refl;
-      missing-there = refl;
-      outside-there = refl;
+      text_there = refl;
+      attribute_there = refl;
+      missing_there = refl;
+      outside_there = refl;
     }
 
 -- the theorem's premise holds of each
-at-fault : (x : Call) {n p : ℕ} → submitted x register ≡ refusal x register 6 n p → Placed x (submitted x register)
-at-fault x e = fault-placed x register (ap (λ (v : Submitted). v.answer) e)
+at_fault : (x : Call) {n p : ℕ} → submitted x register ≡ refusal x register 6 n p → Placed x (submitted x register)
+at_fault x e = fault_placed x register (ap (λ (v : Submitted). v.answer) e)
 
 pub placed : Placed bad_text (submitted bad_text register) × Placed bad_attribute (submitted bad_attribute register) ×
     Placed missing_child (submitted missing_child register) × Placed outside_all (submitted outside_all register)
-placed = (at-fault bad_text gives.text, at-fault bad_attribute gives.attribute, at-fault missing_child gives.missing, at-fault outside_all gives.outside)
+placed = (at_fault bad_text gives.text, at_fault bad_attribute gives.attribute, at_fault missing_child gives.missing, at_fault outside_all gives.outside)

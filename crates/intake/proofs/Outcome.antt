@@ -17,7 +17,7 @@ use Rattle.markup.specs.Document.{document}
 use Rattle.schema.specs.Shape.{Shape, fine, faulty, shape_of}
 use Rattle.schemas.specs.Schemas.{schema_of}
 use Rattle.model.specs.Checks.{Check, first, NoneHolds, FirstIs, numbered}
-use Rattle.model.proofs.ChecksLaws.{accepted-iff, refused-iff, only}
+use Rattle.model.proofs.ChecksLaws.{accepted_iff, refused_iff, only}
 use Rattle.tracks.specs.TooMany.{crowded_in}
 use Rattle.soundness.specs.Sound.{is_sound}
 use Rattle.intake.specs.FileAnswers.{Call, Submitted, longest, entries_of, refusal, taken_file, by_shape, by_markup, submitted}
@@ -37,7 +37,7 @@ module _ (x : Call) (reg : List ℕ) where
     pub left : List ℕ
     pub records : ℕ
     pub period : is_period x.year x.quarter ≡ true
-    pub track-is : eqb x.track 1 || eqb x.track 2 ≡ true
+    pub track_is : eqb x.track 1 || eqb x.track 2 ≡ true
     pub sound : is_sound reg ≡ true
     pub short : length x.file ≤ longest
     pub markup : document x.file ≡ read tree left
@@ -96,7 +96,7 @@ module _ (x : Call) (reg : List ℕ) where
             left = l;
             records = n;
             period = p;
-            track-is = k;
+            track_is = k;
             sound = s;
             short = h;
             markup = d;
@@ -144,19 +144,19 @@ module _ (x : Call) (reg : List ℕ) where
   outcome = at_first (is_period x.year x.quarter) refl refl
 
   -- a file that is answered 0 passed the eight tests
-  pub taken-passed : call.answer ≡ 0 → Passed
-  taken-passed z = go outcome
+  pub taken_passed : call.answer ≡ 0 → Passed
+  taken_passed z = go outcome
     where
       go : Outcome → Passed
       go (stopped a n p e w k) = absurd (w (sym (ap (λ (r : Submitted). r.answer) e) ∙ z))
       go (passed p) = p
 
   -- of one that is answered 6 the call tells the fault
-  pub six-faulted : call.answer ≡ 6 → Faulted call.number call.place
-  six-faulted z = go outcome
+  pub six_faulted : call.answer ≡ 6 → Faulted call.number call.place
+  six_faulted z = go outcome
     where
-      zero-six : {n : ℕ} → n ≡ 0 → n ≢ 6
-      zero-six e w = omega arith
+      zero_six : {n : ℕ} → n ≡ 0 → n ≢ 6
+      zero_six e w = omega arith
 
       told : (a n p : ℕ) → call ≡ refuse a n p → Why a n p → Faulted call.number call.place
       told a n p e (fault u f) = rw e f
@@ -164,7 +164,7 @@ module _ (x : Call) (reg : List ℕ) where
 
       go : Outcome → Faulted call.number call.place
       go (stopped a n p e w k) = told a n p e k
-      go (passed p) = absurd (zero-six (ap (λ (r : Submitted). r.answer) p.gives) z)
+      go (passed p) = absurd (zero_six (ap (λ (r : Submitted). r.answer) p.gives) z)
 
   -- ---- the table's order: the answer is the number of the first test that holds, else 0
 
@@ -173,13 +173,13 @@ module _ (x : Call) (reg : List ℕ) where
   spread false x y = refl
 
   -- the tests from 5 on
-  last-four : (d : Read Tree) → (by_markup x reg d).answer ≡
+  last_four : (d : Read Tree) → (by_markup x reg d).answer ≡
       cond (is_refused d) 5
       (cond (of_tree (λ t. is_faulty (shape_of (schema_of x.track) t)) d) 6
       (cond (of_tree (λ t. not (eqb (crowded_in x.track t) 0)) d) 7
       (cond (of_tree (λ t. ltb (length x.answer_list) (length (entries_of x.track t))) d) 8 0)))
-  last-four refused = refl
-  last-four (read t l) = by (shape_of (schema_of x.track) t)
+  last_four refused = refl
+  last_four (read t l) = by (shape_of (schema_of x.track) t)
     where
       crowded : Bool
       crowded = not (eqb (crowded_in x.track t) 0)
@@ -193,37 +193,37 @@ module _ (x : Call) (reg : List ℕ) where
           spread crowded (refuse 7 (crowded_in x.track t) 0) (cond short (refuse 8 0 0) (taken_file x reg (entries_of x.track t)))
           ∙ ap (λ (a : ℕ). cond crowded 7 a) (spread short (refuse 8 0 0) (taken_file x reg (entries_of x.track t)))
 
-  pub answer-is : call.answer ≡ first (file_checks x reg) (document x.file)
+  pub answer_is : call.answer ≡ first (file_checks x reg) (document x.file)
   unfolding submitted first
-  answer-is =
+  answer_is =
       spread (not (is_period x.year x.quarter)) (refuse 1 0 0) from2
       ∙ ap (λ (a : ℕ). cond (not (is_period x.year x.quarter)) 1 a)
       (spread (not (eqb x.track 1 || eqb x.track 2)) (refuse 2 0 0) from3
       ∙ ap (λ (a : ℕ). cond (not (eqb x.track 1 || eqb x.track 2)) 2 a)
       (spread (not (is_sound reg)) (refuse 3 0 0) from4
       ∙ ap (λ (a : ℕ). cond (not (is_sound reg)) 3 a)
-      (spread (ltb longest (length x.file)) (refuse 4 0 0) from5 ∙ ap (λ (a : ℕ). cond (ltb longest (length x.file)) 4 a) (last-four (document x.file)))))
+      (spread (ltb longest (length x.file)) (refuse 4 0 0) from5 ∙ ap (λ (a : ℕ). cond (ltb longest (length x.file)) 4 a) (last_four (document x.file)))))
 
   well : numbered (file_checks x reg) ≡ true
   unfolding all
   well = refl
 
   -- 0 is given exactly when none of the eight tests holds
-  pub answer-zero : call.answer ≡ 0 ↔ NoneHolds (file_checks x reg) (document x.file)
-  answer-zero =
-      let a = accepted-iff (file_checks x reg) (document x.file) well in
-      (λ e. a.0 (sym answer-is ∙ e), λ h. answer-is ∙ a.1 h)
+  pub answer_zero : call.answer ≡ 0 ↔ NoneHolds (file_checks x reg) (document x.file)
+  answer_zero =
+      let a = accepted_iff (file_checks x reg) (document x.file) well in
+      (λ e. a.0 (sym answer_is ∙ e), λ h. answer_is ∙ a.1 h)
 
   -- and else the number of the first that holds
-  pub answer-order : (n : ℕ) → n ≢ 0 → call.answer ≡ n ↔ FirstIs (file_checks x reg) (document x.file) n
-  answer-order n z =
-      let a = refused-iff (file_checks x reg) (document x.file) n z in
-      (λ e. a.0 (sym answer-is ∙ e), λ h. answer-is ∙ a.1 h)
+  pub answer_order : (n : ℕ) → n ≢ 0 → call.answer ≡ n ↔ FirstIs (file_checks x reg) (document x.file) n
+  answer_order n z =
+      let a = refused_iff (file_checks x reg) (document x.file) n z in
+      (λ e. a.0 (sym answer_is ∙ e), λ h. answer_is ∙ a.1 h)
 
   -- 3 is given of no sound register
-  pub sound-not-3 : is_sound reg ≡ true → call.answer ≢ 3
+  pub sound_not_3 : is_sound reg ≡ true → call.answer ≢ 3
   unfolding first any
-  sound-not-3 s e = go (not (is_period x.year x.quarter)) (not (eqb x.track 1 || eqb x.track 2)) (rw s at (sym answer-is ∙ e))
+  sound_not_3 s e = go (not (is_period x.year x.quarter)) (not (eqb x.track 1 || eqb x.track 2)) (rw s at (sym answer_is ∙ e))
     where
       rest : List (Check (Read Tree))
       rest = drop 3 (file_checks x reg)

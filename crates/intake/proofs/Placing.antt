@@ -8,13 +8,13 @@ use lib.Seq.{get_or-drop}
 use Rattle.markup.specs.Elements.{Tree}
 use Rattle.reading.specs.Places.{place_in}
 use Rattle.reading.specs.Everywhere.{ReadAt}
-use Rattle.reading.proofs.Places.{place-reads}
+use Rattle.reading.proofs.Places.{place_reads}
 use Rattle.schema.specs.AtFault.{FileFault}
-use Rattle.schema.proofs.AtFault.{fault-at}
+use Rattle.schema.proofs.AtFault.{fault_at}
 use Rattle.schemas.specs.Schemas.{schema_of}
 use Rattle.intake.specs.FileAnswers.{Call, Submitted, submitted}
 use Rattle.intake.specs.Demands.{Placed}
-use Rattle.intake.proofs.Outcome.{Faulted, six-faulted}
+use Rattle.intake.proofs.Outcome.{Faulted, six_faulted}
 
 module _ (x : Call) (reg : List ℕ) where
   abbrev call : Submitted
@@ -39,9 +39,9 @@ module _ (x : Call) (reg : List ℕ) where
       }
 
   -- with answer 6 the place is that of the element at fault
-  pub fault-placed : call.answer ≡ 6 → Placed x call
-  fault-placed z =
-      let f = six-faulted x reg z in
-      let d = place-reads x.file f.tree f.left f.markup in
-      let w = fault-at (ReadAt x.file) (schema_of x.track) f.tree call.number f.from d f.shape in
+  pub fault_placed : call.answer ≡ 6 → Placed x call
+  fault_placed z =
+      let f = six_faulted x reg z in
+      let d = place_reads x.file f.tree f.left f.markup in
+      let w = fault_at (ReadAt x.file) (schema_of x.track) f.tree call.number f.from d f.shape in
       placed_at f w.0 w.1 w.2 w.3

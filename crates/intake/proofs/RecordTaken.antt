@@ -18,32 +18,32 @@ use Rattle.home_care.specs.Record.{Record}
 use Rattle.home_care.specs.Anomalies.{Context}
 use Rattle.tracks.specs.RecordFields.{record_of}
 use Rattle.soundness.specs.Sound.{is_sound}
-use Rattle.soundness.proofs.Deciding.{sound-told}
+use Rattle.soundness.proofs.Deciding.{sound_told}
 use Rattle.checks.specs.Flow.{next}
 use Rattle.checks.specs.CheckOrder.{checks_of, siad_machine}
 use Rattle.intake.specs.Driving.{Took}
 use Rattle.intake.specs.Taking.{siad_driver}
-use Rattle.intake.proofs.SoundBytes.{sound-stored}
+use Rattle.intake.proofs.SoundBytes.{sound_stored}
 
 -- the rows of a sound register lie within it
-pub rows-within : (reg : List ℕ) → is_sound reg ≡ true → (4 ≤ length reg) × (row_at siad (cases_held reg + events_held reg) ≤ length reg)
-rows-within reg h = let s = sound-told reg h in let a = s.long in let b = s.few in (a, omega arith)
+pub rows_within : (reg : List ℕ) → is_sound reg ≡ true → (4 ≤ length reg) × (row_at siad (cases_held reg + events_held reg) ≤ length reg)
+rows_within reg h = let s = sound_told reg h in let a = s.long in let b = s.few in (a, omega arith)
 
 module _ (k : ℕ) (a : Tree) (r : Record) (is : record_of k a ≡ r) (c : Context) (before : List ℕ) (f : Fit (each 8 before)) (sound : is_sound before ≡ true) (n : ℕ)
     (judged : n ≡ first (checks_of c r) (state_of siad before)) where
   abbrev s : State ℕ ℕ
   s = state_of siad before
 
-  answer-is : n ≡ (siad_machine c).judge s (record_of k a)
+  answer_is : n ≡ (siad_machine c).judge s (record_of k a)
   unfolding machine
-  answer-is = rw is judged
+  answer_is = rw is judged
 
   pub discarded : (n ≡ 0 → ⊥) → Took (siad_driver k c) before a n before
   unfolding machine
   discarded z =
       record {
-        answer = answer-is;
-        register = rw (is, ne_eqb (first (checks_of c r) s) 0 (λ q. z (judged ∙ q))) (sound-stored before f sound).bytes;
+        answer = answer_is;
+        register = rw (is, ne_eqb (first (checks_of c r) s) 0 (λ q. z (judged ∙ q))) (sound_stored before f sound).bytes;
         discarded = λ _. refl;
       }
 
@@ -51,7 +51,7 @@ module _ (k : ℕ) (a : Tree) (r : Record) (is : record_of k a ≡ r) (c : Conte
   unfolding machine
   accepted later z t l =
       record {
-        answer = answer-is;
+        answer = answer_is;
         register = rw (is, eq-eqb (first (checks_of c r) s) 0 (sym judged ∙ z)) (t.bytes ∙ ap (λ (m : ℕ). encode siad m (next r s)) l);
         discarded = λ y. absurd (y z);
       }

@@ -233,27 +233,27 @@ unfolding all any same turns loop decimal_after run_length skip_ws byte name val
 says = record { second = refl; third = refl; fourth = refl; fifth = refl }
 
 -- what the first record alone leaves
-pub first-record : left_by admissions begun 1 ≡ held "0101"
+pub first_record : left_by admissions begun 1 ≡ held "0101"
 unfolding all any same turns loop decimal_after run_length skip_ws byte name value comment dashed declared attribute attributes_step attributes differ tag end_tag
     piece content element declares declaration misc_step misc document named_in record_of first_named value_in said_in wording_in day_of track1 track2
     some_pair first_of years_to find put keep put_all del_all any_in all_in twice first run answers machine packs event_numbers event_rows
     row_in from emptied calls
-first-record = refl
+first_record = refl
 
 -- the register after one, two and three of them
 pub after_first : reg_after register (admissions ∷ []) ≡ holding (held "0202")
 unfolding calls
 after_first = ap (λ (r : Submitted). r.register) gives.first
 
-pub after-second : reg_after register (admissions ∷ visits ∷ []) ≡ holding standing
+pub after_second : reg_after register (admissions ∷ visits ∷ []) ≡ holding standing
 unfolding calls
-after-second = ap (λ (b : List ℕ). (submitted visits b).register) after_first ∙ ap (λ (r : Submitted). r.register) gives.second
+after_second = ap (λ (b : List ℕ). (submitted visits b).register) after_first ∙ ap (λ (r : Submitted). r.register) gives.second
 
-pub after-fourth : reg_after register (admissions ∷ visits ∷ withdrawal ∷ []) ≡ holding empty
+pub after_fourth : reg_after register (admissions ∷ visits ∷ withdrawal ∷ []) ≡ holding empty
 unfolding calls
-after-fourth = ap (λ (b : List ℕ). (submitted withdrawal b).register) after-second ∙ ap (λ (r : Submitted). r.register) gives.fourth
+after_fourth = ap (λ (b : List ℕ). (submitted withdrawal b).register) after_second ∙ ap (λ (r : Submitted). r.register) gives.fourth
 
 -- the accepted events stand beside their case
-pub both-stand : state_of siad (reg_after register (admissions ∷ visits ∷ [])) ≡ standing
+pub both_stand : state_of siad (reg_after register (admissions ∷ visits ∷ [])) ≡ standing
 unfolding rows_bytes encode row_in from packs first_of
-both-stand = ap (state_of siad) after-second
+both_stand = ap (state_of siad) after_second

@@ -22,81 +22,81 @@ use Rattle.model.specs.Machine.{Machine, run}
 use Rattle.model.specs.Flow as flows
 use Rattle.model.specs.Flow.{State}
 use Rattle.model.specs.Demands.{OneTrack}
-use Rattle.model.specs.Demands.OneTrack.{cases-only, events-only}
+use Rattle.model.specs.Demands.OneTrack.{cases_only, events_only}
 use Rattle.laws.proofs.Every.{Every}
-use Rattle.model.proofs.MachineLaws.{run-keeps-ok}
+use Rattle.model.proofs.MachineLaws.{run_keeps_ok}
 use Rattle.rows.specs.Packing.{each, Fit}
 use Rattle.register.specs.Layout.{case_named}
 use Rattle.register.specs.RoomAndEmptying.{room}
 use Rattle.register.specs.State.{state_of, encode}
 use Rattle.register.specs.Stored.{Stored}
-use Rattle.register.proofs.States.{cases-held, events-held}
+use Rattle.register.proofs.States.{cases_held_lem, events_held_lem}
 use Rattle.home_care.specs.Row.{siad}
-use Rattle.home_care.proofs.Laid.{laid-siad}
+use Rattle.home_care.proofs.Laid.{laid_siad}
 use Rattle.home_care.specs.Record.{Record}
 use Rattle.home_care.specs.Anomalies.{Context}
 use Rattle.tracks.specs.RecordFields.{record_of}
 use Rattle.tracks.specs.WellRead.{WellRead}
-use Rattle.tracks.proofs.WellRead.{file-read-1, file-read-2}
+use Rattle.tracks.proofs.WellRead.{file_read_1, file_read_2}
 use Rattle.soundness.specs.Sound.{is_sound}
 use Rattle.checks.specs.Flow.{flow}
 use Rattle.checks.specs.CheckOrder.{siad_machine}
 use Rattle.checks.specs.Readable.{Readable}
-use Rattle.checks.proofs.Accepted.{siad-discarded, siad-conserved, along}
-use Rattle.checks.proofs.Valid.{Sound, sound-state}
+use Rattle.checks.proofs.Accepted.{siad_discarded, siad_conserved, along}
+use Rattle.checks.proofs.Valid.{Sound, sound_state}
 use Rattle.checks.proofs.Kept.{kept}
 use Rattle.checks.proofs.WellReadable.{readable}
 use Rattle.intake.specs.FileAnswers.{Call, Submitted, entries_of, context_of, submitted}
 use Rattle.intake.specs.RecordsIn.{records_in}
 use Rattle.intake.specs.Demands.{Conserved}
-use Rattle.intake.proofs.Outcome.{Passed, Outcome, stopped, passed, outcome, taken-passed}
-use Rattle.intake.proofs.SoundBytes.{sound-long, sound-stored, encode-fit, state-long, state-stored, state-sound}
+use Rattle.intake.proofs.Outcome.{Passed, Outcome, stopped, passed, outcome, taken_passed}
+use Rattle.intake.proofs.SoundBytes.{sound_long, sound_stored, encode_fit, state_long, state_stored, state_sound}
 
 -- ---- the records of a file that is of the shape are readable
 
-each-record : (k : ℕ) (ts : List Tree) → within.Every (λ t. WellRead (record_of k t)) ts → Every WellRead (map (record_of k) ts)
-each-record k [] h = tt
-each-record k (t ∷ ts) h = (h.0, each-record k ts h.1)
+each_record : (k : ℕ) (ts : List Tree) → within.Every (λ t. WellRead (record_of k t)) ts → Every WellRead (map (record_of k) ts)
+each_record k [] h = tt
+each_record k (t ∷ ts) h = (h.0, each_record k ts h.1)
 
-each-readable : (rs : List Record) → Every WellRead rs → Every Readable rs
-each-readable [] h = tt
-each-readable (r ∷ rs) h = (readable r h.0, each-readable rs h.1)
+each_readable : (rs : List Record) → Every WellRead rs → Every Readable rs
+each_readable [] h = tt
+each_readable (r ∷ rs) h = (readable r h.0, each_readable rs h.1)
 
-pub all-well : (x : Call) (t : Tree) (l : List ℕ) (n : ℕ) → eqb x.track 1 || eqb x.track 2 ≡ true →
+pub all_well : (x : Call) (t : Tree) (l : List ℕ) (n : ℕ) → eqb x.track 1 || eqb x.track 2 ≡ true →
     document x.file ≡ read t l → shape_of (schema_of x.track) t ≡ fine n → Every WellRead (records_in x)
-all-well x t l n k d f =
-    rw d (⊎_elim (λ e. first-track (eqb-true x.track 1 e)) (λ e. second-track (eqb-true x.track 2 e)) (either (eqb x.track 1) (eqb x.track 2) k))
+all_well x t l n k d f =
+    rw d (⊎_elim (λ e. first_track (eqb-true x.track 1 e)) (λ e. second_track (eqb-true x.track 2 e)) (either (eqb x.track 1) (eqb x.track 2) k))
   where
-    first-track : x.track ≡ 1 → Every WellRead (entries_of x.track t)
-    first-track e =
+    first_track : x.track ≡ 1 → Every WellRead (entries_of x.track t)
+    first_track e =
         subst (λ (j : ℕ). Every WellRead (entries_of j t)) (sym e)
-        (each-record 1 (records_of track1 t) (file-read-1 x.file t l n d (subst (λ (j : ℕ). shape_of (schema_of j) t ≡ fine n) e f)))
+        (each_record 1 (records_of track1 t) (file_read_1 x.file t l n d (subst (λ (j : ℕ). shape_of (schema_of j) t ≡ fine n) e f)))
 
-    second-track : x.track ≡ 2 → Every WellRead (entries_of x.track t)
-    second-track e =
+    second_track : x.track ≡ 2 → Every WellRead (entries_of x.track t)
+    second_track e =
         subst (λ (j : ℕ). Every WellRead (entries_of j t)) (sym e)
-        (each-record 2 (records_of track2 t) (file-read-2 x.file t l n d (subst (λ (j : ℕ). shape_of (schema_of j) t ≡ fine n) e f)))
+        (each_record 2 (records_of track2 t) (file_read_2 x.file t l n d (subst (λ (j : ℕ). shape_of (schema_of j) t ≡ fine n) e f)))
 
-pub all-readable : (x : Call) (t : Tree) (l : List ℕ) (n : ℕ) → eqb x.track 1 || eqb x.track 2 ≡ true →
+pub all_readable : (x : Call) (t : Tree) (l : List ℕ) (n : ℕ) → eqb x.track 1 || eqb x.track 2 ≡ true →
     document x.file ≡ read t l → shape_of (schema_of x.track) t ≡ fine n → Every Readable (records_in x)
-all-readable x t l n k d f = each-readable (records_in x) (all-well x t l n k d f)
+all_readable x t l n k d f = each_readable (records_in x) (all_well x t l n k d f)
 
 -- ---- all records of a file are of its track
 
-no-events : (ts : List Tree) → all (λ r. eqb (length (flow.event_rows r)) 0) (map (record_of 1) ts) ≡ true
+no_events : (ts : List Tree) → all (λ r. eqb (length (flow.event_rows r)) 0) (map (record_of 1) ts) ≡ true
 unfolding all record_of
-no-events [] = refl
-no-events (t ∷ ts) = no-events ts
+no_events [] = refl
+no_events (t ∷ ts) = no_events ts
 
 no_cases : (ts : List Tree) → all (λ r. eqb (length (flow.case_rows r)) 0) (map (record_of 2) ts) ≡ true
 unfolding all record_of
 no_cases [] = refl
 no_cases (t ∷ ts) = no_cases ts
 
-one-track : (x : Call) (t : Tree) (l : List ℕ) → eqb x.track 1 || eqb x.track 2 ≡ true → document x.file ≡ read t l → OneTrack flow (records_in x)
-one-track x t l k d =
-    rw d (⊎_elim (λ e. of 1 (eqb-true x.track 1 e) (cases-only (no-events (records_of track1 t))))
-    (λ e. of 2 (eqb-true x.track 2 e) (events-only (no_cases (records_of track2 t)))) (either (eqb x.track 1) (eqb x.track 2) k))
+one_track : (x : Call) (t : Tree) (l : List ℕ) → eqb x.track 1 || eqb x.track 2 ≡ true → document x.file ≡ read t l → OneTrack flow (records_in x)
+one_track x t l k d =
+    rw d (⊎_elim (λ e. of 1 (eqb-true x.track 1 e) (cases_only (no_events (records_of track1 t))))
+    (λ e. of 2 (eqb-true x.track 2 e) (events_only (no_cases (records_of track2 t)))) (either (eqb x.track 1) (eqb x.track 2) k))
   where
     of : (j : ℕ) → x.track ≡ j → OneTrack flow (entries_of j t) → OneTrack flow (entries_of x.track t)
     of j e h = subst (λ (i : ℕ). OneTrack flow (entries_of i t)) (sym e) h
@@ -108,13 +108,13 @@ pub step_kept : (c : Context) (n : ℕ) → c.room ≡ room siad n → (s : Stat
 unfolding flows.machine
 step_kept c n e s r i w z = kept c n e s i r w z
 
-pub run-kept : (c : Context) (n : ℕ) → c.room ≡ room siad n → (s : State ℕ ℕ) (rs : List Record) → Sound n s → Every Readable rs → Sound n (run (siad_machine c) s rs)
-run-kept c n e s rs i w = run-keeps-ok (siad_machine c) (Sound n) Readable (step_kept c n e) s rs i w
+pub run_kept : (c : Context) (n : ℕ) → c.room ≡ room siad n → (s : State ℕ ℕ) (rs : List Record) → Sound n s → Every Readable rs → Sound n (run (siad_machine c) s rs)
+run_kept c n e s rs i w = run_keeps_ok (siad_machine c) (Sound n) Readable (step_kept c n e) s rs i w
 
 -- a discarded record leaves a sound register's bytes as they were
-pub discarded-keeps : (c : Context) (reg : List ℕ) → Fit (each 8 reg) → is_sound reg ≡ true → (r : Record) →
+pub discarded_keeps : (c : Context) (reg : List ℕ) → Fit (each 8 reg) → is_sound reg ≡ true → (r : Record) →
     (siad_machine c).judge (state_of siad reg) r ≢ 0 → encode siad (length reg) (run (siad_machine c) (state_of siad reg) (r ∷ [])) ≡ reg
-discarded-keeps c reg f h r z = ap (encode siad (length reg)) ((siad-discarded c).as_it_was (state_of siad reg) r z) ∙ sym (sound-stored reg f h).bytes
+discarded_keeps c reg f h r z = ap (encode siad (length reg)) ((siad_discarded c).as_it_was (state_of siad reg) r z) ∙ sym (sound_stored reg f h).bytes
 
 -- ---- one call
 
@@ -132,55 +132,55 @@ module _ (x : Call) (reg : List ℕ) (f : Fit (each 8 reg)) where
   t = run m s (records_in x)
 
   module _ (p : Passed x reg) where
-    pub left-sound : Sound (length reg) t
-    left-sound =
-        run-kept (context_of x (length reg)) (length reg) refl s (records_in x) (sound-state reg f p.sound)
-        (all-readable x p.tree p.left p.records p.track-is p.markup p.shape)
+    pub left_sound : Sound (length reg) t
+    left_sound =
+        run_kept (context_of x (length reg)) (length reg) refl s (records_in x) (sound_state reg f p.sound)
+        (all_readable x p.tree p.left p.records p.track_is p.markup p.shape)
 
-    register-is : call.register ≡ encode siad (length reg) t
-    register-is = ap (λ (r : Submitted). r.register) p.gives
+    register_is : call.register ≡ encode siad (length reg) t
+    register_is = ap (λ (r : Submitted). r.register) p.gives
 
-    left-stored : Stored siad call.register t
-    left-stored =
-        subst (λ (b : List ℕ). Stored siad b t) (sym register-is) (state-stored (length reg) (sound-long reg f p.sound) t left-sound)
+    left_stored : Stored siad call.register t
+    left_stored =
+        subst (λ (b : List ℕ). Stored siad b t) (sym register_is) (state_stored (length reg) (sound_long reg f p.sound) t left_sound)
 
   -- a register that is sound before a call is sound after it, of the same length, and bytes
-  pub sound-kept : is_sound reg ≡ true → is_sound call.register ≡ true
-  sound-kept h = go (outcome x reg)
+  pub sound_kept : is_sound reg ≡ true → is_sound call.register ≡ true
+  sound_kept h = go (outcome x reg)
     where
       go : Outcome x reg → is_sound call.register ≡ true
       go (stopped a n _ e _ _) = ap (λ (r : Submitted). is_sound r.register) e ∙ h
-      go (passed p) = ap is_sound (register-is p) ∙ state-sound (length reg) (sound-long reg f h) t (left-sound p)
+      go (passed p) = ap is_sound (register_is p) ∙ state_sound (length reg) (sound_long reg f h) t (left_sound p)
 
-  pub length-kept : length call.register ≡ length reg
-  length-kept = go (outcome x reg)
+  pub length_kept : length call.register ≡ length reg
+  length_kept = go (outcome x reg)
     where
       go : Outcome x reg → length call.register ≡ length reg
       go (stopped a n _ e _ _) = ap (λ (r : Submitted). length r.register) e
-      go (passed p) = ap length (register-is p) ∙ state-long (length reg) (sound-long reg f p.sound) t (left-sound p)
+      go (passed p) = ap length (register_is p) ∙ state_long (length reg) (sound_long reg f p.sound) t (left_sound p)
 
-  pub bytes-kept : Fit (each 8 call.register)
-  bytes-kept = go (outcome x reg)
+  pub bytes_kept : Fit (each 8 call.register)
+  bytes_kept = go (outcome x reg)
     where
       go : Outcome x reg → Fit (each 8 call.register)
       go (stopped a n _ e _ _) = subst (λ (r : Submitted). Fit (each 8 r.register)) (sym e) f
-      go (passed p) = subst (λ (b : List ℕ). Fit (each 8 b)) (sym (register-is p)) (encode-fit (length reg) t)
+      go (passed p) = subst (λ (b : List ℕ). Fit (each 8 b)) (sym (register_is p)) (encode_fit (length reg) t)
 
   -- K1 and K2, of each file
-  pub file-conserved : call.answer ≡ 0 → Conserved x reg call
-  file-conserved z =
-      let p = taken-passed x reg z in
-      let b = sound-stored reg f p.sound in
-      let a = left-stored p in
-      let c = siad-conserved (context_of x (length reg)) s (records_in x) b.good in
+  pub file_conserved : call.answer ≡ 0 → Conserved x reg call
+  file_conserved z =
+      let p = taken_passed x reg z in
+      let b = sound_stored reg f p.sound in
+      let a = left_stored p in
+      let c = siad_conserved (context_of x (length reg)) s (records_in x) b.good in
       record {
         cases =
-            omega (arith, cases-held siad laid-siad call.register t a, cases-held siad laid-siad reg s b, c.cases);
+            omega (arith, cases_held_lem siad laid_siad call.register t a, cases_held_lem siad laid_siad reg s b, c.cases);
         events =
             omega (
               arith,
-              events-held siad laid-siad call.register t a,
-              events-held siad laid-siad reg s b,
-              c.once (case_named siad) along (one-track x p.tree p.left p.track-is p.markup),
+              events_held_lem siad laid_siad call.register t a,
+              events_held_lem siad laid_siad reg s b,
+              c.once (case_named siad) along (one_track x p.tree p.left p.track_is p.markup),
             );
       }

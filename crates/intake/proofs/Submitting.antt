@@ -29,32 +29,32 @@ use Rattle.intake.specs.Taking.{GoodRecord}
 use Rattle.intake.specs.Steps.{Whole, uncounted}
 use Rattle.intake.specs.View.{Says}
 use Rattle.intake.specs.declared.Report.{Report}
-use Rattle.intake.proofs.Filing.{all-good}
+use Rattle.intake.proofs.Filing.{all_good}
 
 -- ---- what the parts found
 
 -- 1
-quarter-cases : (y q : ℕ) (b : Bool) → is_period y q ≡ b → {r : Quarter} → r ≡ quarter_of y q → r ≡ cond b (quarters.Days (first_day y q) (last_day y q)) quarters.Refused
-quarter-cases y q b p e = rw p at e
+quarter_cases : (y q : ℕ) (b : Bool) → is_period y q ≡ b → {r : Quarter} → r ≡ quarter_of y q → r ≡ cond b (quarters.Days (first_day y q) (last_day y q)) quarters.Refused
+quarter_cases y q b p e = rw p at e
 
-pub no-period : (y q : ℕ) → quarters.Refused ≡ quarter_of y q → is_period y q ≡ false
-no-period y q e = go (is_period y q) refl
+pub no_period : (y q : ℕ) → quarters.Refused ≡ quarter_of y q → is_period y q ≡ false
+no_period y q e = go (is_period y q) refl
   where
     go : (b : Bool) → is_period y q ≡ b → is_period y q ≡ false
-    go true p = let w = quarter-cases y q true p e in never cc
+    go true p = let w = quarter_cases y q true p e in never cc
     go false p = p
 
-pub a-period : (y q : ℕ) {a b : ℕ} → quarters.Days a b ≡ quarter_of y q → (is_period y q ≡ true) × (a ≡ first_day y q) × (b ≡ last_day y q)
-a-period y q {a} {b} e = go (is_period y q) refl
+pub a_period : (y q : ℕ) {a b : ℕ} → quarters.Days a b ≡ quarter_of y q → (is_period y q ≡ true) × (a ≡ first_day y q) × (b ≡ last_day y q)
+a_period y q {a} {b} e = go (is_period y q) refl
   where
     go : (p : Bool) → is_period y q ≡ p → (is_period y q ≡ true) × (a ≡ first_day y q) × (b ≡ last_day y q)
-    go true p = let w = quarter-cases y q true p e in (p, cc, cc)
-    go false p = let w = quarter-cases y q false p e in never cc
+    go true p = let w = quarter_cases y q true p e in (p, cc, cc)
+    go false p = let w = quarter_cases y q false p e in never cc
 
 -- the context that the code judges in
-pub context-is : (x : Call) (n : ℕ) {a b r : ℕ} → a ≡ first_day x.year x.quarter → b ≡ last_day x.year x.quarter → r ≡ room siad n →
+pub context_is : (x : Call) (n : ℕ) {a b r : ℕ} → a ≡ first_day x.year x.quarter → b ≡ last_day x.year x.quarter → r ≡ room siad n →
     record { first = a; last = b; room = r } ≡ context_of x n
-context-is x n e f g = rw (e, f, g)
+context_is x n e f g = rw (e, f, g)
 
 -- 5: the root stands at the place
 pub record Rooted (s : List ℕ) (root : ℕ) : Type 0 where
@@ -72,44 +72,44 @@ rooted s root e m = go (element depth (drop root s)) refl
     go (read t l) q = record { tree = t; after = l; reads = q; whole = sym (rw q at e) }
 
 -- 6 and 7
-held-bad : (f : Shape) (k : ℕ) {i z : ℕ} → bad i z ≡ held_by f k → f ≡ faulty i z
-held-bad (fine n) k e = go (eqb k 0) e
+held_bad : (f : Shape) (k : ℕ) {i z : ℕ} → bad i z ≡ held_by f k → f ≡ faulty i z
+held_bad (fine n) k e = go (eqb k 0) e
   where
     go : {i z : ℕ} {A : Type 0} (b : Bool) → bad i z ≡ cond b (good n) (over k) → A
     go true e = never cc
     go false e = never cc
-held-bad (faulty j y) k e = cc
+held_bad (faulty j y) k e = cc
 
-held-over : (f : Shape) (k : ℕ) {j : ℕ} → over j ≡ held_by f k → (n : ℕ) × (f ≡ fine n) × (eqb k 0 ≡ false) × (j ≡ k)
-held-over (fine n) k {j} e = go (eqb k 0) refl e
+held_over : (f : Shape) (k : ℕ) {j : ℕ} → over j ≡ held_by f k → (n : ℕ) × (f ≡ fine n) × (eqb k 0 ≡ false) × (j ≡ k)
+held_over (fine n) k {j} e = go (eqb k 0) refl e
   where
     go : (b : Bool) → eqb k 0 ≡ b → over j ≡ cond b (good n) (over k) → (m : ℕ) × (fine n ≡ fine m) × (eqb k 0 ≡ false) × (j ≡ k)
     go true q e = never cc
     go false q e = (n, refl, q, cc)
-held-over (faulty i z) k e = never cc
+held_over (faulty i z) k e = never cc
 
-held-good : (f : Shape) (k : ℕ) {n : ℕ} → good n ≡ held_by f k → (f ≡ fine n) × (k ≡ 0)
-held-good (fine m) k {n} e = go (eqb k 0) refl e
+held_good : (f : Shape) (k : ℕ) {n : ℕ} → good n ≡ held_by f k → (f ≡ fine n) × (k ≡ 0)
+held_good (fine m) k {n} e = go (eqb k 0) refl e
   where
     go : (b : Bool) → eqb k 0 ≡ b → good n ≡ cond b (good m) (over k) → (fine m ≡ fine n) × (k ≡ 0)
     go true q e = (cc, eqb-true k 0 q)
     go false q e = never cc
-held-good (faulty i z) k e = never cc
+held_good (faulty i z) k e = never cc
 
 -- a file that passed 1 to 7: its records are good, and as many as were counted
 module _ (track : ℕ) {s : List ℕ} {root n : ℕ} (o : Rooted s root) (k : eqb track 1 || eqb track 2 ≡ true)
     (h : good n ≡ held_by (shape_of (schema_of track) o.tree) (crowded_in track o.tree)) where
-  fine-few : (shape_of (schema_of track) o.tree ≡ fine n) × (crowded_in track o.tree ≡ 0)
-  fine-few = held-good (shape_of (schema_of track) o.tree) (crowded_in track o.tree) h
+  fine_few : (shape_of (schema_of track) o.tree ≡ fine n) × (crowded_in track o.tree ≡ 0)
+  fine_few = held_good (shape_of (schema_of track) o.tree) (crowded_in track o.tree) h
 
   sure : Every (GoodRecord track) (records_of (schema_of track) o.tree) × (n ≡ length (records_of (schema_of track) o.tree))
-  sure = all-good s o.tree [] n o.whole track k fine-few.0 fine-few.1
+  sure = all_good s o.tree [] n o.whole track k fine_few.0 fine_few.1
 
   as_many : length (entries_of track o.tree) ≡ n
   as_many = length-map (records_of (schema_of track) o.tree) (record_of track) ∙ sym sure.1
 
-  pub whole-file : {long : ℕ} → n ≤ long → Whole track s root n long o.tree
-  whole-file q = record { after = o.after; reads = o.reads; good = sure.0; count = sure.1; fits = q }
+  pub whole_file : {long : ℕ} → n ≤ long → Whole track s root n long o.tree
+  whole_file q = record { after = o.after; reads = o.reads; good = sure.0; count = sure.1; fits = q }
 
 -- ---- what the call gives
 
@@ -128,31 +128,31 @@ module _ (x : Call) (reg : List ℕ) where
   says a n p e f =
       rw (e, f) (record { answer = refl; number = refl; records = refl; accepted = refl; discarded = refl; place = refl; register = refl; answers = refl })
 
-  pub says-1 : {r : Report} → is_period x.year x.quarter ≡ false → r ≡ uncounted 1 0 0 → Says call r reg x.answer_list
+  pub says_1 : {r : Report} → is_period x.year x.quarter ≡ false → r ≡ uncounted 1 0 0 → Says call r reg x.answer_list
   unfolding submitted
-  says-1 p e = says 1 0 0 (rw p) e
+  says_1 p e = says 1 0 0 (rw p) e
 
   module _ (p : is_period x.year x.quarter ≡ true) where
-    pub says-2 : {r : Report} → eqb x.track 1 || eqb x.track 2 ≡ false → r ≡ uncounted 2 0 0 → Says call r reg x.answer_list
+    pub says_2 : {r : Report} → eqb x.track 1 || eqb x.track 2 ≡ false → r ≡ uncounted 2 0 0 → Says call r reg x.answer_list
     unfolding submitted
-    says-2 k e = says 2 0 0 (rw (p, k)) e
+    says_2 k e = says 2 0 0 (rw (p, k)) e
 
     module _ (k : eqb x.track 1 || eqb x.track 2 ≡ true) where
-      pub says-3 : {r : Report} → is_sound reg ≡ false → r ≡ uncounted 3 0 0 → Says call r reg x.answer_list
+      pub says_3 : {r : Report} → is_sound reg ≡ false → r ≡ uncounted 3 0 0 → Says call r reg x.answer_list
       unfolding submitted
-      says-3 s e = says 3 0 0 (rw (p, k, s)) e
+      says_3 s e = says 3 0 0 (rw (p, k, s)) e
 
       module _ (s : is_sound reg ≡ true) where
-        pub says-4 : {r : Report} → longest < length x.file → r ≡ uncounted 4 0 0 → Says call r reg x.answer_list
+        pub says_4 : {r : Report} → longest < length x.file → r ≡ uncounted 4 0 0 → Says call r reg x.answer_list
         unfolding submitted
-        says-4 h e = says 4 0 0 (rw (p, k, s, lt-ltb longest (length x.file) h)) e
+        says_4 h e = says 4 0 0 (rw (p, k, s, lt-ltb longest (length x.file) h)) e
 
         pub says_on : {r : Report} {later told : List ℕ} → length x.file ≤ longest → Says from5 r later told → Says call r later told
         unfolding submitted
         says_on h e = rw (p, k, s, le-ltb longest (length x.file) h) e
 
-  pub says-5 : {r : Report} → refused ≡ document x.file → r ≡ uncounted 5 0 0 → Says from5 r reg x.answer_list
-  says-5 d e = says 5 0 0 (rw (← d)) e
+  pub says_5 : {r : Report} → refused ≡ document x.file → r ≡ uncounted 5 0 0 → Says from5 r reg x.answer_list
+  says_5 d e = says 5 0 0 (rw (← d)) e
 
   module _ {root : ℕ} (o : Rooted x.file root) where
     abbrev t : Tree
@@ -164,24 +164,24 @@ module _ (x : Call) (reg : List ℕ) where
     shape_is : from5 ≡ by_shape x reg t f
     shape_is = ap (by_markup x reg) o.whole
 
-    pub says-6 : {i z p : ℕ} {r : Report} → bad i z ≡ held_by f (crowded_in x.track t) → p ≡ length x.file - z → r ≡ uncounted 6 i p → Says from5 r reg x.answer_list
-    says-6 {i} {z} {p} h w e = says 6 i p (shape_is ∙ ap (by_shape x reg t) (held-bad f (crowded_in x.track t) h) ∙ ap (refuse 6 i) (sym w)) e
+    pub says_6 : {i z p : ℕ} {r : Report} → bad i z ≡ held_by f (crowded_in x.track t) → p ≡ length x.file - z → r ≡ uncounted 6 i p → Says from5 r reg x.answer_list
+    says_6 {i} {z} {p} h w e = says 6 i p (shape_is ∙ ap (by_shape x reg t) (held_bad f (crowded_in x.track t) h) ∙ ap (refuse 6 i) (sym w)) e
 
-    pub says-7 : {k : ℕ} {r : Report} → over k ≡ held_by f (crowded_in x.track t) → r ≡ uncounted 7 k 0 → Says from5 r reg x.answer_list
-    says-7 {k} h e =
-        let w = held-over f (crowded_in x.track t) h in
+    pub says_7 : {k : ℕ} {r : Report} → over k ≡ held_by f (crowded_in x.track t) → r ≡ uncounted 7 k 0 → Says from5 r reg x.answer_list
+    says_7 {k} h e =
+        let w = held_over f (crowded_in x.track t) h in
         let g : of_shape x reg t ≡ refuse 7 k 0 = rw (w.2, w.3) in
         says 7 k 0 (shape_is ∙ ap (by_shape x reg t) w.1 ∙ g) e
 
     module _ {n : ℕ} (k : eqb x.track 1 || eqb x.track 2 ≡ true) (h : good n ≡ held_by f (crowded_in x.track t)) where
-      fine-is : from5 ≡ of_shape x reg t
-      fine-is = shape_is ∙ ap (by_shape x reg t) (fine-few x.track o k h).0
+      fine_is : from5 ≡ of_shape x reg t
+      fine_is = shape_is ∙ ap (by_shape x reg t) (fine_few x.track o k h).0
 
       few : crowded_in x.track t ≡ 0
-      few = (fine-few x.track o k h).1
+      few = (fine_few x.track o k h).1
 
-      pub says-8 : {r : Report} → length x.answer_list < n → r ≡ uncounted 8 0 0 → Says from5 r reg x.answer_list
-      says-8 q e = says 8 0 0 (fine-is ∙ rw (few, lt-ltb (length x.answer_list) (length (entries_of x.track t)) (rw (as_many x.track o k h) q))) e
+      pub says_8 : {r : Report} → length x.answer_list < n → r ≡ uncounted 8 0 0 → Says from5 r reg x.answer_list
+      says_8 q e = says 8 0 0 (fine_is ∙ rw (few, lt-ltb (length x.answer_list) (length (entries_of x.track t)) (rw (as_many x.track o k h) q))) e
 
-      pub says-0 : {r : Report} {later told : List ℕ} → n ≤ length x.answer_list → Says (taken_file x reg (entries_of x.track t)) r later told → Says from5 r later told
-      says-0 q e = rw (fine-is, few, le-ltb (length x.answer_list) (length (entries_of x.track t)) (rw (as_many x.track o k h) q)) e
+      pub says_0 : {r : Report} {later told : List ℕ} → n ≤ length x.answer_list → Says (taken_file x reg (entries_of x.track t)) r later told → Says from5 r later told
+      says_0 q e = rw (fine_is, few, le-ltb (length x.answer_list) (length (entries_of x.track t)) (rw (as_many x.track o k h) q)) e

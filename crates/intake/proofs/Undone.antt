@@ -11,37 +11,37 @@ use Rattle.model.specs.Log.{Undoes}
 use Rattle.model.specs.Flow.{State, empty, machine}
 use Rattle.model.proofs.MapLaws.{not_in}
 use Rattle.laws.proofs.Every.{Every, every_front}
-use Rattle.model.proofs.MachineLaws.{run-keeps-ok}
-use Rattle.model.proofs.Histories.{AllTaken, all-at, taken_all-all, log-every}
+use Rattle.model.proofs.MachineLaws.{run_keeps_ok}
+use Rattle.model.proofs.Histories.{AllTaken, all_at, taken_all_all, log_every}
 use Rattle.register.specs.Layout.{case_named}
 use Rattle.home_care.specs.Row.{siad}
 use Rattle.checks.proofs.Accepted.{along}
-use Rattle.checks.proofs.Valid.{Sound, parts-of}
+use Rattle.checks.proofs.Valid.{Sound, parts_of}
 use Rattle.intake.specs.FileAnswers.{Call}
 use Rattle.intake.specs.Histories.{Entry, entry_flow, entry_machine, entries_for, log_of}
 use Rattle.intake.proofs.SoundBytes.{sound_empty}
-use Rattle.intake.proofs.History.{Ok, entry-lawful, entry_kept, entries-ok}
+use Rattle.intake.proofs.History.{Ok, entry_lawful, entry_kept, entries_ok}
 
 module _ (n : ℕ) (xs : List Call) (p q : List Entry) (a b : Entry) (with : log_of n xs ≡ p ++ a ∷ b ∷ q) (u : Undoes entry_flow a b) where
   -- the state that the insertion met
   abbrev met : State ℕ ℕ
   met = run entry_machine empty p
 
-  met-sound : Sound n met
-  met-sound =
-      run-keeps-ok entry_machine (Sound n) (Ok n) (entry_kept n) empty p (sound_empty n)
-      (every_front (Ok n) p (a ∷ b ∷ q) (subst (Every (Ok n)) with (log-every entry_machine (Ok n) (entries_for n) (entries-ok n) empty xs)))
+  met_sound : Sound n met
+  met_sound =
+      run_keeps_ok entry_machine (Sound n) (Ok n) (entry_kept n) empty p (sound_empty n)
+      (every_front (Ok n) p (a ∷ b ∷ q) (subst (Every (Ok n)) with (log_every entry_machine (Ok n) (entries_for n) (entries_ok n) empty xs)))
 
   accepted : entry_machine.judge met a ≡ 0
-  accepted = all-at entry_machine empty p a (b ∷ q) (subst (AllTaken entry_machine empty) with (taken_all-all entry_machine (entries_for n) empty xs))
+  accepted = all_at entry_machine empty p a (b ∷ q) (subst (AllTaken entry_machine empty) with (taken_all_all entry_machine (entries_for n) empty xs))
 
   -- 14 did not hold: the case is new
   fresh : any_in (entry_flow.case_rows a) met.cases ≡ false
   unfolding machine
-  fresh = or_left (any_in (entry_flow.case_rows a) met.cases) (any_in (entry_flow.event_rows a) met.events) (simp u.inserts at (entry-lawful.not14 met a accepted))
+  fresh = or_left (any_in (entry_flow.case_rows a) met.cases) (any_in (entry_flow.event_rows a) met.events) (simp u.inserts at (entry_lawful.not14 met a accepted))
 
-  pub none-carried : (k : ℕ) → entry_flow.away b k ≡ true → find k met.events ≡ none
-  none-carried k e = go (find k met.events) refl
+  pub none_carried : (k : ℕ) → entry_flow.away b k ≡ true → find k met.events ≡ none
+  none_carried k e = go (find k met.events) refl
     where
       new : find (case_named siad k) met.cases ≡ none
       new =
@@ -51,5 +51,5 @@ module _ (n : ℕ) (xs : List Call) (p q : List Entry) (a b : Entry) (with : log
       go : (o : Option ℕ) → find k met.events ≡ o → find k met.events ≡ none
       go none h = h
       go (some v) h =
-          let tied : has (case_named siad k) met.cases ≡ true = (parts-of n met met-sound.is-valid).tied k (ap is_some h) in
+          let tied : has (case_named siad k) met.cases ≡ true = (parts_of n met met_sound.is_valid).tied k (ap is_some h) in
           absurd (true≢false (sym tied ∙ ap is_some new))

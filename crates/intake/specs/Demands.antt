@@ -74,7 +74,7 @@ module _ (x : Call) (reg : List ℕ) where
     pub other : (d : Record) (i n : ℕ) → i < r.records → n ≢ 0 →
         get_or r.answers i 0 ≡ n ↔ FirstIs (checks_of context (get_or (records_in x) i d)) (left_by i) n
     -- J2: "16 is no longer given": no record's answer is 16
-    pub never-16 : (i : ℕ) → i < r.records → get_or r.answers i 0 ≢ 16
+    pub never_16 : (i : ℕ) → i < r.records → get_or r.answers i 0 ≢ 16
     -- G6: "later bytes stay"
     pub long : length r.answers ≡ length x.answer_list
     pub later : drop r.records r.answers ≡ drop r.records x.answer_list
@@ -85,8 +85,8 @@ module _ (x : Call) (reg : List ℕ) where
     -- the register's rows are the packed fields of what stands, each key once (R30); nothing else is in its bytes
     pub register : r.register ≡ encode siad (length reg) left
     pub stands : state_of siad r.register ≡ left
-    pub cases-once : Once left.cases
-    pub events-once : Once left.events
+    pub cases_once : Once left.cases
+    pub events_once : Once left.events
     -- F3: "The register is not sound" can't come of it
     pub sound : is_sound r.register ≡ true
 

@@ -33,12 +33,12 @@ module _ {S R : Type 0} (d : Driver S R) where
   pub record TookAll (before list : List ℕ) (ts : List Tree) (accepted : ℕ) (later told : List ℕ) : Type 0 where
     pub counted : accepted ≡ zeros (answers d.machine (d.state_of before) (map d.record_of ts))
     pub register : later ≡ d.encode (length before) (run d.machine (d.state_of before) (map d.record_of ts))
-    pub list-after : told ≡ answers d.machine (d.state_of before) (map d.record_of ts) ++ drop (length ts) list
+    pub list_after : told ≡ answers d.machine (d.state_of before) (map d.record_of ts) ++ drop (length ts) list
 
   -- a record: its answer n is written, and counted
   pub record TookNext (before : Tally) (reg list : List ℕ) (a : Tree) (now : Tally) (later told : List ℕ) (n : ℕ) : Type 0 where
     pub took : Took reg a n later
-    pub list-after : told ≡ set list before.records n
+    pub list_after : told ≡ set list before.records n
     pub records : now.records ≡ before.records + 1
     pub accepted : now.accepted ≡ before.accepted + cond (eqb n 0) 1 0
 

@@ -82,7 +82,7 @@ pub record Renews (one : Said) : Type 0 where
   pub packs : one.evaluation ≡ evaluation_number (record { scales = scales; prevalente = padded one.prevalente })
   pub reads : evaluation_of one.evaluation ≡ record { scales = scales; prevalente = padded one.prevalente }
   pub allowed : evaluation_allowed (evaluation_of one.evaluation) ≡ true
-  pub not-zero : one.evaluation ≢ 0
+  pub not_zero : one.evaluation ≢ 0
 
 -- an event's row, read back, has the case's key and the fields of one of the events of the last accepted record with its key, after which no accepted
 -- cancellation of its case came
@@ -91,13 +91,13 @@ pub record EventSays (log : List Entry) (k v : ℕ) : Type 0 where
   pub head : Head
   pub said : List Said
   pub is_last : LastIs (λ e. has k (entry_flow.event_rows e)) log (entry context (events head said))
-  pub none-later : any (carries_away entry_flow k) is_last.after ≡ false
+  pub none_later : any (carries_away entry_flow k) is_last.after ≡ false
   pub keeps : is_cancel (type_of head.tipo) ≡ false
   pub before : List Said
   pub one : Said
   pub after : List Said
   pub list : said ≡ before ++ one ∷ after
-  -- the fields that this one's 52 bits are of, and no others (`event-injective`)
+  -- the fields that this one's 52 bits are of, and no others (`event_injective`)
   pub event : Event
   pub allowed : event_allowed event ≡ true
   pub packs : one.event ≡ event_number event
@@ -111,25 +111,25 @@ pub record EventSays (log : List Entry) (k v : ℕ) : Type 0 where
 -- Demand 3, on the register's bytes
 pub record OnBytes (reg : List ℕ) : Type 0 where
   -- accepted is as in demand 2 (K5): a file that is taken adds to the log those of its records whose byte in the call's answer list is 0; a refused one none
-  pub log-begins : log_of (length reg) [] ≡ []
-  pub log-taken : (xs : List Call) (x : Call) → (submitted x (reg_after reg xs)).answer ≡ 0 →
+  pub log_begins : log_of (length reg) [] ≡ []
+  pub log_taken : (xs : List Call) (x : Call) → (submitted x (reg_after reg xs)).answer ≡ 0 →
       log_of (length reg) (xs ++ x ∷ []) ≡
       log_of (length reg) xs ++ map (entry (context_of x (length reg))) (at_zeros (submitted x (reg_after reg xs)).answers (records_in x))
-  pub log-refused : (xs : List Call) (x : Call) → (submitted x (reg_after reg xs)).answer ≢ 0 → log_of (length reg) (xs ++ x ∷ []) ≡ log_of (length reg) xs
+  pub log_refused : (xs : List Call) (x : Call) → (submitted x (reg_after reg xs)).answer ≢ 0 → log_of (length reg) (xs ++ x ∷ []) ≡ log_of (length reg) xs
   pub bytes : (xs : List Call) → reg_after reg xs ≡ encode siad (length reg) (state_after (length reg) xs)
   -- K6: a case or an event stands exactly when "the last accepted record with its key inserts or varies it and, of an event, no accepted cancellation of its
   -- case came later; it shows that record's fields; nothing else stands"
-  pub case-stands : (xs : List Call) (k v : ℕ) →
+  pub case_stands : (xs : List Call) (k v : ℕ) →
       find k (state_of siad (reg_after reg xs)).cases ≡ some v ↔
       Shown entry_flow.kind (λ e. find k (entry_flow.case_rows e)) (of_case entry_flow k) (log_of (length reg) xs) v
-  pub event-stands : (xs : List Call) (k v : ℕ) →
+  pub event_stands : (xs : List Call) (k v : ℕ) →
       find k (state_of siad (reg_after reg xs)).events ≡ some v ↔ EventStands entry_flow k (log_of (length reg) xs) v
-  pub case-fields : (xs : List Call) (k v : ℕ) → find k (state_of siad (reg_after reg xs)).cases ≡ some v → CaseSays (log_of (length reg) xs) k v
-  pub event-fields : (xs : List Call) (k v : ℕ) → find k (state_of siad (reg_after reg xs)).events ≡ some v → EventSays (log_of (length reg) xs) k v
+  pub case_fields_lem : (xs : List Call) (k v : ℕ) → find k (state_of siad (reg_after reg xs)).cases ≡ some v → CaseSays (log_of (length reg) xs) k v
+  pub event_fields : (xs : List Call) (k v : ℕ) → find k (state_of siad (reg_after reg xs)).events ≡ some v → EventSays (log_of (length reg) xs) k v
   -- in ascending order, each key once
   pub ascending : (xs : List Call) → Good (state_of siad (reg_after reg xs))
-  pub cases-once : (xs : List Call) → Once (state_of siad (reg_after reg xs)).cases
-  pub events-once : (xs : List Call) → Once (state_of siad (reg_after reg xs)).events
+  pub cases_once : (xs : List Call) → Once (state_of siad (reg_after reg xs)).cases
+  pub events_once : (xs : List Call) → Once (state_of siad (reg_after reg xs)).events
   -- K7: "Where the same things stand in registers of one length, the bytes are the same"
   pub same_bytes : (other : List ℕ) → length other ≡ length reg → (xs ys : List Call) →
       ((k : ℕ) → find k (state_of siad (reg_after reg xs)).cases ≡ find k (state_of siad (reg_after other ys)).cases) →
@@ -139,8 +139,8 @@ pub record OnBytes (reg : List ℕ) : Type 0 where
   -- refused or discarded before, between and behind the two; and among other accepted records, the bytes that are left without the two
   pub undone : (xs ys : List Call) (a b : Entry) → log_of (length reg) (xs ++ ys) ≡ log_of (length reg) xs ++ a ∷ b ∷ [] → Undoes entry_flow a b →
       reg_after reg (xs ++ ys) ≡ reg_after reg xs
-  pub undone-among : (xs ys : List Call) (p q : List Entry) (a b : Entry) → log_of (length reg) xs ≡ p ++ a ∷ b ∷ q → log_of (length reg) ys ≡ p ++ q →
+  pub undone_among : (xs ys : List Call) (p q : List Entry) (a b : Entry) → log_of (length reg) xs ≡ p ++ a ∷ b ∷ q → log_of (length reg) ys ≡ p ++ q →
       Undoes entry_flow a b → reg_after reg xs ≡ reg_after reg ys
   -- K9: "never answered 3"
   pub sound : (xs : List Call) → is_sound (reg_after reg xs) ≡ true
-  pub never-3 : (xs : List Call) (x : Call) → (submitted x (reg_after reg xs)).answer ≢ 3
+  pub never_3 : (xs : List Call) (x : Call) → (submitted x (reg_after reg xs)).answer ≢ 3

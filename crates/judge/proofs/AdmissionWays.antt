@@ -13,27 +13,27 @@ module _ (c : Context) (inserts out early abroad zero stands : Bool) (rows : ℕ
   abbrev answer : ℕ
   answer = answer_admission c inserts out early abroad zero stands rows
 
-  pub at-10 : out ≡ true → 10 ≡ answer
+  pub at_10 : out ≡ true → 10 ≡ answer
   unfolding answer_admission
-  at-10 e = rw e
+  at_10 e = rw e
 
   module _ (dated : out ≡ false) where
-    pub at-11 : early ≡ true → 11 ≡ answer
+    pub at_11 : early ≡ true → 11 ≡ answer
     unfolding answer_admission
-    at-11 e = rw (dated, e)
+    at_11 e = rw (dated, e)
 
     module _ (born : early ≡ false) where
-      pub at-12 : abroad ≡ true → 12 ≡ answer
+      pub at_12 : abroad ≡ true → 12 ≡ answer
       unfolding answer_admission
-      at-12 e = rw (dated, born, e)
+      at_12 e = rw (dated, born, e)
 
       module _ (lives : abroad ≡ false) where
-        pub at-13 : zero ≡ true → 13 ≡ answer
+        pub at_13 : zero ≡ true → 13 ≡ answer
         unfolding answer_admission
-        at-13 e = rw (dated, born, lives, e)
+        at_13 e = rw (dated, born, lives, e)
 
-        pub at-case : zero ≡ false → answer_admission c inserts false false false false stands rows ≡ answer
-        at-case e = rw (dated, born, lives, e)
+        pub at_case : zero ≡ false → answer_admission c inserts false false false false stands rows ≡ answer
+        at_case e = rw (dated, born, lives, e)
 
 -- ---- against the case
 
@@ -41,20 +41,20 @@ module _ (c : Context) (k : Kind) (there : Bool) (rows : ℕ) (new stands : Bool
   abbrev against : ℕ
   against = answer_admission c (is_insert k) false false false false there rows
 
-  pub at-14 : new && stands ≡ true → 14 ≡ against
+  pub at_14 : new && stands ≡ true → 14 ≡ against
   unfolding answer_admission
-  at-14 e = rw (← n, ← s, e)
+  at_14 e = rw (← n, ← s, e)
 
   module _ (fresh : new && stands ≡ false) where
-    pub at-15 : not new && not stands ≡ true → 15 ≡ against
+    pub at_15 : not new && not stands ≡ true → 15 ≡ against
     unfolding answer_admission
-    at-15 e = rw (← n, ← s, fresh, e)
+    at_15 e = rw (← n, ← s, fresh, e)
 
     module _ (known : not new && not stands ≡ false) (held : ℕ) (w : held ≡ rows) where
-      pub at-17 : new && ltb c.room (held + 1) ≡ true → 17 ≡ against
+      pub at_17 : new && ltb c.room (held + 1) ≡ true → 17 ≡ against
       unfolding answer_admission
-      at-17 e = rw (← n, ← s, fresh, known, ← w, e)
+      at_17 e = rw (← n, ← s, fresh, known, ← w, e)
 
-      pub at-0 : new && ltb c.room (held + 1) ≡ false → 0 ≡ against
+      pub at_0 : new && ltb c.room (held + 1) ≡ false → 0 ≡ against
       unfolding answer_admission
-      at-0 e = rw (← n, ← s, fresh, known, ← w, e)
+      at_0 e = rw (← n, ← s, fresh, known, ← w, e)

@@ -30,35 +30,35 @@ asks : {a b : Bool} {x y : ℕ} → a ≡ b → (n : ℕ) → (b ≡ false → x
 asks {b = true} p n q = rw p
 asks {b = false} p n q = rw p (q refl)
 
-length-events : (es : List Said) → length (event_numbers es) ≡ length es
+length_events : (es : List Said) → length (event_numbers es) ≡ length es
 unfolding event_numbers
-length-events [] = refl
-length-events (e ∷ es) = ap suc (length-events es)
+length_events [] = refl
+length_events (e ∷ es) = ap suc (length_events es)
 
-length-rows : (c : ℕ) (es : List Said) → length (event_rows c es) ≡ length (event_numbers es)
+length_rows : (c : ℕ) (es : List Said) → length (event_rows c es) ≡ length (event_numbers es)
 unfolding event_rows event_numbers
-length-rows c [] = refl
-length-rows c (e ∷ es) = ap suc (length-rows c es)
+length_rows c [] = refl
+length_rows c (e ∷ es) = ap suc (length_rows c es)
 
 module _ (n : ℕ) (s : State ℕ ℕ) (v : Sound n s) (c : Context) (h : Head) (es : List Said) (r : Readable (events h es)) where
-  pub answer-events : first (checks_of c (events h es)) s
+  pub answer_events_lem : first (checks_of c (events h es)) s
       ≡ answer_events c (is_insert (type_of h.tipo)) (is_cancel (type_of h.tipo)) h.key.taken (event_numbers es) (any bad_conferma es) (any zero_written es)
       (has (key_number h.key) s.cases) (length s.cases + length s.events) (map event_number_in (events_of siad (key_number h.key) s.events))
   unfolding first answer_events against_standing any all any_in all_in
-  answer-events =
+  answer_events_lem =
       let k : ℕ = key_number h.key in
       let inserts : Bool = is_insert (type_of h.tipo) in
       let rows : ℕ = length s.cases + length s.events in
-      let more : 0 + length (event_rows k es) ≡ length (event_numbers es) = omega (arith, length-rows k es) in
-      asks (ap (λ (l : ℕ). eqb l 0) (sym (length-events es))) 20 (λ _.
+      let more : 0 + length (event_rows k es) ≡ length (event_numbers es) = omega (arith, length_rows k es) in
+      asks (ap (λ (l : ℕ). eqb l 0) (sym (length_events es))) 20 (λ _.
       asks {a = any (wrong 10 c h.key.taken) (event_numbers es)} refl 10 (λ _.
       asks {a = any bad_conferma es} refl 21 (λ _.
       asks {a = any zero_written es} refl 13 (λ _.
       asks (is22 h es r.1) 22 (λ once.
       asks {a = any (wrong 23 c h.key.taken) (event_numbers es)} refl 23 (λ _.
       asks {a = not (has k s.cases)} refl 24 (λ _.
-      asks (ap (λ (b : Bool). inserts && b) (is14 k es r.1 s.events v.events-fit)) 14 (λ _.
-      asks (ap (λ (b : Bool). not inserts && b) (is15 k es r.1 s.events v.events-fit)) 15 (λ _.
+      asks (ap (λ (b : Bool). inserts && b) (is14 k es r.1 s.events v.events_fit)) 14 (λ _.
+      asks (ap (λ (b : Bool). not inserts && b) (is15 k es r.1 s.events v.events_fit)) 15 (λ _.
       asks (is25 n s v h es r once c) 25 (λ _.
       asks (is26 n s v h es r once) 26 (λ _.
       asks (is27 n s v h es r once) 27 (λ _.
@@ -67,12 +67,12 @@ module _ (n : ℕ) (s : State ℕ ℕ) (v : Sound n s) (c : Context) (h : Head) 
 
 -- ---- Track 1
 
-pub answer-admission : (s : State ℕ ℕ) (c : Context) (h : Head) (a : Admission) →
+pub answer_admission_lem : (s : State ℕ ℕ) (c : Context) (h : Head) (a : Admission) →
     first (checks_of c (admission h a)) s
     ≡ answer_admission c (is_insert (type_of h.tipo)) (out_of_quarter c h.key.taken) (t11 h.key a.case) (t12 a.residence)
     (zero_kept a.case.prevalente) (has (key_number h.key) s.cases) (length s.cases + length s.events)
 unfolding first answer_admission any all any_in all_in
-answer-admission s c h a =
+answer_admission_lem s c h a =
     let stands : Bool = has (key_number h.key) s.cases in
     let inserts : Bool = is_insert (type_of h.tipo) in
     asks {a = out_of_quarter c h.key.taken} refl 10 (λ _.

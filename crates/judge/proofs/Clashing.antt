@@ -8,7 +8,7 @@ use Rattle.laws.specs.Lists.{any, some_pair}
 use Rattle.laws.proofs.Places.{front}
 use Rattle.judge.specs.ByNumber.{clash, key_among}
 use Rattle.judge.specs.CaseRows.{standing_in, Settled, Outside}
-use Rattle.judge.proofs.Rows.{part-enough}
+use Rattle.judge.proofs.Rows.{part_enough}
 
 -- a standing event clashes with a, and is not replaced
 abbrev pub unreplaced : (ℕ → ℕ → Bool) → List ℕ → ℕ → ℕ → Bool
@@ -19,9 +19,9 @@ abbrev pub fresh_from : (ℕ → ℕ → Bool) → List ℕ → List ℕ → ℕ
 fresh_from p es ms i = some_pair p (drop i es) || any (λ a. any (unreplaced p es a) ms) (drop i es)
 
 module _ (p : ℕ → ℕ → Bool) (es ms : List ℕ) (i : ℕ) (target : Bool) (inv : target ≡ fresh_from p es ms i) where
-  pub fresh-end : length es ≤ i → false ≡ target
+  pub fresh_end : length es ≤ i → false ≡ target
   unfolding any some_pair
-  fresh-end h = sym (inv ∙ rw (drop_of_length-le es h))
+  fresh_end h = sym (inv ∙ rw (drop_of_length-le es h))
 
   module _ (h : i < length es) where
     abbrev later : Bool
@@ -34,25 +34,25 @@ module _ (p : ℕ → ℕ → Bool) (es ms : List ℕ) (i : ℕ) (target : Bool)
     unfolding any some_pair
     step = inv ∙ rw (front es i h)
 
-    pub fresh-later : true ≡ later → true ≡ target
-    fresh-later e = sym (step ∙ rw (sym e))
+    pub fresh_later : true ≡ later → true ≡ target
+    fresh_later e = sym (step ∙ rw (sym e))
 
-    pub fresh-stands : true ≡ stands → true ≡ target
-    fresh-stands e = sym (step ∙ rw (sym e) (or-true (later || some_pair p (drop (i + 1) es))))
+    pub fresh_stands : true ≡ stands → true ≡ target
+    fresh_stands e = sym (step ∙ rw (sym e) (or-true (later || some_pair p (drop (i + 1) es))))
 
-    pub fresh-next : false ≡ later → false ≡ stands → target ≡ fresh_from p es ms (i + 1)
-    fresh-next e f = step ∙ rw (sym e, sym f)
+    pub fresh_next : false ≡ later → false ≡ stands → target ≡ fresh_from p es ms (i + 1)
+    fresh_next e f = step ∙ rw (sym e, sym f)
 
 -- with the rows in which a rival can stand for all of the case's rows
 module _ (number : ℕ) (es reg : List ℕ) (lo hi i : ℕ) (settled : Settled reg lo hi) (h : i < length es) (target : Bool)
     (inv : target ≡ fresh_from (clash number) es (standing_in reg lo hi) i) (first end : ℕ) (o : Outside (clash number (get_or es i 0)) reg lo hi first end) where
   rivals : any (unreplaced (clash number) es (get_or es i 0)) (standing_in reg lo hi) ≡ any (unreplaced (clash number) es (get_or es i 0)) (standing_in reg first end)
   rivals =
-      part-enough (clash number (get_or es i 0)) (unreplaced (clash number) es (get_or es i 0)) reg lo hi first end (λ b f. ap (λ (t : Bool). t && not (key_among es b)) f) o settled
+      part_enough (clash number (get_or es i 0)) (unreplaced (clash number) es (get_or es i 0)) reg lo hi first end (λ b f. ap (λ (t : Bool). t && not (key_among es b)) f) o settled
 
-  pub rival-stands : true ≡ any (unreplaced (clash number) es (get_or es i 0)) (standing_in reg first end) → true ≡ target
-  rival-stands e = fresh-stands (clash number) es (standing_in reg lo hi) i target inv h (e ∙ sym rivals)
+  pub rival_stands : true ≡ any (unreplaced (clash number) es (get_or es i 0)) (standing_in reg first end) → true ≡ target
+  rival_stands e = fresh_stands (clash number) es (standing_in reg lo hi) i target inv h (e ∙ sym rivals)
 
   pub no_rival : false ≡ any (clash number (get_or es i 0)) (drop (i + 1) es) → false ≡ any (unreplaced (clash number) es (get_or es i 0)) (standing_in reg first end) →
       target ≡ fresh_from (clash number) es (standing_in reg lo hi) (i + 1)
-  no_rival e f = fresh-next (clash number) es (standing_in reg lo hi) i target inv h e (f ∙ sym rivals)
+  no_rival e f = fresh_next (clash number) es (standing_in reg lo hi) i target inv h e (f ∙ sym rivals)

@@ -18,21 +18,21 @@ use Rattle.judge.proofs.Rows.{no_row}
 
 -- ---- 22: with nothing that stands, only the record's events
 
-none-stands : (p : ℕ → ℕ → Bool) (es fs : List ℕ) → any (λ a. any (λ b. p a b && not (key_among es b)) []) fs ≡ false
+none_stands : (p : ℕ → ℕ → Bool) (es fs : List ℕ) → any (λ a. any (λ b. p a b && not (key_among es b)) []) fs ≡ false
 unfolding any
-none-stands p es [] = refl
-none-stands p es (x ∷ fs) = none-stands p es fs
+none_stands p es [] = refl
+none_stands p es (x ∷ fs) = none_stands p es fs
 
-fresh-none : (p : ℕ → ℕ → Bool) (es : List ℕ) → fresh p es [] ≡ some_pair p es
-fresh-none p es = ap (λ (b : Bool). some_pair p es || b) (none-stands p es es) ∙ or-false (some_pair p es)
+fresh_none : (p : ℕ → ℕ → Bool) (es : List ℕ) → fresh p es [] ≡ some_pair p es
+fresh_none p es = ap (λ (b : Bool). some_pair p es || b) (none_stands p es es) ∙ or-false (some_pair p es)
 
 no_rows : (reg : List ℕ) → Settled reg 0 0
 no_rows reg =
     record { climbs = λ x y a b c. absurd (omega arith); forward = λ k a b. absurd (omega arith); apart = λ x y a b c. absurd (omega arith) }
 
-pub only-own : (p : ℕ → ℕ → Bool) (es reg : List ℕ) (r : Bool) → (Settled reg 0 0 → r ≡ fresh p es (standing_in reg 0 0)) → r ≡ some_pair p es
-only-own p es reg r h =
-    h (no_rows reg) ∙ ap (fresh p es) (no_row reg 0 0 (omega arith)) ∙ fresh-none p es
+pub only_own : (p : ℕ → ℕ → Bool) (es reg : List ℕ) (r : Bool) → (Settled reg 0 0 → r ≡ fresh p es (standing_in reg 0 0)) → r ≡ some_pair p es
+only_own p es reg r h =
+    h (no_rows reg) ∙ ap (fresh p es) (no_row reg 0 0 (omega arith)) ∙ fresh_none p es
 
 -- ---- before the case
 
@@ -40,51 +40,51 @@ module _ (c : Context) (inserts cancels : Bool) (taken : ℕ) (es : List ℕ) (b
   abbrev answer : ℕ
   answer = answer_events c inserts cancels taken es bad zero stands rows standing
 
-  pub at-20 : length es ≡ 0 → 20 ≡ answer
+  pub at_20 : length es ≡ 0 → 20 ≡ answer
   unfolding answer_events
-  at-20 e = rw (eq-eqb (length es) 0 e)
+  at_20 e = rw (eq-eqb (length es) 0 e)
 
   module _ (some : length es ≡ 0 → ⊥) where
-    pub at-10 : any (wrong 10 c taken) es ≡ true → 10 ≡ answer
+    pub at_10 : any (wrong 10 c taken) es ≡ true → 10 ≡ answer
     unfolding answer_events
-    at-10 e = rw (ne_eqb (length es) 0 some, e)
+    at_10 e = rw (ne_eqb (length es) 0 some, e)
 
     module _ (dated : any (wrong 10 c taken) es ≡ false) where
-      pub at-21 : bad ≡ true → 21 ≡ answer
+      pub at_21 : bad ≡ true → 21 ≡ answer
       unfolding answer_events
-      at-21 e = rw (ne_eqb (length es) 0 some, dated, e)
+      at_21 e = rw (ne_eqb (length es) 0 some, dated, e)
 
       module _ (confirmed : bad ≡ false) where
-        pub at-13 : zero ≡ true → 13 ≡ answer
+        pub at_13 : zero ≡ true → 13 ≡ answer
         unfolding answer_events
-        at-13 e = rw (ne_eqb (length es) 0 some, dated, confirmed, e)
+        at_13 e = rw (ne_eqb (length es) 0 some, dated, confirmed, e)
 
         module _ (ill : zero ≡ false) where
-          pub at-22 : some_pair (clash 22) es ≡ true → 22 ≡ answer
+          pub at_22 : some_pair (clash 22) es ≡ true → 22 ≡ answer
           unfolding answer_events
-          at-22 e = rw (ne_eqb (length es) 0 some, dated, confirmed, ill, e)
+          at_22 e = rw (ne_eqb (length es) 0 some, dated, confirmed, ill, e)
 
           module _ (once : some_pair (clash 22) es ≡ false) where
-            pub at-23 : any (wrong 23 c taken) es ≡ true → 23 ≡ answer
+            pub at_23 : any (wrong 23 c taken) es ≡ true → 23 ≡ answer
             unfolding answer_events
-            at-23 e = rw (ne_eqb (length es) 0 some, dated, confirmed, ill, once, e)
+            at_23 e = rw (ne_eqb (length es) 0 some, dated, confirmed, ill, once, e)
 
             module _ (ends : any (wrong 23 c taken) es ≡ false) where
-              pub at-24 : stands ≡ false → 24 ≡ answer
+              pub at_24 : stands ≡ false → 24 ≡ answer
               unfolding answer_events
-              at-24 e = rw (ne_eqb (length es) 0 some, dated, confirmed, ill, once, ends, e)
+              at_24 e = rw (ne_eqb (length es) 0 some, dated, confirmed, ill, once, ends, e)
 
-              pub at-case : stands ≡ true → (r held : ℕ) (ms : List ℕ) → r ≡ against_standing c inserts cancels taken es held ms →
+              pub at_case : stands ≡ true → (r held : ℕ) (ms : List ℕ) → r ≡ against_standing c inserts cancels taken es held ms →
                   held ≡ rows → standing ≡ ms → r ≡ answer
               unfolding answer_events
-              at-case e r held ms a w m = a ∙ rw (ne_eqb (length es) 0 some, dated, confirmed, ill, once, ends, e, w, m)
+              at_case e r held ms a w m = a ∙ rw (ne_eqb (length es) 0 some, dated, confirmed, ill, once, ends, e, w, m)
 
 -- ---- where the case stands
 
-not-both : (k : Kind) → is_cancel k ≡ true → is_insert k ≡ false
-not-both insert e = sym e
-not-both vary e = refl
-not-both cancel e = refl
+not_both : (k : Kind) → is_cancel k ≡ true → is_insert k ≡ false
+not_both insert e = sym e
+not_both vary e = refl
+not_both cancel e = refl
 
 -- a test that held gives its number, one that did not the checks after it
 pub out : {x n : ℕ} {b : Bool} (m : ℕ) → x ≡ cond b n m → b ≡ true → n ≡ x
@@ -115,10 +115,10 @@ module _ (c : Context) (k : Kind) (taken : ℕ) (es : List ℕ) (rows : ℕ) (st
 
   -- the ways out by the kind, and the way on
   pub record Kinds (new some : Bool) : Type 0 where
-    pub at-14 : some ≡ true → new ≡ true → 14 ≡ against
-    pub at-15 : some ≡ true → new ≡ false → 15 ≡ against
-    pub at-end : some ≡ false → is_cancel k ≡ true → 0 ≡ against
-    pub on-25 : some ≡ false → is_cancel k ≡ false → against ≡ from25
+    pub at_14 : some ≡ true → new ≡ true → 14 ≡ against
+    pub at_15 : some ≡ true → new ≡ false → 15 ≡ against
+    pub at_end_lem : some ≡ false → is_cancel k ≡ true → 0 ≡ against
+    pub on_25 : some ≡ false → is_cancel k ≡ false → against ≡ from25
 
   module _ (new some : Bool) (n : new ≡ is_insert k) (told : some ≡ any (λ e. cond new (key_among standing e) (not (key_among standing e))) es) where
     -- an insertion asks whether some event stands, any other record whether some does not
@@ -145,8 +145,8 @@ module _ (c : Context) (k : Kind) (taken : ℕ) (es : List ℕ) (rows : ℕ) (st
     unfolding against_standing
     kinds =
         record {
-          at-14 = λ s e. rw (sym n ∙ e, sym (asked true e) ∙ s);
-          at-15 = λ s e. rw (sym n ∙ e, sym (asked false e) ∙ s);
-          at-end = λ s e. sym (passed s ∙ rw (e, not-both k e));
-          on-25 = λ s e. passed s ∙ rw e;
+          at_14 = λ s e. rw (sym n ∙ e, sym (asked true e) ∙ s);
+          at_15 = λ s e. rw (sym n ∙ e, sym (asked false e) ∙ s);
+          at_end_lem = λ s e. sym (passed s ∙ rw (e, not_both k e));
+          on_25 = λ s e. passed s ∙ rw e;
         }

@@ -13,8 +13,8 @@ use Rattle.judge.specs.ByNumber.{clash}
 use Rattle.judge.specs.CaseRows.{Outside}
 
 -- what a weaker test leaves out, a stronger one does
-outside-map : (p q : ℕ → Bool) (reg : List ℕ) (lo hi a e : ℕ) → ((b : ℕ) → q b ≡ false → p b ≡ false) → Outside q reg lo hi a e → Outside p reg lo hi a e
-outside-map p q reg lo hi a e f o =
+outside_map : (p q : ℕ → Bool) (reg : List ℕ) (lo hi a e : ℕ) → ((b : ℕ) → q b ≡ false → p b ≡ false) → Outside q reg lo hi a e → Outside p reg lo hi a e
+outside_map p q reg lo hi a e f o =
     record {
       low = o.low;
       mid = o.mid;
@@ -24,8 +24,8 @@ outside-map p q reg lo hi a e f o =
     }
 
 module _ (reg : List ℕ) (lo hi : ℕ) (h : lo ≤ hi) where
-  pub all-rows : (q : ℕ → Bool) → Outside q reg lo hi lo hi
-  all-rows q =
+  pub all_rows : (q : ℕ → Bool) → Outside q reg lo hi lo hi
+  all_rows q =
       record { low = omega arith; mid = h; high = omega arith; before = λ settled k x y. absurd (omega arith); after = λ settled k x y. absurd (omega arith) }
 
   no_rows : (q : ℕ → Bool) → ((b : ℕ) → q b ≡ false) → Outside q reg lo hi lo lo
@@ -36,8 +36,8 @@ module _ (reg : List ℕ) (lo hi : ℕ) (h : lo ≤ hi) where
     abbrev alone : Bool
     alone = (eqb number 26 && not (eqb kind 2)) || (eqb number 27 && not (eqb kind 3))
 
-    pub none-clash : alone ≡ true → Outside (clash number a) reg lo hi lo lo
-    none-clash e = no_rows (clash number a) (go (eqb number 26) refl (eqb number 27) refl)
+    pub none_clash : alone ≡ true → Outside (clash number a) reg lo hi lo lo
+    none_clash e = no_rows (clash number a) (go (eqb number 26) refl (eqb number 27) refl)
       where
         go : (s : Bool) → eqb number 26 ≡ s → (t : Bool) → eqb number 27 ≡ t → (b : ℕ) → clash number a b ≡ false
         go true x t y b =
@@ -46,14 +46,14 @@ module _ (reg : List ℕ) (lo hi : ℕ) (h : lo ≤ hi) where
         go false x false y b = absurd (false≢true (rw (x, y) at e))
 
     -- 26: only what can share a day with a
-    pub sharing-clash : (from to : ℕ) → number ≡ 26 → Outside (share_day a) reg lo hi from to → Outside (clash number a) reg lo hi from to
-    sharing-clash from to n o = outside-map (clash number a) (share_day a) reg lo hi from to (λ b f. rw n f) o
+    pub sharing_clash : (from to : ℕ) → number ≡ 26 → Outside (share_day a) reg lo hi from to → Outside (clash number a) reg lo hi from to
+    sharing_clash from to n o = outside_map (clash number a) (share_day a) reg lo hi from to (λ b f. rw n f) o
 
     -- 27, and 28 where a is no conclusion: only a conclusion
-    pub conclusions-clash : (from to : ℕ) → (number ≡ 26 → ⊥) → eqb number 22 || (not (eqb number 27) && eqb kind 3) ≡ false →
+    pub conclusions_clash : (from to : ℕ) → (number ≡ 26 → ⊥) → eqb number 22 || (not (eqb number 27) && eqb kind 3) ≡ false →
         Outside (λ b. eqb (kind_of b) 3) reg lo hi from to → Outside (clash number a) reg lo hi from to
-    conclusions-clash from to n e o =
-        outside-map (clash number a) is_conclusion reg lo hi from to (λ b f. go (eqb number 27) refl b f) o
+    conclusions_clash from to n e o =
+        outside_map (clash number a) is_conclusion reg lo hi from to (λ b f. go (eqb number 27) refl b f) o
       where
         go : (t : Bool) → eqb number 27 ≡ t → (b : ℕ) → is_conclusion b ≡ false → clash number a b ≡ false
         go true x b f = rw (eqb-true number 27 x, f, and-false (is_conclusion a))

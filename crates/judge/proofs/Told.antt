@@ -18,12 +18,12 @@ use Rattle.home_care.specs.Anomalies.{Context, out_of_quarter, t11, t12, zero_ke
 use Rattle.soundness.specs.Sound.{is_sound}
 use Rattle.checks.specs.CheckOrder.{checks_of}
 use Rattle.checks.specs.Readable.{Readable}
-use Rattle.checks.proofs.Valid.{sound-state}
+use Rattle.checks.proofs.Valid.{sound_state}
 use Rattle.judge.specs.Asked.{answer_admission}
 use Rattle.judge.proofs.InOrder.{answer_events}
 use Rattle.judge.specs.View.{IsOf, IsSaid, IsAdmitted}
-use Rattle.judge.proofs.Answers.{answer-events, answer-admission}
-use Rattle.judge.proofs.CaseRows.{cases-count, events-count}
+use Rattle.judge.proofs.Answers.{answer_events_lem, answer_admission_lem}
+use Rattle.judge.proofs.CaseRows.{cases_count, events_count}
 
 module _ (reg : List ℕ) (c : Context) (tipo taken : ℕ) (probe : List ℕ) where
   abbrev stands : Bool
@@ -39,14 +39,14 @@ module _ (reg : List ℕ) (c : Context) (tipo taken : ℕ) (probe : List ℕ) wh
   abbrev pub events_answer : List ℕ → Bool → Bool → ℕ
   events_answer evs bad zero = answer_events c (is_insert (type_of tipo)) (is_cancel (type_of tipo)) taken evs bad zero stands rows standing
 
-  pub events-told : Fit (each 8 reg) → (evs : List ℕ) (bad zero : Bool) (r : ℕ) → (is_sound reg ≡ true → r ≡ events_answer evs bad zero) →
+  pub events_told : Fit (each 8 reg) → (evs : List ℕ) (bad zero : Bool) (r : ℕ) → (is_sound reg ≡ true → r ≡ events_answer evs bad zero) →
       (h : Head) (es : List Said) → IsOf probe tipo taken h → IsSaid evs bad zero es → Readable (events h es) → is_sound reg ≡ true →
       r ≡ first (checks_of c (events h es)) (state_of siad reg)
-  events-told f evs bad zero r e h es i s w sound =
+  events_told f evs bad zero r e h es i s w sound =
       e sound ∙ rw (
-        answer-events (length reg) (state_of siad reg) (sound-state reg f sound) c h es w,
-        cases-count reg,
-        events-count reg,
+        answer_events_lem (length reg) (state_of siad reg) (sound_state reg f sound) c h es w,
+        cases_count reg,
+        events_count reg,
         i.key,
         i.tipo,
         i.taken,
@@ -60,14 +60,14 @@ module _ (reg : List ℕ) (c : Context) (tipo taken : ℕ) (probe : List ℕ) wh
   admission_answer out early abroad zero =
       answer_admission c (is_insert (type_of tipo)) out early abroad zero stands rows
 
-  pub admission-told : (birth : ℕ) (main region asl comune stato : List ℕ) (r : ℕ) (h : Head) (a : Admission) → IsOf probe tipo taken h → IsAdmitted birth main region asl comune stato a →
+  pub admission_told : (birth : ℕ) (main region asl comune stato : List ℕ) (r : ℕ) (h : Head) (a : Admission) → IsOf probe tipo taken h → IsAdmitted birth main region asl comune stato a →
       r ≡ admission_answer (out_of_quarter c taken) (t11 h.key a.case) (t12 (record { region = region; asl = asl; comune = comune; stato = stato })) (zero_kept main) →
       r ≡ first (checks_of c (admission h a)) (state_of siad reg)
-  admission-told birth main region asl comune stato r h a i w e =
+  admission_told birth main region asl comune stato r h a i w e =
       e ∙ rw (
-        answer-admission (state_of siad reg) c h a,
-        cases-count reg,
-        events-count reg,
+        answer_admission_lem (state_of siad reg) c h a,
+        cases_count reg,
+        events_count reg,
         i.key,
         i.tipo,
         i.taken,

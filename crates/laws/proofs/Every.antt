@@ -14,9 +14,9 @@ module _ {A : Type 0} where
   every_map [] f h = tt
   every_map (x ∷ l) f h = (f x h.0, every_map l f h.1)
 
-  pub every-both : {P Q R : A → Type 0} (l : List A) → ((x : A) → P x → Q x → R x) → Every P l → Every Q l → Every R l
-  every-both [] f h g = tt
-  every-both (x ∷ l) f h g = (f x h.0 g.0, every-both l f h.1 g.1)
+  pub every_both : {P Q R : A → Type 0} (l : List A) → ((x : A) → P x → Q x → R x) → Every P l → Every Q l → Every R l
+  every_both [] f h g = tt
+  every_both (x ∷ l) f h g = (f x h.0 g.0, every_both l f h.1 g.1)
 
 -- of a list that is cut
 module _ {A : Type 0} (P : A → Type 0) where
@@ -28,9 +28,9 @@ module _ {A : Type 0} (P : A → Type 0) where
   every_front [] b h = tt
   every_front (x ∷ a) b h = (h.0, every_front a b h.1)
 
-  pub every-at : (a : List A) (x : A) (b : List A) → Every P (a ++ x ∷ b) → P x
-  every-at [] x b h = h.0
-  every-at (y ∷ a) x b h = every-at a x b h.1
+  pub every_at : (a : List A) (x : A) (b : List A) → Every P (a ++ x ∷ b) → P x
+  every_at [] x b h = h.0
+  every_at (y ∷ a) x b h = every_at a x b h.1
 
 -- a test f of a whole list that is v where q is v at every element: `all` with true, `any` with false
 module _ {A : Type 0} (v : Bool) (op : Bool → Bool → Bool) (q : A → Bool) (f : List A → Bool) (step : (x : A) (l : List A) → f (x ∷ l) ≡ op (q x) (f l)) where
@@ -48,9 +48,9 @@ module _ {A : Type 0} (q : A → Bool) where
   unfolding any
   any_told = told false ◌||◌ q (any q) (λ x l. refl) (λ a b h. (or_left a b h, or_right a b h))
 
-  pub any-tell : (l : List A) → Every (λ x. q x ≡ false) l → any q l ≡ false
+  pub any_tell : (l : List A) → Every (λ x. q x ≡ false) l → any q l ≡ false
   unfolding any
-  any-tell = tell false ◌||◌ q (any q) (λ x l. refl) refl refl
+  any_tell = tell false ◌||◌ q (any q) (λ x l. refl) refl refl
 
   -- all pass
   pub all_told : (l : List A) → all q l ≡ true → Every (λ x. q x ≡ true) l
@@ -67,23 +67,23 @@ same_truth true b f g = sym (f refl)
 same_truth false true f g = g refl
 same_truth false false f g = refl
 
-pub and-tell : (a b : Bool) → a ≡ true → b ≡ true → a && b ≡ true
-and-tell true b p q = q
-and-tell false b p q = p
+pub and_tell : (a b : Bool) → a ≡ true → b ≡ true → a && b ≡ true
+and_tell true b p q = q
+and_tell false b p q = p
 
-pub or-tell : (a b : Bool) → a ≡ false → b ≡ false → a || b ≡ false
-or-tell true b p q = p
-or-tell false b p q = q
+pub or_tell : (a b : Bool) → a ≡ false → b ≡ false → a || b ≡ false
+or_tell true b p q = p
+or_tell false b p q = q
 
-pub not-tell : (a : Bool) → a ≡ false → not a ≡ true
-not-tell true e = sym e
-not-tell false e = refl
+pub not_tell : (a : Bool) → a ≡ false → not a ≡ true
+not_tell true e = sym e
+not_tell false e = refl
 
 -- where the first holds, the second does not
-pub nand-told : (a b : Bool) → not (a && b) ≡ true → a ≡ true → b ≡ false
-nand-told true true h e = sym h
-nand-told true false h e = refl
-nand-told false b h e = absurd (false≢true e)
+pub nand_told : (a b : Bool) → not (a && b) ≡ true → a ≡ true → b ≡ false
+nand_told true true h e = sym h
+nand_told true false h e = refl
+nand_told false b h e = absurd (false≢true e)
 
 pub both_false : (a b : Bool) → (a ≡ true → b ≡ false) → a && b ≡ false
 both_false true b h = h refl

@@ -43,5 +43,5 @@ module _ {R : Type 0} (step : List ℕ → Step R) (less : Shrinks step) (P : Li
   below h zero l a = absurd (omega arith)
   below h (suc n) l a = h l (λ f m e. let s : length m < length l = less l f m e in below h n m (omega arith))
 
-  pub by-steps : ((l : List ℕ) → ((f : R → R) (m : List ℕ) → step l ≡ next f m → P m) → P l) → (l : List ℕ) → P l
-  by-steps h l = below h (suc (length l)) l (omega arith)
+  pub by_steps : ((l : List ℕ) → ((f : R → R) (m : List ℕ) → step l ≡ next f m → P m) → P l) → (l : List ℕ) → P l
+  by_steps h l = below h (suc (length l)) l (omega arith)

@@ -6,14 +6,14 @@ use mathlib.Core.List.{List, [], ◌∷◌, ◌++◌}
 use native.Mathlib.Omega.{arith}
 use lib.ListN.{length, get_or}
 use Rattle.laws.specs.Lists.{all, any}
-use Rattle.laws.proofs.Truth.{and_left, and_right, or-mix}
+use Rattle.laws.proofs.Truth.{and_left, and_right, or_mix}
 
 -- what all pass, the one at a place passes
-pub all-at : (p : ℕ → Bool) (l : List ℕ) → all p l ≡ true → (i : ℕ) → i < length l → p (get_or l i 0) ≡ true
+pub all_at : (p : ℕ → Bool) (l : List ℕ) → all p l ≡ true → (i : ℕ) → i < length l → p (get_or l i 0) ≡ true
 unfolding all
-all-at p [] e i h = absurd (omega arith)
-all-at p (x ∷ l) e zero h = and_left (p x) (all p l) e
-all-at p (x ∷ l) e (suc i) h = all-at p l (and_right (p x) (all p l) e) i (omega arith)
+all_at p [] e i h = absurd (omega arith)
+all_at p (x ∷ l) e zero h = and_left (p x) (all p l) e
+all_at p (x ∷ l) e (suc i) h = all_at p l (and_right (p x) (all p l) e) i (omega arith)
 
 -- of two lists, one after the other
 module _ {A : Type 0} (p : A → Bool) where
@@ -50,7 +50,7 @@ module _ {A : Type 0} (p : A → Bool) where
   any_append (x ∷ a) b = ap (λ (t : Bool). p x || t) (any_append a b) ∙ sym (or_assoc (p x) (any p a) (any p b))
 
   -- one test or the other
-  pub any-or : (q : A → Bool) (l : List A) → any (λ x. p x || q x) l ≡ any p l || any q l
+  pub any_or : (q : A → Bool) (l : List A) → any (λ x. p x || q x) l ≡ any p l || any q l
   unfolding any
-  any-or q [] = refl
-  any-or q (x ∷ l) = ap (λ (b : Bool). (p x || q x) || b) (any-or q l) ∙ or-mix (p x) (q x) (any p l) (any q l)
+  any_or q [] = refl
+  any_or q (x ∷ l) = ap (λ (b : Bool). (p x || q x) || b) (any_or q l) ∙ or_mix (p x) (q x) (any p l) (any q l)

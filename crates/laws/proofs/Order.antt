@@ -23,8 +23,8 @@ tri a b = go (ltb a b) refl (eqb a b) refl
         let n : a ≡ b → ⊥ = eqb-false a b f in
         above (omega arith) e f
 
-pub eqb-sym : (a b : ℕ) → eqb a b ≡ eqb b a
-eqb-sym a b = go (tri a b)
+pub eqb_sym : (a b : ℕ) → eqb a b ≡ eqb b a
+eqb_sym a b = go (tri a b)
   where
     go : Tri a b → eqb a b ≡ eqb b a
     go (below l e f) = f ∙ sym (ne_eqb b a (λ g. omega arith))

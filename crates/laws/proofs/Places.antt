@@ -24,9 +24,9 @@ inside p s at z h = lt_of_not-le (λ past. true≢false (sym h ∙ ap p (get_or-
 pub byte_inside : (s : List ℕ) (at b k : ℕ) → eqb 0 k ≡ false → b ≡ get_or s at 0 → b ≡ k → at < length s
 byte_inside s at b k z h e = inside (λ x. eqb x k) s at z (eq-eqb (get_or s at 0) k (sym h ∙ e))
 
-pub all-step : (p : ℕ → Bool) (s : List ℕ) (at : ℕ) → at < length s → all p (drop at s) ≡ (p (get_or s at 0) && all p (drop (at + 1) s))
+pub all_step : (p : ℕ → Bool) (s : List ℕ) (at : ℕ) → at < length s → all p (drop at s) ≡ (p (get_or s at 0) && all p (drop (at + 1) s))
 unfolding all
-all-step p s at h = rw (front s at h)
+all_step p s at h = rw (front s at h)
 
 pub all_end : (p : ℕ → Bool) (s : List ℕ) (at : ℕ) → length s ≤ at → all p (drop at s) ≡ true
 unfolding all
@@ -37,11 +37,11 @@ module _ (s t : List ℕ) (i : ℕ) (h : i < length s) (k : i < length t) where
   unfolding same
   same_at = rw (front s i h, front t i k)
 
-  pub same-no : (get_or s i 0 ≡ get_or t i 0 → ⊥) → false ≡ same (drop i s) (drop i t)
-  same-no e = rw (same_at, ne_eqb (get_or s i 0) (get_or t i 0) e)
+  pub same_no : (get_or s i 0 ≡ get_or t i 0 → ⊥) → false ≡ same (drop i s) (drop i t)
+  same_no e = rw (same_at, ne_eqb (get_or s i 0) (get_or t i 0) e)
 
-  pub same-yes : get_or s i 0 ≡ get_or t i 0 → same (drop i s) (drop i t) ≡ same (drop (i + 1) s) (drop (i + 1) t)
-  same-yes e = rw (same_at, eq-eqb (get_or s i 0) (get_or t i 0) e)
+  pub same_yes : get_or s i 0 ≡ get_or t i 0 → same (drop i s) (drop i t) ≡ same (drop (i + 1) s) (drop (i + 1) t)
+  same_yes e = rw (same_at, eq-eqb (get_or s i 0) (get_or t i 0) e)
 
 pub same_end : (s t : List ℕ) (i : ℕ) → length s ≤ i → length t ≤ i → true ≡ same (drop i s) (drop i t)
 unfolding same

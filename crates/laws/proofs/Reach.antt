@@ -18,9 +18,9 @@ data Turned {R S : Type 0} (out : R) (step : List ℕ → Step R) (k : R → S) 
   turned : (f : ℕ) → length l ≤ f → target ≡ k (turn (turns out step f) (step l)) → Turned out step k target l
 
 module _ {R S : Type 0} (out : R) (step : List ℕ → Step R) (k : R → S) where
-  pub reach-start : (l : List ℕ) → Reach out step k (k (loop out step l)) l
+  pub reach_start : (l : List ℕ) → Reach out step k (k (loop out step l)) l
   unfolding loop
-  reach-start l = record { fuel = suc (length l); enough = omega arith; same = refl }
+  reach_start l = record { fuel = suc (length l); enough = omega arith; same = refl }
 
   once : (target : S) (l : List ℕ) (f : ℕ) → length l < f → target ≡ k (turns out step f l) → Turned out step k target l
   unfolding turns
@@ -28,18 +28,18 @@ module _ {R S : Type 0} (out : R) (step : List ℕ → Step R) (k : R → S) whe
   once target l (suc f) h e = turned f (omega arith) e
 
 module _ {R S : Type 0} {out : R} {step : List ℕ → Step R} {k : R → S} {target : S} {l : List ℕ} (r : Reach out step k target l) where
-  pub reach-next : {f : R → R} {m : List ℕ} → step l ≡ next f m → length m < length l → Reach out step (λ a. k (f a)) target m
-  reach-next {f} {m} e h = go (once out step k target l r.fuel r.enough r.same)
+  pub reach_next : {f : R → R} {m : List ℕ} → step l ≡ next f m → length m < length l → Reach out step (λ a. k (f a)) target m
+  reach_next {f} {m} e h = go (once out step k target l r.fuel r.enough r.same)
     where
       go : Turned out step k target l → Reach out step (λ a. k (f a)) target m
       go (turned n b same) = record { fuel = n; enough = omega arith; same = rw e at same }
 
-  pub reach-stop : {a : R} → step l ≡ stop a → target ≡ k a
-  reach-stop {a} e = go (once out step k target l r.fuel r.enough r.same)
+  pub reach_stop : {a : R} → step l ≡ stop a → target ≡ k a
+  reach_stop {a} e = go (once out step k target l r.fuel r.enough r.same)
     where
       go : Turned out step k target l → target ≡ k a
       go (turned n b same) = rw e at same
 
   -- another way to say what becomes of the answer
-  pub reach-to : {j : R → S} → ((a : R) → k a ≡ j a) → Reach out step j target l
-  reach-to e = record { fuel = r.fuel; enough = r.enough; same = r.same ∙ e (turns out step r.fuel l) }
+  pub reach_to : {j : R → S} → ((a : R) → k a ≡ j a) → Reach out step j target l
+  reach_to e = record { fuel = r.fuel; enough = r.enough; same = r.same ∙ e (turns out step r.fuel l) }

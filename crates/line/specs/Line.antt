@@ -45,14 +45,14 @@ most = 49152
 
 -- what the program does with its input: it prints `line`, or `long`, or takes the submission
 pub data Request : Type 0 where
-  prints-line : Request
-  prints-long : Request
+  prints_line : Request
+  prints_long : Request
   takes : (track year quarter : ℕ) (submission : List ℕ) → Request
 
 -- L2: "For any other first line .. it prints `line` and no more"; L3: "Else for a submission of more than 49,152 bytes it prints `long` and no more"
 abbrev pub by_line : Line → Request
-by_line other = prints-line
-by_line (line track year quarter submission) = cond (ltb most (length submission)) prints-long (takes track year quarter submission)
+by_line other = prints_line
+by_line (line track year quarter submission) = cond (ltb most (length submission)) prints_long (takes track year quarter submission)
 
 unfoldable pub request : List ℕ → Request
 request l = by_line (first_line l)

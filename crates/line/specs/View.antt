@@ -1,6 +1,6 @@
 -- What the code's answers say.
 use Rattle.std.specs.Prelude.{ℕ, ◌+◌, ◌≤◌, List, length, drop}
-use Rattle.line.specs.Line.{Read, none, read, Line, other, line, Request, prints-line, prints-long, takes}
+use Rattle.line.specs.Line.{Read, none, read, Line, other, line, Request, prints_line, prints_long, takes}
 use Rattle.line.specs.declared.Number.{Number}
 use Rattle.line.specs.declared.Number.TheVariants as number
 use Rattle.line.specs.declared.FirstLine.{FirstLine}
@@ -27,8 +27,8 @@ ok_line s (first_line.Says track year quarter body) = (body ≤ 15) × (body ≤
 ok_line s first_line.Other = Unit
 
 abbrev pub view_asked : List ℕ → Asked → Request
-view_asked s asked.Line = prints-line
-view_asked s asked.Long = prints-long
+view_asked s asked.Line = prints_line
+view_asked s asked.Long = prints_long
 view_asked s (asked.Takes track year quarter body) = takes track year quarter (drop body s)
 
 abbrev pub ok_asked : List ℕ → Asked → Type 0

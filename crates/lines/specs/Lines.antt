@@ -7,7 +7,7 @@ use Rattle.register.specs.Layout.{cases_held, events_held}
 use Rattle.register.specs.RoomAndEmptying.{emptied}
 use Rattle.intake.specs.FileAnswers.{Submitted, call_of, submitted}
 use Rattle.line.specs.Line.{Request, request}
-use Rattle.line.specs.Line.Request.{prints-line, prints-long, takes}
+use Rattle.line.specs.Line.Request.{prints_line, prints_long, takes}
 
 -- a word, and a number in decimal
 abbrev pub named : String → ℕ → List ℕ
@@ -47,8 +47,8 @@ answer_bytes = 512
 
 -- L2: "it prints `line` and no more"; L3: "it prints `long` and no more"
 abbrev pub printed_for : Request → List ℕ
-printed_for prints-line = bytes "line\n"
-printed_for prints-long = bytes "long\n"
+printed_for prints_line = bytes "line\n"
+printed_for prints_long = bytes "long\n"
 printed_for (takes track year quarter submission) =
     lines_of (submitted (call_of submission track year quarter (replicate answer_bytes 0)) (emptied (replicate register_bytes 0)).register)
 

@@ -27,13 +27,13 @@ module _ (s : List ℕ) (at c : ℕ) (h : at < length s) (k : c ≡ get_or s (at
   unfolding declared
   declared-at = rw (front s at h, first s (at + 1), ← k, drop-drop 1 (at + 1) s, add_assoc at 1 1)
 
-  pub declared-inside : (eqb (get_or s at 0) 63 && eqb c 62) ≡ true → at + 2 ≤ length s
-  declared-inside t = omega (arith, byte_inside s (at + 1) c 62 refl k (eqb-true c 62 (and_right (eqb (get_or s at 0) 63) (eqb c 62) t)))
+  pub declared_inside : (eqb (get_or s at 0) 63 && eqb c 62) ≡ true → at + 2 ≤ length s
+  declared_inside t = omega (arith, byte_inside s (at + 1) c 62 refl k (eqb-true c 62 (and_right (eqb (get_or s at 0) 63) (eqb c 62) t)))
 
-pub comment-end : (s : List ℕ) (at : ℕ) → length s ≤ at → comment (drop at s) ≡ refused
+pub comment_end : (s : List ℕ) (at : ℕ) → length s ≤ at → comment (drop at s) ≡ refused
 unfolding comment
-comment-end s at h = rw (drop_of_length-le s h)
+comment_end s at h = rw (drop_of_length-le s h)
 
-pub declared-end : (s : List ℕ) (at : ℕ) → length s ≤ at → declared (drop at s) ≡ refused
+pub declared_end : (s : List ℕ) (at : ℕ) → length s ≤ at → declared (drop at s) ≡ refused
 unfolding declared
-declared-end s at h = rw (drop_of_length-le s h)
+declared_end s at h = rw (drop_of_length-le s h)

@@ -23,10 +23,10 @@ use Rattle.markup.specs.declared.Move.TheVariants as move
 use Rattle.markup.proofs.AtBytes.{skip_at}
 
 -- the white space ends at `at`
-pub misc-at : (s : List ℕ) (from at : ℕ) → at ≡ from + run_length (class 0) (drop from s)
+pub misc_at : (s : List ℕ) (from at : ℕ) → at ≡ from + run_length (class 0) (drop from s)
     → misc_step (drop from s) ≡ cond (eqb (get_or s at 0) 60 && eqb (get_or s (at + 1) 0) 33) (go_on (dashed (drop (at + 2) s))) (stop (read tt (drop at s)))
 unfolding misc_step
-misc-at s from at h = rw (← skip_at s from at h, first s at, get_or-drop at s 1 0, drop-drop 2 at s)
+misc_at s from at h = rw (← skip_at s from at h, first s at, get_or-drop at s 1 0, drop-drop 2 at s)
 
 -- what follows the root element o, of which m is left
 pub root_none : (o : Read Tree) → refused ≡ left o → refused ≡ then o (λ t m. at_end t (misc m))
@@ -34,37 +34,37 @@ root_none refused h = refl
 root_none (read t k) h = absurd (let z : ◌≡◌ {A = ℕ} 0 1 = cc in omega arith)
 
 module _ (m : List ℕ) where
-  pub root-refused : (o : Read Tree) → read tt m ≡ left o → refused ≡ misc m → refused ≡ then o (λ t m. at_end t (misc m))
-  root-refused refused h e = refl
-  root-refused (read t k) h e = let j : k ≡ m = cc in rw (j, ← e)
+  pub root_refused : (o : Read Tree) → read tt m ≡ left o → refused ≡ misc m → refused ≡ then o (λ t m. at_end t (misc m))
+  root_refused refused h e = refl
+  root_refused (read t k) h e = let j : k ≡ m = cc in rw (j, ← e)
 
   module _ (s : List ℕ) (at : ℕ) where
-    pub root-more : (o : Read Tree) → read tt m ≡ left o → read tt (drop at s) ≡ misc m → at < length s → refused ≡ then o (λ t m. at_end t (misc m))
-    root-more refused h e i = refl
-    root-more (read t k) h e i = let j : k ≡ m = cc in rw (j, ← e, front s at i)
+    pub root_more : (o : Read Tree) → read tt m ≡ left o → read tt (drop at s) ≡ misc m → at < length s → refused ≡ then o (λ t m. at_end t (misc m))
+    root_more refused h e i = refl
+    root_more (read t k) h e i = let j : k ≡ m = cc in rw (j, ← e, front s at i)
 
-    pub root-end : (o : Read Tree) → read tt m ≡ left o → read tt (drop at s) ≡ misc m → length s ≤ at → then o (λ t _. read t []) ≡ then o (λ t m. at_end t (misc m))
-    root-end refused h e i = refl
-    root-end (read t k) h e i = let j : k ≡ m = cc in rw (j, ← e, drop_of_length-le s i)
+    pub root_end : (o : Read Tree) → read tt m ≡ left o → read tt (drop at s) ≡ misc m → length s ≤ at → then o (λ t _. read t []) ≡ then o (λ t m. at_end t (misc m))
+    root_end refused h e i = refl
+    root_end (read t k) h e i = let j : k ≡ m = cc in rw (j, ← e, drop_of_length-le s i)
 
-pub root-taken : (o : Read Tree) (m : List ℕ) → read tt m ≡ left o → was_read {A = Tree} (then o (λ t _. read t [])) ≡ true
-root-taken refused m h = absurd (let z : ◌≡◌ {A = ℕ} 0 1 = cc in omega arith)
-root-taken (read t k) m h = refl
+pub root_taken : (o : Read Tree) (m : List ℕ) → read tt m ≡ left o → was_read {A = Tree} (then o (λ t _. read t [])) ≡ true
+root_taken refused m h = absurd (let z : ◌≡◌ {A = ℕ} 0 1 = cc in omega arith)
+root_taken (read t k) m h = refl
 
-pub ok_past-back : (s : List ℕ) (a b : ℕ) (r : Move) → onward s a b → ok_past s b r → ok_past s a r
-ok_past-back s a b (move.To c) h k = (omega arith, omega arith)
-ok_past-back s a b move.Refused h k = tt
+pub ok_past_back : (s : List ℕ) (a b : ℕ) (r : Move) → onward s a b → ok_past s b r → ok_past s a r
+ok_past_back s a b (move.To c) h k = (omega arith, omega arith)
+ok_past_back s a b move.Refused h k = tt
 
-pub ok_move-past : (s : List ℕ) (at : ℕ) (r : Move) → ok_move s at r → ok_past s 0 r
-ok_move-past s at (move.To c) k = (omega arith, omega arith)
-ok_move-past s at move.Refused k = tt
+pub ok_move_past : (s : List ℕ) (at : ℕ) (r : Move) → ok_move s at r → ok_past s 0 r
+ok_move_past s at (move.To c) k = (omega arith, omega arith)
+ok_move_past s at move.Refused k = tt
 
 -- a file up to its root element
-pub document-root : (s : List ℕ) {k m : List ℕ} → all in_file s ≡ true → read tt k ≡ declaration s → read tt m ≡ misc k → document s ≡ then (element depth m) (λ t m. at_end t (misc m))
+pub document_root : (s : List ℕ) {k m : List ℕ} → all in_file s ≡ true → read tt k ≡ declaration s → read tt m ≡ misc k → document s ≡ then (element depth m) (λ t m. at_end t (misc m))
 unfolding document
-document-root s b d e = rw (b, ← d, ← e)
+document_root s b d e = rw (b, ← d, ← e)
 
 -- answer 5, where no root was read
-pub answer-none : (s : List ℕ) → refused ≡ document s → (refused ≡ document s) × (◌≡◌ {A = ℕ} 5 (cond (in_markup s) 0 5)) × Unit {0}
+pub answer_none : (s : List ℕ) → refused ≡ document s → (refused ≡ document s) × (◌≡◌ {A = ℕ} 5 (cond (in_markup s) 0 5)) × Unit {0}
 unfolding in_markup
-answer-none s e = (e, rw (← e), tt)
+answer_none s e = (e, rw (← e), tt)

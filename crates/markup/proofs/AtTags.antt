@@ -20,7 +20,7 @@ use Rattle.markup.specs.Classes.{class}
 use Rattle.markup.specs.View.{ok_ending, ending_of, pairs_in, OfPairs}
 use Rattle.markup.specs.declared.Ending.{Ending}
 use Rattle.markup.specs.declared.Ending.TheVariants as end
-use Rattle.markup.proofs.AtBytes.{run-no, skip_at}
+use Rattle.markup.proofs.AtBytes.{run_no, skip_at}
 use Rattle.markup.proofs.Shorter.{attributes-turn}
 
 same_count : (from w at : ℕ) → at ≡ from + w → eqb w 0 ≡ eqb at from
@@ -31,43 +31,43 @@ same_count from w at h = go (ℕ_discrete at from)
     go (Dec.no f) = ne_eqb w 0 (λ z. f (omega arith)) ∙ sym (ne_eqb at from f)
 
 -- the white space ends at `at`, before the byte b
-pub attributes-at : (s : List ℕ) (from at b : ℕ) → at ≡ from + run_length (class 0) (drop from s) → b ≡ get_or s at 0
+pub attributes_at : (s : List ℕ) (from at b : ℕ) → at ≡ from + run_length (class 0) (drop from s) → b ≡ get_or s at 0
     → attributes_step (drop from s) ≡ cond (eqb b 62) (stop (read (ending false) (drop (at + 1) s)))
     (cond (eqb b 47) (stop (then (byte 62 (drop (at + 1) s)) (λ _ m. read (ending true) m))) (cond (eqb at from) (stop refused) (go_on (attribute (drop at s)))))
 unfolding attributes_step class
-attributes-at s from at b h k =
+attributes_at s from at b h k =
     rw (← skip_at s from at h, first s at, ← k, drop-drop 1 at s, same_count from (run_length is_ws (drop from s)) at h)
 
 -- a tag that ends at once
-pub attributes-none : (s : List ℕ) (at b : ℕ) → b ≡ get_or s at 0 → b ≡ 62 → (attributes (drop at s) ≡ read (ending false) (drop (at + 1) s)) × (at < length s)
+pub attributes_none : (s : List ℕ) (at b : ℕ) → b ≡ get_or s at 0 → b ≡ 62 → (attributes (drop at s) ≡ read (ending false) (drop (at + 1) s)) × (at < length s)
 unfolding class
-attributes-none s at b k e = (attributes-turn (drop at s) ∙ rw (attributes-at s at at b z k, e), h)
+attributes_none s at b k e = (attributes-turn (drop at s) ∙ rw (attributes_at s at at b z k, e), h)
   where
     h : at < length s
     h = byte_inside s at b 62 refl k e
 
     z : at ≡ at + run_length (class 0) (drop at s)
-    z = let r : run_length is_ws (drop at s) ≡ 0 = run-no is_ws s at h (rw (← k, e)) in omega arith
+    z = let r : run_length is_ws (drop at s) ≡ 0 = run_no is_ws s at h (rw (← k, e)) in omega arith
 
-pub ending-before : (p : Pair) (r : Read Attributes) → ending_of (before p r) ≡ ending_of r
-ending-before p refused = refl
-ending-before p (read a m) = refl
+pub ending_before : (p : Pair) (r : Read Attributes) → ending_of (before p r) ≡ ending_of r
+ending_before p refused = refl
+ending_before p (read a m) = refl
 
-pub ending-done : (r : Read Bool) → ending_of (then r (λ b m. read (ending b) m)) ≡ r
-ending-done refused = refl
-ending-done (read b m) = refl
+pub ending_done : (r : Read Bool) → ending_of (then r (λ b m. read (ending b) m)) ≡ r
+ending_done refused = refl
+ending_done (read b m) = refl
 
 -- what is said of the attributes from l on, by the step that is taken there
 module _ (f : List Pair → Bool) (l : List ℕ) where
-  pub of-done : (v : Read Bool) → stop (then v (λ b m. read (ending b) m)) ≡ attributes_step l → OfPairs f l (f [])
-  of-done v e a m h = go v (sym (rw (attributes-turn l, ← e) at h))
+  pub of_done : (v : Read Bool) → stop (then v (λ b m. read (ending b) m)) ≡ attributes_step l → OfPairs f l (f [])
+  of_done v e a m h = go v (sym (rw (attributes-turn l, ← e) at h))
     where
       go : (v : Read Bool) → read a m ≡ then v (λ b m. read (ending b) m) → f [] ≡ f a.pairs
       go refused e = absurd (let z : ◌≡◌ {A = ℕ} 0 1 = cc in omega arith)
       go (read b k) e = let j : a ≡ ending b = cc in rw j
 
-  pub of-next : {p : Pair} {k : List ℕ} {b : Bool} → next (before p) k ≡ attributes_step l → ((a : Attributes) (m : List ℕ) → attributes k ≡ read a m → b ≡ f (p ∷ a.pairs)) → OfPairs f l b
-  of-next {p} {k} {b} e g a m h = go (attributes k) refl (sym (rw (attributes-turn l, ← e) at h))
+  pub of_next : {p : Pair} {k : List ℕ} {b : Bool} → next (before p) k ≡ attributes_step l → ((a : Attributes) (m : List ℕ) → attributes k ≡ read a m → b ≡ f (p ∷ a.pairs)) → OfPairs f l b
+  of_next {p} {k} {b} e g a m h = go (attributes k) refl (sym (rw (attributes-turn l, ← e) at h))
     where
       go : (r : Read Attributes) → attributes k ≡ r → read a m ≡ before p r → b ≡ f a.pairs
       go refused i e = absurd (let z : ◌≡◌ {A = ℕ} 0 1 = cc in omega arith)
@@ -76,22 +76,22 @@ module _ (f : List Pair → Bool) (l : List ℕ) where
 -- a tag that ends at once has none
 pub of_none : (f : List Pair → Bool) (s : List ℕ) (at b : ℕ) → b ≡ get_or s at 0 → b ≡ 62 → OfPairs f (drop at s) (f [])
 of_none f s at b k e a m h =
-    let n = (attributes-none s at b k e).0 in
+    let n = (attributes_none s at b k e).0 in
     let j : a ≡ ending false = cc in
     rw j
 
 -- a tag's end, and whether the names of its attributes differ
-pub tag-end : (n : List ℕ) (r : Read Attributes) (v : Read Bool) (b : Bool) → v ≡ ending_of r → ((a : Attributes) (m : List ℕ) → r ≡ read a m → b ≡ differ a.pairs)
+pub tag_end : (n : List ℕ) (r : Read Attributes) (v : Read Bool) (b : Bool) → v ≡ ending_of r → ((a : Attributes) (m : List ℕ) → r ≡ read a m → b ≡ differ a.pairs)
     → then r (tag_of n) ≡ cond b (then v (λ sh m. read (record { named = n; pairs = pairs_in r; shut = sh }) m)) refused
-tag-end n refused v b e d = rw e (cond_both b refused)
-tag-end n (read a m) v b e d = rw (e, d a m refl)
+tag_end n refused v b e d = rw e (cond_both b refused)
+tag_end n (read a m) v b e d = rw (e, d a m refl)
 
 -- attributes that are refused
-pub tag-bad : (n : List ℕ) (r : Read Attributes) → refused ≡ ending_of r → refused ≡ then r (tag_of n)
-tag-bad n refused e = refl
-tag-bad n (read a m) e = absurd (let z : ◌≡◌ {A = ℕ} 0 1 = cc in omega arith)
+pub tag_bad : (n : List ℕ) (r : Read Attributes) → refused ≡ ending_of r → refused ≡ then r (tag_of n)
+tag_bad n refused e = refl
+tag_bad n (read a m) e = absurd (let z : ◌≡◌ {A = ℕ} 0 1 = cc in omega arith)
 
-pub ok_ending-back : (s : List ℕ) (a b : ℕ) (r : Ending) → a ≤ b → ok_ending s b r → ok_ending s a r
-ok_ending-back s a b (end.Open c) h k = omega arith
-ok_ending-back s a b (end.Shut c) h k = omega arith
-ok_ending-back s a b end.Refused h k = tt
+pub ok_ending_back : (s : List ℕ) (a b : ℕ) (r : Ending) → a ≤ b → ok_ending s b r → ok_ending s a r
+ok_ending_back s a b (end.Open c) h k = omega arith
+ok_ending_back s a b (end.Shut c) h k = omega arith
+ok_ending_back s a b end.Refused h k = tt

@@ -53,6 +53,6 @@ abbrev said : List Example → List Bool
 said [] = []
 said (e ∷ es) = e.is ∷ said es
 
-pub examples-hold : told examples ≡ said examples
+pub examples_hold : told examples ≡ said examples
 unfolding in_markup document misc misc_step declaration declares element content piece end_tag tag differ attributes attributes_step attribute value name byte skip_ws comment dashed declared run_length loop turns all any same
-examples-hold = refl
+examples_hold = refl

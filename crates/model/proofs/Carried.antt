@@ -11,12 +11,12 @@ use lib.ListN.{length}
 use borrow.Author.Tests.{eqb-true}
 use Rattle.laws.specs.Lists.{all, any}
 use Rattle.laws.proofs.Truth.{or_left, or_right, and_left, and_right}
-use Rattle.laws.proofs.Lists.{any_append, any-or}
+use Rattle.laws.proofs.Lists.{any_append, any_or}
 use Rattle.laws.proofs.Every.{Every, every_map}
-use Rattle.model.proofs.MapLaws.{keep-true, keep_same, keep-keep, keep-none}
-use Rattle.model.proofs.MapSizes.{size-keep}
-use Rattle.model.proofs.MachineLaws.{taken-every}
-use Rattle.model.proofs.FlowHistories.{events-plain}
+use Rattle.model.proofs.MapLaws.{keep-true, keep_same, keep-keep, keep_none}
+use Rattle.model.proofs.MapSizes.{size_keep}
+use Rattle.model.proofs.MachineLaws.{taken_every}
+use Rattle.model.proofs.FlowHistories.{events_plain}
 use Rattle.model.specs.Map.{Map, is_some, find, has, keep, put_all, del_all}
 use Rattle.model.specs.Checks.{Check}
 use Rattle.model.specs.Machine.{Machine, accepts, run}
@@ -24,17 +24,17 @@ use Rattle.model.specs.Transmission.{Kind, insert, vary, cancel, is_insert, is_c
 use Rattle.model.specs.Flow.{State, Good, Flow, applied, machine}
 use Rattle.model.specs.Log.{sum_of, distinct, accepted_by, Shown, EventStands, carries_away, of_event, Lawful, events_in, events_out, cases_cancelled, carried_once}
 use Rattle.model.specs.Demands.{OneTrack}
-use Rattle.model.specs.Demands.OneTrack.{cases-only, events-only}
+use Rattle.model.specs.Demands.OneTrack.{cases_only, events_only}
 
 -- ---- rows that pass one of two tests
 
 module _ {F : Type 0} where
   -- tests that never both hold
-  keep-either : (p q : ℕ → Bool) (m : Map F) → ((k : ℕ) → p k ≡ true → q k ≡ false) →
+  keep_either : (p q : ℕ → Bool) (m : Map F) → ((k : ℕ) → p k ≡ true → q k ≡ false) →
       length (keep (λ k. p k || q k) m) ≡ length (keep p m) + length (keep q m)
   unfolding keep
-  keep-either p q [] h = refl
-  keep-either p q (x ∷ m) h = go (p x.key) refl (q x.key) refl (keep-either p q m h)
+  keep_either p q [] h = refl
+  keep_either p q (x ∷ m) h = go (p x.key) refl (q x.key) refl (keep_either p q m h)
     where
       go : (a : Bool) → p x.key ≡ a → (b : Bool) → q x.key ≡ b → length (keep (λ k. p k || q k) m) ≡ length (keep p m) + length (keep q m) →
           length (cond (a || b) (x ∷ keep (λ k. p k || q k) m) (keep (λ k. p k || q k) m)) ≡
@@ -51,52 +51,52 @@ module _ {F : Type 0} (own : ℕ → ℕ) (m : Map F) where
   rows_of c = keep (λ k. eqb (own k) c) m
 
   -- counted case by case, each case once
-  each-once : (cs : List ℕ) → sum_of (λ c. length (rows_of c)) (distinct cs) ≡ length (keep (λ k. any (eqb (own k)) cs) m)
+  each_once : (cs : List ℕ) → sum_of (λ c. length (rows_of c)) (distinct cs) ≡ length (keep (λ k. any (eqb (own k)) cs) m)
   unfolding distinct sum_of any
-  each-once [] = sym (ap length (keep-none (λ k. false) m (λ k. refl)))
-  each-once (c ∷ cs) = go (any (eqb c) cs) refl (each-once cs)
+  each_once [] = sym (ap length (keep_none (λ k. false) m (λ k. refl)))
+  each_once (c ∷ cs) = go (any (eqb c) cs) refl (each_once cs)
     where
       named : (k : ℕ) (b : Bool) → any (eqb c) cs ≡ b → eqb (own k) c ≡ true → any (eqb (own k)) cs ≡ b
       named k b e g = ap (λ (j : ℕ). any (eqb j) cs) (eqb-true (own k) c g) ∙ e
 
       again : any (eqb c) cs ≡ true → (k : ℕ) → any (eqb (own k)) cs ≡ (eqb (own k) c || any (eqb (own k)) cs)
-      again e k = in-it (eqb (own k) c) refl
+      again e k = in_it (eqb (own k) c) refl
         where
-          in-it : (b : Bool) → eqb (own k) c ≡ b → any (eqb (own k)) cs ≡ (b || any (eqb (own k)) cs)
-          in-it true g = named k true e g
-          in-it false g = refl
+          in_it : (b : Bool) → eqb (own k) c ≡ b → any (eqb (own k)) cs ≡ (b || any (eqb (own k)) cs)
+          in_it true g = named k true e g
+          in_it false g = refl
 
       go : (b : Bool) → any (eqb c) cs ≡ b → sum_of (λ c. length (rows_of c)) (distinct cs) ≡ length (keep (λ k. any (eqb (own k)) cs) m) →
           sum_of (λ c. length (rows_of c)) (cond b (distinct cs) (c ∷ distinct cs)) ≡ length (keep (λ k. eqb (own k) c || any (eqb (own k)) cs) m)
       go true e ih = ih ∙ ap length (keep_same (λ k. any (eqb (own k)) cs) (λ k. eqb (own k) c || any (eqb (own k)) cs) m (again e))
       go false e ih =
-          ap (λ (n : ℕ). length (rows_of c) + n) ih ∙ sym (keep-either (λ k. eqb (own k) c) (λ k. any (eqb (own k)) cs) m (λ k g. named k false e g))
+          ap (λ (n : ℕ). length (rows_of c) + n) ih ∙ sym (keep_either (λ k. eqb (own k) c) (λ k. any (eqb (own k)) cs) m (λ k g. named k false e g))
 
 -- a key stands among rows where it is one of their keys
-has-keys : {F : Type 0} (k : ℕ) (m : Map F) → has k m ≡ any (eqb k) (map (λ x. x.key) m)
+has_keys : {F : Type 0} (k : ℕ) (m : Map F) → has k m ≡ any (eqb k) (map (λ x. x.key) m)
 unfolding find any
-has-keys k [] = refl
-has-keys k (x ∷ m) = go (eqb k x.key) (has-keys k m)
+has_keys k [] = refl
+has_keys k (x ∷ m) = go (eqb k x.key) (has_keys k m)
   where
     go : (b : Bool) → has k m ≡ any (eqb k) (map (λ x. x.key) m) →
         is_some (cond b (some x.val) (find k m)) ≡ (b || any (eqb k) (map (λ x. x.key) m))
     go true ih = refl
     go false ih = ih
 
-empty-map : {F : Type 0} (m : Map F) → eqb (length m) 0 ≡ true → m ≡ []
-empty-map [] e = refl
-empty-map (x ∷ m) e = absurd (let z : length (x ∷ m) ≡ 0 = eqb-true (length (x ∷ m)) 0 e in omega arith)
+empty_map : {F : Type 0} (m : Map F) → eqb (length m) 0 ≡ true → m ≡ []
+empty_map [] e = refl
+empty_map (x ∷ m) e = absurd (let z : length (x ∷ m) ≡ 0 = eqb-true (length (x ∷ m)) 0 e in omega arith)
 
-every-empty : {F R : Type 0} (rows : R → Map F) (rs : List R) → all (λ r. eqb (length (rows r)) 0) rs ≡ true → Every (λ r. rows r ≡ []) rs
+every_empty : {F R : Type 0} (rows : R → Map F) (rs : List R) → all (λ r. eqb (length (rows r)) 0) rs ≡ true → Every (λ r. rows r ≡ []) rs
 unfolding all
-every-empty rows [] h = tt
-every-empty rows (r ∷ rs) h =
-    (empty-map (rows r) (and_left (eqb (length (rows r)) 0) _ h), every-empty rows rs (and_right (eqb (length (rows r)) 0) _ h))
+every_empty rows [] h = tt
+every_empty rows (r ∷ rs) h =
+    (empty_map (rows r) (and_left (eqb (length (rows r)) 0) _ h), every_empty rows rs (and_right (eqb (length (rows r)) 0) _ h))
 
-sum-none : {R : Type 0} (g : R → ℕ) (l : List R) → Every (λ r. g r ≡ 0) l → sum_of g l ≡ 0
+sum_none : {R : Type 0} (g : R → ℕ) (l : List R) → Every (λ r. g r ≡ 0) l → sum_of g l ≡ 0
 unfolding sum_of
-sum-none g [] h = refl
-sum-none g (r ∷ l) h = rw (h.0, sum-none g l h.1) refl
+sum_none g [] h = refl
+sum_none g (r ∷ l) h = rw (h.0, sum_none g l h.1) refl
 
 count_none : {F : Type 0} (b : Bool) (m : Map F) → m ≡ [] → cond b (length m) 0 ≡ 0
 count_none true m e = ap length e
@@ -118,9 +118,9 @@ module _ {F E R : Type 0} (f : Flow F E R) (checks : R → List (Check (State F 
   one_left vary cs w s = sym (keep-true (λ k. true) s.events (λ k. refl))
   one_left cancel cs w s = refl
 
-  act-left : (s : State F E) (r : R) → f.event_rows r ≡ [] → ((machine f checks).act s r).events ≡ keep (λ k. not (carries_away f k r)) s.events
+  act_left : (s : State F E) (r : R) → f.event_rows r ≡ [] → ((machine f checks).act s r).events ≡ keep (λ k. not (carries_away f k r)) s.events
   unfolding machine
-  act-left s r e = ap (λ (es : Map E). (applied (f.kind r) (f.case_rows r) es (f.away r) s).events) e ∙ one_left (f.kind r) (f.case_rows r) (f.away r) s
+  act_left s r e = ap (λ (es : Map E). (applied (f.kind r) (f.case_rows r) es (f.away r) s).events) e ∙ one_left (f.kind r) (f.case_rows r) (f.away r) s
 
   -- what a file without event rows leaves of the events: those that no accepted cancellation carries away
   left_after : (s : State F E) (rs : List R) → Every (λ r. f.event_rows r ≡ []) rs →
@@ -141,7 +141,7 @@ module _ {F E R : Type 0} (f : Flow F E R) (checks : R → List (Check (State F 
       go false old new = old
       go true old new =
           new
-          ∙ ap (keep (λ k. not (any (carries_away f k) (accepted_by m (m.act s r) rs)))) (act-left s r h.0)
+          ∙ ap (keep (λ k. not (any (carries_away f k) (accepted_by m (m.act s r) rs)))) (act_left s r h.0)
           ∙ keep-keep (λ k. not (any (carries_away f k) (accepted_by m (m.act s r) rs))) (λ k. not (carries_away f k r)) s.events
           ∙ keep_same _ (λ k. not (carries_away f k r || any (carries_away f k) (accepted_by m (m.act s r) rs))) s.events
           (λ k. neither (carries_away f k r) (any (carries_away f k) (accepted_by m (m.act s r) rs)))
@@ -157,33 +157,33 @@ module _ {F E R : Type 0} (f : Flow F E R) (checks : R → List (Check (State F 
 
   module _ (own : ℕ → ℕ) (along : (r : R) (k : ℕ) → f.away r k ≡ has (own k) (f.case_rows r)) where
     -- an event is carried away where its case is among those cancelled
-    away-named : (k : ℕ) (r : R) → carries_away f k r ≡ any (eqb (own k)) (cases_cancelled f r)
+    away_named : (k : ℕ) (r : R) → carries_away f k r ≡ any (eqb (own k)) (cases_cancelled f r)
     unfolding any
-    away-named k r = go (is_cancel (f.kind r))
+    away_named k r = go (is_cancel (f.kind r))
       where
         go : (b : Bool) → (b && f.away r k) ≡ any (eqb (own k)) (cond b (map (λ x. x.key) (f.case_rows r)) [])
-        go true = along r k ∙ has-keys (own k) (f.case_rows r)
+        go true = along r k ∙ has_keys (own k) (f.case_rows r)
         go false = refl
 
-    any-named : (k : ℕ) (log : List R) → any (carries_away f k) log ≡ any (eqb (own k)) (flat_map (cases_cancelled f) log)
+    any_named : (k : ℕ) (log : List R) → any (carries_away f k) log ≡ any (eqb (own k)) (flat_map (cases_cancelled f) log)
     unfolding any flat_map
-    any-named k [] = refl
-    any-named k (r ∷ log) =
-        ap₂ ◌||◌ (away-named k r) (any-named k log) ∙ sym (any_append (eqb (own k)) (cases_cancelled f r) (flat_map (cases_cancelled f) log))
+    any_named k [] = refl
+    any_named k (r ∷ log) =
+        ap₂ ◌||◌ (away_named k r) (any_named k log) ∙ sym (any_append (eqb (own k)) (cases_cancelled f r) (flat_map (cases_cancelled f) log))
 
     -- Track 1: no record has events of its own
-    once-cases : (s : State F E) (rs : List R) → Every (λ r. f.event_rows r ≡ []) rs → Total own s rs
-    once-cases s rs h =
+    once_cases : (s : State F E) (rs : List R) → Every (λ r. f.event_rows r ≡ []) rs → Total own s rs
+    once_cases s rs h =
         let log : List R = accepted_by (machine f checks) s rs in
-        let few : Every (λ r. f.event_rows r ≡ []) log = taken-every (machine f checks) (λ r. f.event_rows r ≡ []) s rs h in
-        let out : sum_of (events_out f) log ≡ 0 = sum-none (events_out f) log (every_map log (λ r. count_none (is_cancel (f.kind r)) (f.event_rows r)) few) in
-        let new : sum_of (events_in f) log ≡ 0 = sum-none (events_in f) log (every_map log (λ r. count_none (is_insert (f.kind r)) (f.event_rows r)) few) in
+        let few : Every (λ r. f.event_rows r ≡ []) log = taken_every (machine f checks) (λ r. f.event_rows r ≡ []) s rs h in
+        let out : sum_of (events_out f) log ≡ 0 = sum_none (events_out f) log (every_map log (λ r. count_none (is_cancel (f.kind r)) (f.event_rows r)) few) in
+        let new : sum_of (events_in f) log ≡ 0 = sum_none (events_in f) log (every_map log (λ r. count_none (is_insert (f.kind r)) (f.event_rows r)) few) in
         let gone : carried_once f own s.events log ≡ length (keep (λ k. any (carries_away f k) log) s.events)
-        = each-once own s.events (flat_map (cases_cancelled f) log)
-        ∙ ap length (keep_same (λ k. any (eqb (own k)) (flat_map (cases_cancelled f) log)) (λ k. any (carries_away f k) log) s.events (λ k. sym (any-named k log))) in
+        = each_once own s.events (flat_map (cases_cancelled f) log)
+        ∙ ap length (keep_same (λ k. any (eqb (own k)) (flat_map (cases_cancelled f) log)) (λ k. any (carries_away f k) log) s.events (λ k. sym (any_named k log))) in
         let left : length (run (machine f checks) s rs).events ≡ length (keep (λ k. not (any (carries_away f k) log)) s.events) = ap length (left_after s rs h) in
         let whole : length (keep (λ k. not (any (carries_away f k) log)) s.events) + length (keep (λ k. any (carries_away f k) log) s.events) ≡ length s.events
-        = size-keep (λ k. any (carries_away f k) log) s.events in
+        = size_keep (λ k. any (carries_away f k) log) s.events in
         omega arith
 
     -- Track 2: no record names a case
@@ -192,23 +192,23 @@ module _ {F E R : Type 0} (f : Flow F E R) (checks : R → List (Check (State F 
     none_named [] h = refl
     none_named (r ∷ log) h = ap₂ ◌++◌ (keys_none (is_cancel (f.kind r)) (f.case_rows r) h.0) (none_named log h.1)
 
-    away-none : (r : R) → f.case_rows r ≡ [] → (k : ℕ) → f.away r k ≡ false
+    away_none : (r : R) → f.case_rows r ≡ [] → (k : ℕ) → f.away r k ≡ false
     unfolding find
-    away-none r e k = along r k ∙ ap (has (own k)) e
+    away_none r e k = along r k ∙ ap (has (own k)) e
 
-    once-events : Lawful f checks → (s : State F E) → Good s → (rs : List R) → Every (λ r. f.case_rows r ≡ []) rs → Total own s rs
+    once_events : Lawful f checks → (s : State F E) → Good s → (rs : List R) → Every (λ r. f.case_rows r ≡ []) rs → Total own s rs
     unfolding distinct sum_of
-    once-events w s g rs h =
+    once_events w s g rs h =
         let log : List R = accepted_by (machine f checks) s rs in
         let gone : carried_once f own s.events log ≡ 0
         = ap (λ (cs : List ℕ). sum_of (λ c. length (keep (λ k. eqb (own k) c) s.events)) (distinct cs))
-        (none_named log (taken-every (machine f checks) (λ r. f.case_rows r ≡ []) s rs h)) in
-        omega (arith, events-plain f checks w s g rs (every_map rs away-none h))
+        (none_named log (taken_every (machine f checks) (λ r. f.case_rows r ≡ []) s rs h)) in
+        omega (arith, events_plain f checks w s g rs (every_map rs away_none h))
 
   pub once : Lawful f checks → (s : State F E) → Good s → (rs : List R) (own : ℕ → ℕ) → ((r : R) (k : ℕ) → f.away r k ≡ has (own k) (f.case_rows r)) →
       OneTrack f rs → Total own s rs
-  once w s g rs own along (cases-only h) = once-cases own along s rs (every-empty f.event_rows rs h)
-  once w s g rs own along (events-only h) = once-events own along w s g rs (every-empty f.case_rows rs h)
+  once w s g rs own along (cases_only h) = once_cases own along s rs (every_empty f.event_rows rs h)
+  once w s g rs own along (events_only h) = once_events own along w s g rs (every_empty f.case_rows rs h)
 
 -- ---- "no accepted cancellation of its case came later"
 
@@ -223,7 +223,7 @@ in_words {R = R} f k log v = (to, from)
     to : Shown f.kind (λ r. find k (f.event_rows r)) (of_event f k) log v → EventStands f k log v
     to h =
         let n : any named h.is_last.after || any (carries_away f k) h.is_last.after ≡ false
-        = sym (any-or named (carries_away f k) h.is_last.after) ∙ h.is_last.none_after in
+        = sym (any_or named (carries_away f k) h.is_last.after) ∙ h.is_last.none_after in
         record {
           shown =
               record {
@@ -239,7 +239,7 @@ in_words {R = R} f k log v = (to, from)
                 keeps = h.keeps;
                 carries = h.carries;
               };
-          none-later = or_right (any named h.is_last.after) (any (carries_away f k) h.is_last.after) n;
+          none_later = or_right (any named h.is_last.after) (any (carries_away f k) h.is_last.after) n;
         }
 
     from : EventStands f k log v → Shown f.kind (λ r. find k (f.event_rows r)) (of_event f k) log v
@@ -253,7 +253,7 @@ in_words {R = R} f k log v = (to, from)
                 after = l.after;
                 list = l.list;
                 passes = rw (ap is_some h.shown.carries) refl;
-                none_after = any-or named (carries_away f k) l.after ∙ rw l.none_after h.none-later;
+                none_after = any_or named (carries_away f k) l.after ∙ rw l.none_after h.none_later;
               };
           keeps = h.shown.keeps;
           carries = h.shown.carries;

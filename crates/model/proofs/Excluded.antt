@@ -7,8 +7,8 @@ use mathlib.Core.Option.{Option, none, some}
 use native.Mathlib.Omega.{arith}
 use lib.ListN.{length, get_or}
 use Rattle.laws.specs.Lists.{all, any}
-use Rattle.model.proofs.Demands.{counted-once}
-use Rattle.model.proofs.MachineLaws.{step_left, run-keeps}
+use Rattle.model.proofs.Demands.{counted_once}
+use Rattle.model.proofs.MachineLaws.{step_left, run_keeps}
 use Rattle.model.proofs.Toy.{Said, say, toy, checks, files}
 use Rattle.model.specs.Map.{find, any_in, all_in}
 use Rattle.model.specs.Machine.{Machine, zeros, step, run, answers}
@@ -27,37 +27,37 @@ two = say vary 7 2
 -- X6: "Counts are invented (K3): the answer list fixes them"
 pub invented : (records accepted discarded : ℕ) → Counted (0 ∷ 15 ∷ []) records accepted discarded → (records ≡ 2) × (accepted ≡ 1) × (discarded ≡ 1)
 unfolding zeros
-invented r a d c = counted-once c (record { as_many = refl; together = refl; zeros-are = refl })
+invented r a d c = counted_once c (record { as_many = refl; together = refl; zeros_are = refl })
 
 module _ (m : Machine (State ℕ ℕ) Said) (d2 : Demand2 checks m) where
-  one-taken : m.judge empty one ≡ 0
+  one_taken : m.judge empty one ≡ 0
   unfolding any any_in all_in find
-  one-taken = (d2.accepted empty one).1 refl
+  one_taken = (d2.accepted empty one).1 refl
 
-  two-early : m.judge empty two ≡ 0 → ⊥
+  two_early : m.judge empty two ≡ 0 → ⊥
   unfolding any all any_in all_in find
-  two-early e = true≢false ((d2.accepted empty two).0 e)
+  two_early e = true≢false ((d2.accepted empty two).0 e)
 
   -- X4: "Everything is discarded"
-  pub discards-all : ((rs : List Said) → zeros (answers m empty rs) ≡ 0) → ⊥
+  pub discards_all : ((rs : List Said) → zeros (answers m empty rs) ≡ 0) → ⊥
   unfolding zeros answers
-  discards-all h = let z : ◌≡◌ {A = ℕ} 1 0 = simp one-taken at (h (one ∷ [])) in omega arith
+  discards_all h = let z : ◌≡◌ {A = ℕ} 1 0 = simp one_taken at (h (one ∷ [])) in omega arith
 
   -- X5: "All records are answered alike"
   pub all_alike : ((rs : List Said) (i j : ℕ) → i < length rs → j < length rs → get_or (answers m empty rs) i 0 ≡ get_or (answers m empty rs) j 0) → ⊥
   unfolding answers
   all_alike h =
       let e : m.judge empty two ≡ m.judge (step m empty two) one = h (two ∷ one ∷ []) 0 1 (omega arith) (omega arith) in
-      two-early (e ∙ ap (λ (s : State ℕ ℕ). m.judge s one) (step_left m empty two two-early) ∙ one-taken)
+      two_early (e ∙ ap (λ (s : State ℕ ℕ). m.judge s one) (step_left m empty two two_early) ∙ one_taken)
 
   module _ {B : Type 0} (encode : State ℕ ℕ → B) (d3 : Demand3 toy m files encode) where
-    one-stands : find 7 (run m empty (one ∷ [])).cases ≡ some 1
+    one_stands : find 7 (run m empty (one ∷ [])).cases ≡ some 1
     unfolding run_all taken_all accepted_by run any find
-    one-stands =
-        (d3.case-stands ((one ∷ []) ∷ []) 7 1).1
+    one_stands =
+        (d3.case_stands ((one ∷ []) ∷ []) 7 1).1
         (record {
           by = one;
-          is_last = record { before = []; after = []; list = simp one-taken; passes = refl; none_after = refl };
+          is_last = record { before = []; after = []; list = simp one_taken; passes = refl; none_after = refl };
           keeps = refl;
           carries = refl;
         })
@@ -66,32 +66,32 @@ module _ (m : Machine (State ℕ ℕ) Said) (d2 : Demand2 checks m) where
     pub idle : ((s : State ℕ ℕ) (rs : List Said) → run m s rs ≡ s) → ⊥
     unfolding find
     idle h =
-        let e : ◌≡◌ {A = Option ℕ} none (some 1) = sym (ap (λ (s : State ℕ ℕ). find 7 s.cases) (h empty (one ∷ []))) ∙ one-stands in
+        let e : ◌≡◌ {A = Option ℕ} none (some 1) = sym (ap (λ (s : State ℕ ℕ). find 7 s.cases) (h empty (one ∷ []))) ∙ one_stands in
         let z : ◌≡◌ {A = ℕ} 0 1 = cc in
         omega arith
 
-    pub idle-act : ((s : State ℕ ℕ) (r : Said) → m.act s r ≡ s) → ⊥
-    idle-act h = idle (λ s rs. run-keeps m (λ t. t ≡ s) (λ t r e a. h t r ∙ e) s rs refl)
+    pub idle_act : ((s : State ℕ ℕ) (r : Said) → m.act s r ≡ s) → ⊥
+    idle_act h = idle (λ s rs. run_keeps m (λ t. t ≡ s) (λ t r e a. h t r ∙ e) s rs refl)
 
-    two-taken : m.judge (run m empty (one ∷ [])) two ≡ 0
+    two_taken : m.judge (run m empty (one ∷ [])) two ≡ 0
     unfolding any all any_in all_in
-    two-taken = (d2.accepted (run m empty (one ∷ [])) two).1 (simp one-stands)
+    two_taken = (d2.accepted (run m empty (one ∷ [])) two).1 (simp one_stands)
 
-    two-stands : find 7 (run m empty (one ∷ two ∷ [])).cases ≡ some 2
+    two_stands : find 7 (run m empty (one ∷ two ∷ [])).cases ≡ some 2
     unfolding run_all taken_all accepted_by run any find
-    two-stands =
-        let e : m.judge (step m empty one) two ≡ 0 = two-taken in
-        (d3.case-stands ((one ∷ two ∷ []) ∷ []) 7 2).1
+    two_stands =
+        let e : m.judge (step m empty one) two ≡ 0 = two_taken in
+        (d3.case_stands ((one ∷ two ∷ []) ∷ []) 7 2).1
         (record {
           by = two;
-          is_last = record { before = one ∷ []; after = []; list = rw (e, one-taken); passes = refl; none_after = refl };
+          is_last = record { before = one ∷ []; after = []; list = rw (e, one_taken); passes = refl; none_after = refl };
           keeps = refl;
           carries = refl;
         })
 
     -- X8: "The first record is stored and the others only claimed"
-    pub first-only : ((a b : Said) → run m empty (a ∷ b ∷ []) ≡ run m empty (a ∷ [])) → ⊥
-    first-only h =
-        let e : ◌≡◌ {A = Option ℕ} (some 2) (some 1) = sym two-stands ∙ ap (λ (s : State ℕ ℕ). find 7 s.cases) (h one two) ∙ one-stands in
+    pub first_only : ((a b : Said) → run m empty (a ∷ b ∷ []) ≡ run m empty (a ∷ [])) → ⊥
+    first_only h =
+        let e : ◌≡◌ {A = Option ℕ} (some 2) (some 1) = sym two_stands ∙ ap (λ (s : State ℕ ℕ). find 7 s.cases) (h one two) ∙ one_stands in
         let z : ◌≡◌ {A = ℕ} 2 1 = cc in
         omega arith

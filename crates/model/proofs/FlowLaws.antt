@@ -8,8 +8,8 @@ use lib.ListN.{length}
 use lib.Dec.{ltb}
 use borrow.Author.Tests.{not-false, ltb-false}
 use Rattle.laws.proofs.Truth.{or_left, or_right, and_left, and_right}
-use Rattle.model.proofs.MapLaws.{find-put_all, find-del_all, find-keep, asc-keep, asc-put_all, asc-del_all, ext}
-use Rattle.model.proofs.MapSizes.{size-insert, size-vary, size-cancel, size-keep}
+use Rattle.model.proofs.MapLaws.{find-put_all, find-del_all, find-keep, asc_keep, asc_put_all, asc_del_all, ext}
+use Rattle.model.proofs.MapSizes.{size_insert, size_vary, size_cancel, size_keep}
 use Rattle.model.specs.Map.{Map, is_some, or_else, find, has, keep, del_all, any_in, all_in, twice}
 use Rattle.model.specs.Transmission.{Kind, insert, vary, cancel, is_insert, is_cancel}
 use Rattle.model.specs.Flow.{State, Good, applied}
@@ -25,13 +25,13 @@ same {s} {t} g h c e =
 
 -- one record, by its kind
 
-or-else : {F : Type 0} (a b : Option F) → or_else a b ≡ cond (is_some a) a b
-or-else none b = refl
-or-else (some v) b = refl
+or_else_lem : {F : Type 0} (a b : Option F) → or_else a b ≡ cond (is_some a) a b
+or_else_lem none b = refl
+or_else_lem (some v) b = refl
 
-or-else-or : {F : Type 0} (a b : Option F) → or_else a b ≡ cond (is_some a || false) a b
-or-else-or none b = refl
-or-else-or (some v) b = refl
+or_else_or : {F : Type 0} (a b : Option F) → or_else a b ≡ cond (is_some a || false) a b
+or_else_or none b = refl
+or_else_or (some v) b = refl
 
 gone : {F : Type 0} (h b : Bool) (o : Option F) → cond (not b) (cond h none o) none ≡ cond (h || b) none o
 gone true true o = refl
@@ -40,69 +40,69 @@ gone false true o = refl
 gone false false o = refl
 
 module _ {F E : Type 0} (cs : Map F) (es : Map E) (w : ℕ → Bool) (s : State F E) where
-  pub case-found : (t : Kind) (k : ℕ) → find k (applied t cs es w s).cases ≡ cond (has k cs) (shown t (find k cs)) (find k s.cases)
-  case-found insert k = find-put_all k cs s.cases ∙ or-else (find k cs) (find k s.cases)
-  case-found vary k = find-put_all k cs s.cases ∙ or-else (find k cs) (find k s.cases)
-  case-found cancel k = find-del_all k cs s.cases
+  pub case_found : (t : Kind) (k : ℕ) → find k (applied t cs es w s).cases ≡ cond (has k cs) (shown t (find k cs)) (find k s.cases)
+  case_found insert k = find-put_all k cs s.cases ∙ or_else_lem (find k cs) (find k s.cases)
+  case_found vary k = find-put_all k cs s.cases ∙ or_else_lem (find k cs) (find k s.cases)
+  case_found cancel k = find-del_all k cs s.cases
 
-  pub event-found : (t : Kind) (k : ℕ) →
+  pub event_found : (t : Kind) (k : ℕ) →
       find k (applied t cs es w s).events ≡ cond (has k es || (is_cancel t && w k)) (shown t (find k es)) (find k s.events)
-  event-found insert k = find-put_all k es s.events ∙ or-else-or (find k es) (find k s.events)
-  event-found vary k = find-put_all k es s.events ∙ or-else-or (find k es) (find k s.events)
-  event-found cancel k =
+  event_found insert k = find-put_all k es s.events ∙ or_else_or (find k es) (find k s.events)
+  event_found vary k = find-put_all k es s.events ∙ or_else_or (find k es) (find k s.events)
+  event_found cancel k =
       find-keep k (λ j. not (w j)) (del_all es s.events) ∙
       ap (λ (o : Option E). cond (not (w k)) o none) (find-del_all k es s.events) ∙
       gone (has k es) (w k) (find k s.events)
 
-  pub good-applied : (t : Kind) → Good s → Good (applied t cs es w s)
-  good-applied insert g = (asc-put_all cs s.cases g.0, asc-put_all es s.events g.1)
-  good-applied vary g = (asc-put_all cs s.cases g.0, asc-put_all es s.events g.1)
-  good-applied cancel g =
-      (asc-del_all cs s.cases g.0, asc-keep 0 (λ k. not (w k)) (del_all es s.events) (asc-del_all es s.events g.1))
+  pub good_applied : (t : Kind) → Good s → Good (applied t cs es w s)
+  good_applied insert g = (asc_put_all cs s.cases g.0, asc_put_all es s.events g.1)
+  good_applied vary g = (asc_put_all cs s.cases g.0, asc_put_all es s.events g.1)
+  good_applied cancel g =
+      (asc_del_all cs s.cases g.0, asc_keep 0 (λ k. not (w k)) (del_all es s.events) (asc_del_all es s.events g.1))
 
   -- how many rows, where none of the anomalies 14, 15 and 22 holds
   module _ (g : Good s) where
-    pub cases-size : (t : Kind) →
+    pub cases_size : (t : Kind) →
         is_insert t && (any_in cs s.cases || any_in es s.events) ≡ false →
         not (is_insert t) && not (all_in cs s.cases && all_in es s.events) ≡ false →
         twice cs || twice es ≡ false →
         length (applied t cs es w s).cases + cond (is_cancel t) (length cs) 0 ≡ length s.cases + cond (is_insert t) (length cs) 0
-    cases-size insert a b c =
-        omega (arith, size-insert cs s.cases (or_left (twice cs) (twice es) c) (or_left (any_in cs s.cases) (any_in es s.events) a))
-    cases-size vary a b c =
-        omega (arith, size-vary cs s.cases (and_left (all_in cs s.cases) (all_in es s.events) (not-false _ b)) g.0)
-    cases-size cancel a b c =
+    cases_size insert a b c =
+        omega (arith, size_insert cs s.cases (or_left (twice cs) (twice es) c) (or_left (any_in cs s.cases) (any_in es s.events) a))
+    cases_size vary a b c =
+        omega (arith, size_vary cs s.cases (and_left (all_in cs s.cases) (all_in es s.events) (not-false _ b)) g.0)
+    cases_size cancel a b c =
         omega (
           arith,
-          size-cancel cs s.cases (or_left (twice cs) (twice es) c) (and_left (all_in cs s.cases) (all_in es s.events) (not-false _ b)) g.0,
+          size_cancel cs s.cases (or_left (twice cs) (twice es) c) (and_left (all_in cs s.cases) (all_in es s.events) (not-false _ b)) g.0,
         )
 
-    pub events-size : (t : Kind) →
+    pub events_size : (t : Kind) →
         is_insert t && (any_in cs s.cases || any_in es s.events) ≡ false →
         not (is_insert t) && not (all_in cs s.cases && all_in es s.events) ≡ false →
         twice cs || twice es ≡ false →
         length (applied t cs es w s).events + (cond (is_cancel t) (length es) 0 + cond (is_cancel t) (length (keep w (del_all es s.events))) 0) ≡
         length s.events + cond (is_insert t) (length es) 0
-    events-size insert a b c =
+    events_size insert a b c =
         omega
-        (arith, size-insert es s.events (or_right (twice cs) (twice es) c) (or_right (any_in cs s.cases) (any_in es s.events) a))
-    events-size vary a b c =
-        omega (arith, size-vary es s.events (and_right (all_in cs s.cases) (all_in es s.events) (not-false _ b)) g.1)
-    events-size cancel a b c =
+        (arith, size_insert es s.events (or_right (twice cs) (twice es) c) (or_right (any_in cs s.cases) (any_in es s.events) a))
+    events_size vary a b c =
+        omega (arith, size_vary es s.events (and_right (all_in cs s.cases) (all_in es s.events) (not-false _ b)) g.1)
+    events_size cancel a b c =
         omega (
           arith,
-          size-keep w (del_all es s.events),
-          size-cancel es s.events (or_right (twice cs) (twice es) c) (and_right (all_in cs s.cases) (all_in es s.events) (not-false _ b)) g.1,
+          size_keep w (del_all es s.events),
+          size_cancel es s.events (or_right (twice cs) (twice es) c) (and_right (all_in cs s.cases) (all_in es s.events) (not-false _ b)) g.1,
         )
 
-    pub fits-applied : (room : ℕ) (t : Kind) →
+    pub fits_applied : (room : ℕ) (t : Kind) →
         is_insert t && (any_in cs s.cases || any_in es s.events) ≡ false →
         not (is_insert t) && not (all_in cs s.cases && all_in es s.events) ≡ false →
         twice cs || twice es ≡ false →
         is_insert t && ltb room (length s.cases + length s.events + (length cs + length es)) ≡ false →
         length s.cases + length s.events ≤ room →
         length (applied t cs es w s).cases + length (applied t cs es w s).events ≤ room
-    fits-applied room insert a b c d h =
-        omega (arith, cases-size insert a b c, events-size insert a b c, ltb-false room (length s.cases + length s.events + (length cs + length es)) d)
-    fits-applied room vary a b c d h = omega (arith, cases-size vary a b c, events-size vary a b c)
-    fits-applied room cancel a b c d h = omega (arith, cases-size cancel a b c, events-size cancel a b c)
+    fits_applied room insert a b c d h =
+        omega (arith, cases_size insert a b c, events_size insert a b c, ltb-false room (length s.cases + length s.events + (length cs + length es)) d)
+    fits_applied room vary a b c d h = omega (arith, cases_size vary a b c, events_size vary a b c)
+    fits_applied room cancel a b c d h = omega (arith, cases_size cancel a b c, events_size cancel a b c)

@@ -6,9 +6,9 @@ use mathlib.Core.List.{List, [], ◌∷◌, ◌++◌, append_assoc, flat_map}
 use mathlib.Core.Option.{Option, none, some}
 use lib.Dec.{eqb}
 use borrow.Author.Tests.{eqb-true}
-use Rattle.model.proofs.Lists.{last_of-append}
+use Rattle.model.proofs.Lists.{last_of_append}
 use Rattle.laws.proofs.Every.{Every, every_append}
-use Rattle.model.proofs.MachineLaws.{run-append, taken-append, taken-every}
+use Rattle.model.proofs.MachineLaws.{run_append, taken_append, taken_every}
 use Rattle.model.specs.Map.{or_else, last_of}
 use Rattle.model.specs.Machine.{Machine, accepts, step, run}
 use Rattle.model.specs.Log.{accepted_by, run_all, taken_all}
@@ -53,7 +53,7 @@ module _ {S R : Type 0} (m : Machine S R) where
         ap (λ (z : O). resolve shows (last_of speaks (taken_all m entries (run m s (entries s x)) xs)) z) (run_look s (entries s x)) ∙
         go (last_of speaks (taken_all m entries (run m s (entries s x)) xs)) (last_of speaks (accepted_by m s (entries s x))) ∙
         ap (λ (o : Option R). resolve shows o (look s))
-        (sym (last_of-append speaks (accepted_by m s (entries s x)) (taken_all m entries (run m s (entries s x)) xs)))
+        (sym (last_of_append speaks (accepted_by m s (entries s x)) (taken_all m entries (run m s (entries s x)) xs)))
       where
         go : (a b : Option R) → resolve shows a (resolve shows b (look s)) ≡ resolve shows (or_else a b) (look s)
         go none b = refl
@@ -69,19 +69,19 @@ module _ {S R : Type 0} (m : Machine S R) where
   all_append s [] b h g = g
   all_append s (r ∷ a) b h g = (h.0, all_append (step m s r) a b h.1 g)
 
-  pub all-front : (s : S) (a b : List R) → AllTaken s (a ++ b) → AllTaken s a
-  all-front s [] b h = tt
-  all-front s (r ∷ a) b h = (h.0, all-front (step m s r) a b h.1)
+  pub all_front : (s : S) (a b : List R) → AllTaken s (a ++ b) → AllTaken s a
+  all_front s [] b h = tt
+  all_front s (r ∷ a) b h = (h.0, all_front (step m s r) a b h.1)
 
   pub all_back : (s : S) (a b : List R) → AllTaken s (a ++ b) → AllTaken (run m s a) b
   unfolding run
   all_back s [] b h = h
   all_back s (r ∷ a) b h = all_back (step m s r) a b h.1
 
-  pub all-at : (s : S) (a : List R) (r : R) (b : List R) → AllTaken s (a ++ r ∷ b) → m.judge (run m s a) r ≡ 0
+  pub all_at : (s : S) (a : List R) (r : R) (b : List R) → AllTaken s (a ++ r ∷ b) → m.judge (run m s a) r ≡ 0
   unfolding run
-  all-at s [] r b h = h.0
-  all-at s (x ∷ a) r b h = all-at (step m s x) a r b h.1
+  all_at s [] r b h = h.0
+  all_at s (x ∷ a) r b h = all_at (step m s x) a r b h.1
 
   pub all_same : (s : S) (l : List R) → AllTaken s l → accepted_by m s l ≡ l
   unfolding accepted_by
@@ -92,76 +92,76 @@ module _ {S R : Type 0} (m : Machine S R) where
       ap (λ (t : List R). r ∷ t) i
 
   -- the accepted ones alone are accepted, and leave what all leave
-  pub taken-all : (s : S) (rs : List R) → AllTaken s (accepted_by m s rs)
+  pub taken_all_lem : (s : S) (rs : List R) → AllTaken s (accepted_by m s rs)
   unfolding accepted_by
-  taken-all s [] = tt
-  taken-all s (r ∷ rs) = go (accepts m s r) refl (taken-all (step m s r) rs)
+  taken_all_lem s [] = tt
+  taken_all_lem s (r ∷ rs) = go (accepts m s r) refl (taken_all_lem (step m s r) rs)
     where
       go : (b : Bool) → accepts m s r ≡ b → AllTaken (step m s r) (accepted_by m (step m s r) rs) →
           AllTaken s (cond b (r ∷ accepted_by m (step m s r) rs) (accepted_by m (step m s r) rs))
       go true e ih = (eqb-true (m.judge s r) 0 e, ih)
       go false e ih = let q : step m s r ≡ s = simp e in subst (λ (z : S). AllTaken z (accepted_by m (step m s r) rs)) q ih
 
-  pub taken-run : (s : S) (rs : List R) → run m s (accepted_by m s rs) ≡ run m s rs
+  pub taken_run : (s : S) (rs : List R) → run m s (accepted_by m s rs) ≡ run m s rs
   unfolding accepted_by run
-  taken-run s [] = refl
-  taken-run s (r ∷ rs) = go (accepts m s r) refl (taken-run (step m s r) rs)
+  taken_run s [] = refl
+  taken_run s (r ∷ rs) = go (accepts m s r) refl (taken_run (step m s r) rs)
     where
       go : (b : Bool) → accepts m s r ≡ b → run m (step m s r) (accepted_by m (step m s r) rs) ≡ run m (step m s r) rs →
           run m s (cond b (r ∷ accepted_by m (step m s r) rs) (accepted_by m (step m s r) rs)) ≡ run m (step m s r) rs
       go true e ih = ih
       go false e ih = let q : step m s r ≡ s = simp e in subst (λ (z : S). run m z (accepted_by m (step m s r) rs) ≡ run m (step m s r) rs) q ih
 
-  pub taken_all-all : {X : Type 0} (entries : S → X → List R) (s : S) (xs : List X) → AllTaken s (taken_all m entries s xs)
+  pub taken_all_all : {X : Type 0} (entries : S → X → List R) (s : S) (xs : List X) → AllTaken s (taken_all m entries s xs)
   unfolding taken_all
-  taken_all-all entries s [] = tt
-  taken_all-all entries s (x ∷ xs) =
+  taken_all_all entries s [] = tt
+  taken_all_all entries s (x ∷ xs) =
       all_append s (accepted_by m s (entries s x)) (taken_all m entries (run m s (entries s x)) xs)
-      (taken-all s (entries s x))
-      (rw (taken-run s (entries s x)) (taken_all-all entries (run m s (entries s x)) xs))
+      (taken_all_lem s (entries s x))
+      (rw (taken_run s (entries s x)) (taken_all_all entries (run m s (entries s x)) xs))
 
   -- what holds of every record that is sent holds of every one in the log
-  pub log-every : (P : R → Type 0) {X : Type 0} (entries : S → X → List R) → ((s : S) (x : X) → Every P (entries s x)) →
+  pub log_every : (P : R → Type 0) {X : Type 0} (entries : S → X → List R) → ((s : S) (x : X) → Every P (entries s x)) →
       (s : S) (xs : List X) → Every P (taken_all m entries s xs)
   unfolding taken_all
-  log-every P entries o s [] = tt
-  log-every P entries o s (x ∷ xs) =
+  log_every P entries o s [] = tt
+  log_every P entries o s (x ∷ xs) =
       every_append P (accepted_by m s (entries s x)) (taken_all m entries (run m s (entries s x)) xs)
-      (taken-every m P s (entries s x) (o s x)) (log-every P entries o (run m s (entries s x)) xs)
+      (taken_every m P s (entries s x) (o s x)) (log_every P entries o (run m s (entries s x)) xs)
 
   -- what a history leaves, its accepted records alone leave
-  pub log-run : {X : Type 0} (entries : S → X → List R) (s : S) (xs : List X) → run m s (taken_all m entries s xs) ≡ run_all m entries s xs
+  pub log_run : {X : Type 0} (entries : S → X → List R) (s : S) (xs : List X) → run m s (taken_all m entries s xs) ≡ run_all m entries s xs
   unfolding run run_all taken_all
-  log-run entries s [] = refl
-  log-run entries s (x ∷ xs) =
-      run-append m s (accepted_by m s (entries s x)) (taken_all m entries (run m s (entries s x)) xs) ∙
-      ap (λ (z : S). run m z (taken_all m entries (run m s (entries s x)) xs)) (taken-run s (entries s x)) ∙
-      log-run entries (run m s (entries s x)) xs
+  log_run entries s [] = refl
+  log_run entries s (x ∷ xs) =
+      run_append m s (accepted_by m s (entries s x)) (taken_all m entries (run m s (entries s x)) xs) ∙
+      ap (λ (z : S). run m z (taken_all m entries (run m s (entries s x)) xs)) (taken_run s (entries s x)) ∙
+      log_run entries (run m s (entries s x)) xs
 
   -- ---- one history after the other
-  pub run_all-append : {X : Type 0} (entries : S → X → List R) (s : S) (xs ys : List X) →
+  pub run_all_append : {X : Type 0} (entries : S → X → List R) (s : S) (xs ys : List X) →
       run_all m entries s (xs ++ ys) ≡ run_all m entries (run_all m entries s xs) ys
   unfolding run_all
-  run_all-append entries s [] ys = refl
-  run_all-append entries s (x ∷ xs) ys = run_all-append entries (run m s (entries s x)) xs ys
+  run_all_append entries s [] ys = refl
+  run_all_append entries s (x ∷ xs) ys = run_all_append entries (run m s (entries s x)) xs ys
 
-  pub taken_all-append : {X : Type 0} (entries : S → X → List R) (s : S) (xs ys : List X) →
+  pub taken_all_append : {X : Type 0} (entries : S → X → List R) (s : S) (xs ys : List X) →
       taken_all m entries s (xs ++ ys) ≡ taken_all m entries s xs ++ taken_all m entries (run_all m entries s xs) ys
   unfolding run_all taken_all
-  taken_all-append entries s [] ys = refl
-  taken_all-append entries s (x ∷ xs) ys =
+  taken_all_append entries s [] ys = refl
+  taken_all_append entries s (x ∷ xs) ys =
       let t : S = run m s (entries s x) in
-      ap (λ (l : List R). accepted_by m s (entries s x) ++ l) (taken_all-append entries t xs ys)
+      ap (λ (l : List R). accepted_by m s (entries s x) ++ l) (taken_all_append entries t xs ys)
       ∙ sym (append_assoc (accepted_by m s (entries s x)) (taken_all m entries t xs) (taken_all m entries (run_all m entries t xs) ys))
 
   -- ---- many files or one
   pub files-run : (s : S) (files : List (List R)) → run_all m (λ s a. a) s files ≡ run m s (flat_map (λ a. a) files)
   unfolding run run_all flat_map
   files-run s [] = refl
-  files-run s (a ∷ files) = files-run (run m s a) files ∙ sym (run-append m s a (flat_map (λ a. a) files))
+  files-run s (a ∷ files) = files-run (run m s a) files ∙ sym (run_append m s a (flat_map (λ a. a) files))
 
-  pub files-taken : (s : S) (files : List (List R)) → taken_all m (λ s a. a) s files ≡ accepted_by m s (flat_map (λ a. a) files)
+  pub files_taken : (s : S) (files : List (List R)) → taken_all m (λ s a. a) s files ≡ accepted_by m s (flat_map (λ a. a) files)
   unfolding accepted_by taken_all flat_map
-  files-taken s [] = refl
-  files-taken s (a ∷ files) =
-      ap (λ (l : List R). accepted_by m s a ++ l) (files-taken (run m s a) files) ∙ sym (taken-append m s a (flat_map (λ a. a) files))
+  files_taken s [] = refl
+  files_taken s (a ∷ files) =
+      ap (λ (l : List R). accepted_by m s a ++ l) (files_taken (run m s a) files) ∙ sym (taken_append m s a (flat_map (λ a. a) files))

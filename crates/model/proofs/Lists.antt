@@ -11,15 +11,15 @@ use Rattle.laws.specs.Lists.{all, any}
 use Rattle.model.specs.Map.{or_else, last_of}
 use Rattle.model.specs.Log.{LastIs}
 
-pub not-and : (a b : Bool) → not (a && b) ≡ not a || not b
-not-and true b = refl
-not-and false b = refl
+pub not_and : (a b : Bool) → not (a && b) ≡ not a || not b
+not_and true b = refl
+not_and false b = refl
 
 -- not all pass exactly where some fail
 pub not-all : {A : Type 0} (p : A → Bool) (l : List A) → not (all p l) ≡ any (λ x. not (p x)) l
 unfolding all any
 not-all p [] = refl
-not-all p (x ∷ l) = not-and (p x) (all p l) ∙ ap (λ (b : Bool). not (p x) || b) (not-all p l)
+not-all p (x ∷ l) = not_and (p x) (all p l) ∙ ap (λ (b : Bool). not (p x) || b) (not-all p l)
 
 -- tests that agree
 pub any_same : {A : Type 0} (p q : A → Bool) (l : List A) → ((x : A) → p x ≡ q x) → any p l ≡ any q l
@@ -34,16 +34,16 @@ or_else-none : {A : Type 0} (o : Option A) → o ≡ or_else o none
 or_else-none none = refl
 or_else-none (some a) = refl
 
-or_else-assoc : {A : Type 0} (x y z : Option A) → or_else (or_else x y) z ≡ or_else x (or_else y z)
-or_else-assoc none y z = refl
-or_else-assoc (some a) y z = refl
+or_else_assoc : {A : Type 0} (x y z : Option A) → or_else (or_else x y) z ≡ or_else x (or_else y z)
+or_else_assoc none y z = refl
+or_else_assoc (some a) y z = refl
 
 module _ {R : Type 0} (p : R → Bool) where
   -- the last of two lists joined
-  pub last_of-append : (a b : List R) → last_of p (a ++ b) ≡ or_else (last_of p b) (last_of p a)
+  pub last_of_append : (a b : List R) → last_of p (a ++ b) ≡ or_else (last_of p b) (last_of p a)
   unfolding last_of
-  last_of-append [] b = or_else-none (last_of p b)
-  last_of-append (r ∷ a) b = rw (last_of-append a b) (or_else-assoc (last_of p b) (last_of p a) (cond (p r) (some r) none))
+  last_of_append [] b = or_else-none (last_of p b)
+  last_of_append (r ∷ a) b = rw (last_of_append a b) (or_else_assoc (last_of p b) (last_of p a) (cond (p r) (some r) none))
 
   none_last : (l : List R) → last_of p l ≡ none → any p l ≡ false
   unfolding last_of any
@@ -62,13 +62,13 @@ module _ {R : Type 0} (p : R → Bool) where
   last_none (r ∷ l) h = simp (or_left (p r) (any p l) h, last_none l (or_right (p r) (any p l) h))
 
   -- the function `last_of` finds the last
-  pub last_of-iff : (l : List R) (r : R) → last_of p l ≡ some r ↔ LastIs p l r
+  pub last_of_iff : (l : List R) (r : R) → last_of p l ≡ some r ↔ LastIs p l r
   unfolding last_of
-  last_of-iff l r = (
+  last_of_iff l r = (
     to l,
     λ h.
         ap (λ (x : List R). last_of p x) h.list ∙
-        last_of-append h.before (r ∷ h.after) ∙
+        last_of_append h.before (r ∷ h.after) ∙
         simp (last_none h.after h.none_after, h.passes),
   )
     where
@@ -93,11 +93,11 @@ module _ {R : Type 0} (p : R → Bool) where
               }
 
   -- the last that passes does pass
-  pub last-passes : (l : List R) (r : R) → last_of p l ≡ some r → p r ≡ true
-  last-passes l r e = ((last_of-iff l r).0 e).passes
+  pub last_passes : (l : List R) (r : R) → last_of p l ≡ some r → p r ≡ true
+  last_passes l r e = ((last_of_iff l r).0 e).passes
 
 -- tests that agree find one last
-pub last-same : {R : Type 0} (p q : R → Bool) (l : List R) → ((r : R) → p r ≡ q r) → last_of p l ≡ last_of q l
+pub last_same : {R : Type 0} (p q : R → Bool) (l : List R) → ((r : R) → p r ≡ q r) → last_of p l ≡ last_of q l
 unfolding last_of
-last-same p q [] h = refl
-last-same p q (r ∷ l) h = simp (h r, last-same p q l h)
+last_same p q [] h = refl
+last_same p q (r ∷ l) h = simp (h r, last_same p q l h)

@@ -8,8 +8,8 @@ use mathlib.Core.Option.{Option, none, some}
 use native.Mathlib.Omega.{arith}
 use lib.Dec.{eqb}
 use borrow.Author.Tests.{eqb-true, eq-eqb, ne_eqb}
-use Rattle.laws.proofs.Order.{Tri, below, equal, above, tri, eqb-sym}
-use Rattle.laws.proofs.Truth.{cond_both, cond-again, cond-swap, or_left, or_right}
+use Rattle.laws.proofs.Order.{Tri, below, equal, above, tri, eqb_sym}
+use Rattle.laws.proofs.Truth.{cond_both, cond_again, cond_swap, or_left, or_right}
 use Rattle.laws.specs.Lists.{any}
 use Rattle.model.specs.Map.{Row, Map, is_some, or_else, find, has, put, keep, Asc, put_all, del, del_all, any_in}
 
@@ -22,10 +22,10 @@ module _ {F : Type 0} where
       go : Tri r.key x.key → find k (put r m) ≡ cond (eqb k r.key) (some r.val) (find k m) →
           find k (put r (x ∷ m)) ≡ cond (eqb k r.key) (some r.val) (find k (x ∷ m))
       go (below l a b) ih = simp (a, b)
-      go (equal l a b) ih = simp (a, b) (cond-again _ _ _ _ _ (ap (λ (j : ℕ). eqb k j) l))
+      go (equal l a b) ih = simp (a, b) (cond_again _ _ _ _ _ (ap (λ (j : ℕ). eqb k j) l))
       go (above l a b) ih =
           simp (a, b, ih)
-          (cond-swap _ _ _ _ _ (λ s t.
+          (cond_swap _ _ _ _ _ (λ s t.
           let e : k ≡ x.key = eqb-true _ _ s in
           let f : k ≡ r.key = eqb-true _ _ t in
           omega arith))
@@ -42,50 +42,50 @@ module _ {F : Type 0} where
       go false e true f ih = simp (f, e, ih)
       go false e false f ih = simp (f, e, ih)
 
-  pub asc-weaken : (a b : ℕ) (m : Map F) → a ≤ b → Asc b m → Asc a m
+  pub asc_weaken : (a b : ℕ) (m : Map F) → a ≤ b → Asc b m → Asc a m
   unfolding Asc
-  asc-weaken a b [] l h = tt
-  asc-weaken a b (x ∷ m) l h = (omega arith, h.1)
+  asc_weaken a b [] l h = tt
+  asc_weaken a b (x ∷ m) l h = (omega arith, h.1)
 
-  pub asc-put : (b : ℕ) (r : Row F) (m : Map F) → b ≤ r.key → Asc b m → Asc b (put r m)
+  pub asc_put : (b : ℕ) (r : Row F) (m : Map F) → b ≤ r.key → Asc b m → Asc b (put r m)
   unfolding put Asc
-  asc-put b r [] l h = (l, tt)
-  asc-put b r (x ∷ m) l h = go (tri r.key x.key) (λ g. asc-put (suc x.key) r m g h.1)
+  asc_put b r [] l h = (l, tt)
+  asc_put b r (x ∷ m) l h = go (tri r.key x.key) (λ g. asc_put (suc x.key) r m g h.1)
     where
       go : Tri r.key x.key → (x.key < r.key → Asc (suc x.key) (put r m)) → Asc b (put r (x ∷ m))
       go (below g a e) ih = simp a (l, (g, h.1))
       go (equal g a e) ih = simp (a, e) (l, rw g h.1)
       go (above g a e) ih = simp (a, e) (h.0, ih g)
 
-  pub asc-keep : (b : ℕ) (p : ℕ → Bool) (m : Map F) → Asc b m → Asc b (keep p m)
+  pub asc_keep : (b : ℕ) (p : ℕ → Bool) (m : Map F) → Asc b m → Asc b (keep p m)
   unfolding keep Asc
-  asc-keep b p [] h = tt
-  asc-keep b p (x ∷ m) h = go (p x.key) refl (asc-keep (suc x.key) p m h.1)
+  asc_keep b p [] h = tt
+  asc_keep b p (x ∷ m) h = go (p x.key) refl (asc_keep (suc x.key) p m h.1)
     where
       go : (c : Bool) → p x.key ≡ c → Asc (suc x.key) (keep p m) → Asc b (keep p (x ∷ m))
       go true e ih = simp e (h.0, ih)
-      go false e ih = simp e (asc-weaken b (suc x.key) (keep p m) (omega arith) ih)
+      go false e ih = simp e (asc_weaken b (suc x.key) (keep p m) (omega arith) ih)
 
-  pub find-below : (k b : ℕ) (m : Map F) → k < b → Asc b m → find k m ≡ none
+  pub find_below : (k b : ℕ) (m : Map F) → k < b → Asc b m → find k m ≡ none
   unfolding find Asc
-  find-below k b [] l h = refl
-  find-below k b (x ∷ m) l h =
-      simp (ne_eqb k x.key (λ e. omega arith)) (find-below k (suc x.key) m (omega arith) h.1)
+  find_below k b [] l h = refl
+  find_below k b (x ∷ m) l h =
+      simp (ne_eqb k x.key (λ e. omega arith)) (find_below k (suc x.key) m (omega arith) h.1)
 
-  pub no-some : {a : F} → none ≡ some a → ⊥
-  no-some e = let z : ◌≡◌ {A = ℕ} 0 1 = cc in omega arith
+  pub no_some : {a : F} → none ≡ some a → ⊥
+  no_some e = let z : ◌≡◌ {A = ℕ} 0 1 = cc in omega arith
 
-  find-self : (x : Row F) (m : Map F) → find x.key (x ∷ m) ≡ some x.val
+  find_self : (x : Row F) (m : Map F) → find x.key (x ∷ m) ≡ some x.val
   unfolding find
-  find-self x m = simp (eq-eqb x.key x.key refl)
+  find_self x m = simp (eq-eqb x.key x.key refl)
 
   find_past : (k : ℕ) (x : Row F) (m : Map F) → x.key < k → find k (x ∷ m) ≡ find k m
   unfolding find
   find_past k x m l = simp (ne_eqb k x.key (λ e. omega arith))
 
-  pub find-nil : (k : ℕ) → ◌≡◌ {A = Option F} none (find k [])
+  pub find_nil : (k : ℕ) → ◌≡◌ {A = Option F} none (find k [])
   unfolding find
-  find-nil k = refl
+  find_nil k = refl
 
   some_inj : (a b : F) → some a ≡ some b → a ≡ b
   some_inj a b e = cc
@@ -94,8 +94,8 @@ module _ {F : Type 0} where
   pub ext : (b : ℕ) (m n : Map F) → Asc b m → Asc b n → ((k : ℕ) → find k m ≡ find k n) → m ≡ n
   unfolding Asc
   ext b [] [] h g f = refl
-  ext b [] (y ∷ n) h g f = absurd (no-some (find-nil y.key ∙ f y.key ∙ find-self y n))
-  ext b (x ∷ m) [] h g f = absurd (no-some (find-nil x.key ∙ sym (f x.key) ∙ find-self x m))
+  ext b [] (y ∷ n) h g f = absurd (no_some (find_nil y.key ∙ f y.key ∙ find_self y n))
+  ext b (x ∷ m) [] h g f = absurd (no_some (find_nil x.key ∙ sym (f x.key) ∙ find_self x m))
   ext b (x ∷ m) (y ∷ n) h g f = go (tri x.key y.key) (λ e. ext (suc x.key) m n h.1 e)
     where
       rest : x.key ≡ y.key → (k : ℕ) → find k m ≡ find k n
@@ -103,18 +103,18 @@ module _ {F : Type 0} where
         where
           near : Tri k x.key → find k m ≡ find k n
           near (below l a c) =
-              find-below k (suc x.key) m (omega arith) h.1 ∙ sym (find-below k (suc y.key) n (omega arith) g.1)
+              find_below k (suc x.key) m (omega arith) h.1 ∙ sym (find_below k (suc y.key) n (omega arith) g.1)
           near (equal l a c) =
-              find-below k (suc x.key) m (omega arith) h.1 ∙ sym (find-below k (suc y.key) n (omega arith) g.1)
+              find_below k (suc x.key) m (omega arith) h.1 ∙ sym (find_below k (suc y.key) n (omega arith) g.1)
           near (above l a c) = sym (find_past k x m l) ∙ f k ∙ find_past k y n (omega arith)
 
       go : Tri x.key y.key → (Asc (suc x.key) n → ((k : ℕ) → find k m ≡ find k n) → m ≡ n) → x ∷ m ≡ y ∷ n
       go (below l a c) ih =
-          absurd (no-some (sym (find-below x.key y.key (y ∷ n) l (omega arith, g.1)) ∙ sym (f x.key) ∙ find-self x m))
+          absurd (no_some (sym (find_below x.key y.key (y ∷ n) l (omega arith, g.1)) ∙ sym (f x.key) ∙ find_self x m))
       go (above l a c) ih =
-          absurd (no-some (sym (find-below y.key x.key (x ∷ m) l (omega arith, h.1)) ∙ f y.key ∙ find-self y n))
+          absurd (no_some (sym (find_below y.key x.key (x ∷ m) l (omega arith, h.1)) ∙ f y.key ∙ find_self y n))
       go (equal l a c) ih =
-          let v : x.val ≡ y.val = some_inj _ _ (sym (find-self x m) ∙ f x.key ∙ rw l (find-self y n)) in
+          let v : x.val ≡ y.val = some_inj _ _ (sym (find_self x m) ∙ f x.key ∙ rw l (find_self y n)) in
           let t : m ≡ n = ih (rw l g.1) (rest l) in
           let r : x ≡ y = λ i. record { key = l i; val = v i } in
           cc
@@ -126,8 +126,8 @@ module _ {F : Type 0} where
   keep_all k (x ∷ m) e = go (eqb k x.key) refl (keep_all k m)
     where
       go : (b : Bool) → eqb k x.key ≡ b → (find k m ≡ none → del k m ≡ m) → del k (x ∷ m) ≡ x ∷ m
-      go true c ih = absurd (no-some {a = x.val} (sym e ∙ simp c))
-      go false c ih = simp (eqb-sym x.key k, c, ih (simp c at e))
+      go true c ih = absurd (no_some {a = x.val} (sym e ∙ simp c))
+      go false c ih = simp (eqb_sym x.key k, c, ih (simp c at e))
 
   -- ---- many rows at once
 
@@ -151,15 +151,15 @@ module _ {F : Type 0} where
       go true ih = refl
       go false ih = ih
 
-  pub asc-put_all : (rs m : Map F) → Asc 0 m → Asc 0 (put_all rs m)
+  pub asc_put_all : (rs m : Map F) → Asc 0 m → Asc 0 (put_all rs m)
   unfolding put_all
-  asc-put_all [] m h = h
-  asc-put_all (r ∷ rs) m h = asc-put 0 r (put_all rs m) (omega arith) (asc-put_all rs m h)
+  asc_put_all [] m h = h
+  asc_put_all (r ∷ rs) m h = asc_put 0 r (put_all rs m) (omega arith) (asc_put_all rs m h)
 
-  pub asc-del_all : (rs m : Map F) → Asc 0 m → Asc 0 (del_all rs m)
+  pub asc_del_all : (rs m : Map F) → Asc 0 m → Asc 0 (del_all rs m)
   unfolding del_all
-  asc-del_all [] m h = h
-  asc-del_all (r ∷ rs) m h = asc-keep 0 (λ j. not (eqb j r.key)) (del_all rs m) (asc-del_all rs m h)
+  asc_del_all [] m h = h
+  asc_del_all (r ∷ rs) m h = asc_keep 0 (λ j. not (eqb j r.key)) (del_all rs m) (asc_del_all rs m h)
 
   pub none_of : (o : Option F) → is_some o ≡ false → o ≡ none
   none_of none e = refl
@@ -230,10 +230,10 @@ module _ {F : Type 0} where
       go true false e ih = rw e ih
       go false c e ih = ih
 
-  pub keep-none : (p : ℕ → Bool) (m : Map F) → ((k : ℕ) → p k ≡ false) → keep p m ≡ []
+  pub keep_none : (p : ℕ → Bool) (m : Map F) → ((k : ℕ) → p k ≡ false) → keep p m ≡ []
   unfolding keep
-  keep-none p [] h = refl
-  keep-none p (x ∷ m) h = simp (h x.key, keep-none p m h)
+  keep_none p [] h = refl
+  keep_none p (x ∷ m) h = simp (h x.key, keep_none p m h)
 
   -- a test on the keys passes on some row exactly where it passes on some key that stands
   pub any-key : (p : ℕ → Bool) (m : Map F) → any (λ x. p x.key) m ≡ true → (k : ℕ) × (has k m ≡ true) × (p k ≡ true)
@@ -247,7 +247,7 @@ module _ {F : Type 0} where
 
       go : (b : Bool) → p x.key ≡ b → (any (λ x. p x.key) m ≡ true → (k : ℕ) × (has k m ≡ true) × (p k ≡ true)) →
           (k : ℕ) × (has k (x ∷ m) ≡ true) × (p k ≡ true)
-      go true h ih = (x.key, ap is_some (find-self x m), h)
+      go true h ih = (x.key, ap is_some (find_self x m), h)
       go false h ih = let i = ih (simp h at e) in (i.0, up i.0 (eqb i.0 x.key) i.1, i.2)
 
   pub key-any : (p : ℕ → Bool) (m : Map F) (k : ℕ) → has k m ≡ true → p k ≡ true → any (λ x. p x.key) m ≡ true

@@ -3,7 +3,7 @@ use mathlib.Core.Path.{◌≡◌, refl}
 use mathlib.Core.Bool.{Bool, true, false, cond}
 use mathlib.Core.List.{List, [], ◌∷◌}
 use borrow.Author.Tests.{eqb-true}
-use Rattle.model.proofs.MachineLaws.{step_keeps, run-keeps}
+use Rattle.model.proofs.MachineLaws.{step_keeps, run_keeps}
 use Rattle.model.specs.Machine.{Machine, accepts, step, run, answers}
 use Rattle.model.specs.Log.{run_all, calls}
 
@@ -38,4 +38,4 @@ module _ {S R X B : Type 0} (m : Machine S R) (entries : S → X → List R) (ca
   unfolding calls run_all
   calls-encode s [] h = refl
   calls-encode s (x ∷ xs) h =
-      rw (right s x h) (calls-encode (run m s (entries s x)) xs (run-keeps m Inv keeps s (entries s x) h))
+      rw (right s x h) (calls-encode (run m s (entries s x)) xs (run_keeps m Inv keeps s (entries s x) h))

@@ -5,7 +5,7 @@ use mathlib.Core.Bool.{true, false, false≢true}
 use mathlib.Core.List.{List, [], ◌∷◌}
 use Rattle.laws.specs.Lists.{all, any}
 use Rattle.model.proofs.ChecksLaws.{clear}
-use Rattle.model.proofs.Demands.{flow-demand2, demand3}
+use Rattle.model.proofs.Demands.{flow_demand2, demand3}
 use Rattle.model.proofs.TransmissionLaws.{sequences}
 use Rattle.model.specs.Map.{Row, find, put, keep, put_all, del_all, any_in, all_in, twice}
 use Rattle.model.specs.Checks.{Check, check, first, numbered}
@@ -53,14 +53,14 @@ lawful =
 abbrev pub files : State ℕ ℕ → List Said → List Said
 files s a = a
 
-pub toy-demand2 : Demand2 checks (machine toy checks)
-toy-demand2 = flow-demand2 toy checks well
+pub toy_demand2 : Demand2 checks (machine toy checks)
+toy_demand2 = flow_demand2 toy checks well
 
-pub toy-demand3 : {B : Type 0} (encode : State ℕ ℕ → B) → Demand3 toy (machine toy checks) files encode
-toy-demand3 encode = demand3 toy checks lawful files encode
+pub toy_demand3 : {B : Type 0} (encode : State ℕ ℕ → B) → Demand3 toy (machine toy checks) files encode
+toy_demand3 encode = demand3 toy checks lawful files encode
 
-pub toy-sequences : Sequences toy (machine toy checks) files
-toy-sequences = sequences toy checks lawful files
+pub toy_sequences : Sequences toy (machine toy checks) files
+toy_sequences = sequences toy checks lawful files
 
 -- ---- an insertion and its cancellation, in two files, with a record between them that is discarded
 
@@ -73,7 +73,7 @@ two = (say insert 5 5 ∷ []) ∷ (say insert 7 2 ∷ say insert 7 3 ∷ []) ∷
 pub undone : after toy (machine toy checks) files two ≡ after toy (machine toy checks) files before
 unfolding taken_all accepted_by run machine first find put keep put_all del_all any_in all_in all any
 undone =
-    (toy-demand3 (λ s. s)).undone two before (say insert 5 5 ∷ []) [] (say insert 7 2) (say cancel 7 2) refl refl
+    (toy_demand3 (λ s. s)).undone two before (say insert 5 5 ∷ []) [] (say insert 7 2) (say cancel 7 2) refl refl
     (record { inserts = refl; cancels = refl; cases = λ k. refl; events = λ k. refl }) (λ k e. absurd (false≢true e))
 
 -- ---- a file computed

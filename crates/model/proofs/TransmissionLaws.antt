@@ -7,10 +7,10 @@ use mathlib.Core.List.{List, ◌∷◌, ◌++◌}
 use mathlib.Core.Option.{Option, none, some}
 use borrow.Author.Tests.{not-true}
 use Rattle.laws.specs.Lists.{any}
-use Rattle.model.proofs.MapLaws.{find-nil, any-key, key-any}
-use Rattle.model.proofs.Lists.{not-and, not-all, any_same, last-passes}
-use Rattle.model.proofs.Histories.{resolve, run_look, AllTaken, all-front, all-at, all_same, taken_all-all, log-run}
-use Rattle.model.proofs.FlowHistories.{case-law, event-law}
+use Rattle.model.proofs.MapLaws.{find_nil, any-key, key-any}
+use Rattle.model.proofs.Lists.{not_and, not-all, any_same, last_passes}
+use Rattle.model.proofs.Histories.{resolve, run_look, AllTaken, all_front, all_at, all_same, taken_all_all, log_run}
+use Rattle.model.proofs.FlowHistories.{case_law, event_law}
 use Rattle.model.specs.Map.{Map, is_some, find, has, any_in, all_in, last_of}
 use Rattle.model.specs.Checks.{Check}
 use Rattle.model.specs.Machine.{Machine, run}
@@ -47,15 +47,15 @@ module _ {F : Type 0} (sent_of : ℕ → Sent) (t : Kind) (rows : Map F) where
   refuses = any (λ x. not (admitted (sent_of x.key) t)) rows
 
   module _ (m : Map F) (stands : (k : ℕ) → has k m ≡ standing (sent_of k)) where
-    refuses-insert : is_insert t ≡ true → any_in rows m ≡ refuses
+    refuses_insert : is_insert t ≡ true → any_in rows m ≡ refuses
     unfolding any_in
-    refuses-insert e =
+    refuses_insert e =
         any_same (λ x. has x.key m) (λ x. not (admitted (sent_of x.key) t)) rows
         (λ x. simp (table (sent_of x.key) t, e) (stands x.key ∙ not-not (standing (sent_of x.key))))
 
-    refuses-other : is_insert t ≡ false → not (all_in rows m) ≡ refuses
+    refuses_other : is_insert t ≡ false → not (all_in rows m) ≡ refuses
     unfolding all_in
-    refuses-other e =
+    refuses_other e =
         not-all (λ x. has x.key m) rows ∙
         any_same (λ x. not (has x.key m)) (λ x. not (admitted (sent_of x.key) t)) rows
         (λ x. simp (table (sent_of x.key) t, e) (ap not (stands x.key)))
@@ -70,26 +70,26 @@ or_cases : {P : Type 0} (a b : Bool) → (a ≡ true → P) → (b ≡ true → 
 or_cases true b f g e = f refl
 or_cases false b f g e = g e
 
-or-first : (a b : Bool) → a ≡ true → a || b ≡ true
-or-first true b e = refl
-or-first false b e = absurd (false≢true e)
+or_first : (a b : Bool) → a ≡ true → a || b ≡ true
+or_first true b e = refl
+or_first false b e = absurd (false≢true e)
 
-or-second : (a b : Bool) → b ≡ true → a || b ≡ true
-or-second true b e = refl
-or-second false b e = e
+or_second : (a b : Bool) → b ≡ true → a || b ≡ true
+or_second true b e = refl
+or_second false b e = e
 
 -- of two tests, one for an insertion and one for any other
-only-first : (i x y : Bool) → i && x ≡ true ↔ (i ≡ true) × ((i && x) || (not i && y) ≡ true)
-only-first true x y = (λ e. (refl, or-first x false e), λ h. sym (or-false x) ∙ h.1)
-only-first false x y = (λ e. absurd (false≢true e), λ h. h.0)
+only_first : (i x y : Bool) → i && x ≡ true ↔ (i ≡ true) × ((i && x) || (not i && y) ≡ true)
+only_first true x y = (λ e. (refl, or_first x false e), λ h. sym (or-false x) ∙ h.1)
+only_first false x y = (λ e. absurd (false≢true e), λ h. h.0)
 
-only-second : (i x y : Bool) → not i && y ≡ true ↔ (i ≡ false) × ((i && x) || (not i && y) ≡ true)
-only-second true x y = (λ e. absurd (false≢true e), λ h. absurd (true≢false h.0))
-only-second false x y = (λ e. (refl, e), λ h. h.1)
+only_second : (i x y : Bool) → not i && y ≡ true ↔ (i ≡ false) × ((i && x) || (not i && y) ≡ true)
+only_second true x y = (λ e. absurd (false≢true e), λ h. absurd (true≢false h.0))
+only_second false x y = (λ e. (refl, e), λ h. h.1)
 
 -- an equivalence, with its second half said another way
-and-other : {A P B Q : Type 0} → A ↔ P × B → B ↔ Q → A ↔ P × Q
-and-other o e = (λ a. let p = o.0 a in (p.0, e.0 p.1), λ h. o.1 (h.0, e.1 h.1))
+and_other : {A P B Q : Type 0} → A ↔ P × B → B ↔ Q → A ↔ P × Q
+and_other o e = (λ a. let p = o.0 a in (p.0, e.0 p.1), λ h. o.1 (h.0, e.1 h.1))
 
 module _ {F E R : Type 0} (f : Flow F E R) (s : State F E) (l : List R)
     (cases : (k : ℕ) → has k s.cases ≡ standing (case_sent f k l))
@@ -113,13 +113,13 @@ module _ {F E R : Type 0} (f : Flow F E R) (s : State F E) (l : List R)
     where
       go : (i : Bool) → is_insert (f.kind r) ≡ i → (i && some_stands) || (not i && some_missing) ≡ case_refused || event_refused
       go true e =
-          let c = refuses-insert (λ k. case_sent f k l) (f.kind r) (f.case_rows r) s.cases cases e in
-          let v = refuses-insert (λ k. event_sent f k l) (f.kind r) (f.event_rows r) s.events events e in
+          let c = refuses_insert (λ k. case_sent f k l) (f.kind r) (f.case_rows r) s.cases cases e in
+          let v = refuses_insert (λ k. event_sent f k l) (f.kind r) (f.event_rows r) s.events events e in
           or-false some_stands ∙ cc
       go false e =
-          let c = refuses-other (λ k. case_sent f k l) (f.kind r) (f.case_rows r) s.cases cases e in
-          let v = refuses-other (λ k. event_sent f k l) (f.kind r) (f.event_rows r) s.events events e in
-          not-and (all_in (f.case_rows r) s.cases) (all_in (f.event_rows r) s.events) ∙ cc
+          let c = refuses_other (λ k. case_sent f k l) (f.kind r) (f.case_rows r) s.cases cases e in
+          let v = refuses_other (λ k. event_sent f k l) (f.kind r) (f.event_rows r) s.events events e in
+          not_and (all_in (f.case_rows r) s.cases) (all_in (f.event_rows r) s.events) ∙ cc
 
   pub refusals : t14 f r s || t15 f r s ≡ true ↔ Refused f r l
   refusals = (λ e. or_cases case_refused event_refused in_case in_event (sym tests ∙ e), λ h. tests ∙ back h)
@@ -136,60 +136,60 @@ module _ {F E R : Type 0} (f : Flow F E R) (s : State F E) (l : List R)
 
       back : Refused f r l → case_refused || event_refused ≡ true
       back (case k h e) =
-          or-first case_refused event_refused (key-any (λ k. not (admitted (case_sent f k l) (f.kind r))) (f.case_rows r) k h (ap not e))
+          or_first case_refused event_refused (key-any (λ k. not (admitted (case_sent f k l) (f.kind r))) (f.case_rows r) k h (ap not e))
       back (event k h e) =
-          or-second case_refused event_refused (key-any (λ k. not (admitted (event_sent f k l) (f.kind r))) (f.event_rows r) k h (ap not e))
+          or_second case_refused event_refused (key-any (λ k. not (admitted (event_sent f k l) (f.kind r))) (f.event_rows r) k h (ap not e))
 
   pub are14 : t14 f r s ≡ true ↔ (is_insert (f.kind r) ≡ true) × Refused f r l
-  are14 = and-other (only-first (is_insert (f.kind r)) some_stands some_missing) refusals
+  are14 = and_other (only_first (is_insert (f.kind r)) some_stands some_missing) refusals
 
   pub are15 : t15 f r s ≡ true ↔ (is_insert (f.kind r) ≡ false) × Refused f r l
-  are15 = and-other (only-second (is_insert (f.kind r)) some_stands some_missing) refusals
+  are15 = and_other (only_second (is_insert (f.kind r)) some_stands some_missing) refusals
 
 -- ---- a log of accepted records: what stands is what it last sent
 
 module _ {F R : Type 0} (kind : R → Kind) (row_of : R → Option F) (speaks : R → Bool)
     (carries : (r : R) → speaks r ≡ true → is_cancel (kind r) ≡ false → is_some (row_of r) ≡ true) where
-  stands-shown : (t : Kind) (o : Option F) → (is_cancel t ≡ false → is_some o ≡ true) → is_some (shown t o) ≡ standing (last t)
-  stands-shown insert o h = h refl
-  stands-shown vary o h = h refl
-  stands-shown cancel o h = refl
+  stands_shown : (t : Kind) (o : Option F) → (is_cancel t ≡ false → is_some o ≡ true) → is_some (shown t o) ≡ standing (last t)
+  stands_shown insert o h = h refl
+  stands_shown vary o h = h refl
+  stands_shown cancel o h = refl
 
-  stands-sent : (l : List R) → is_some (resolve (λ r. shown (kind r) (row_of r)) (last_of speaks l) none) ≡ standing (sent kind (last_of speaks l))
-  stands-sent l = go (last_of speaks l) refl
+  stands_sent : (l : List R) → is_some (resolve (λ r. shown (kind r) (row_of r)) (last_of speaks l) none) ≡ standing (sent kind (last_of speaks l))
+  stands_sent l = go (last_of speaks l) refl
     where
       go : (o : Option R) → last_of speaks l ≡ o → is_some (resolve (λ r. shown (kind r) (row_of r)) o none) ≡ standing (sent kind o)
       go none e = refl
-      go (some r) e = stands-shown (kind r) (row_of r) (carries r (last-passes speaks l r e))
+      go (some r) e = stands_shown (kind r) (row_of r) (carries r (last_passes speaks l r e))
 
 module _ {F E R : Type 0} (f : Flow F E R) (checks : R → List (Check (State F E))) where
   named : (r : R) (k : ℕ) → of_event f k r ≡ true → is_cancel (f.kind r) ≡ false → has k (f.event_rows r) ≡ true
   named r k e c = sym (or-false (has k (f.event_rows r))) ∙ (simp c at e)
 
   module _ (l : List R) (h : AllTaken (machine f checks) empty l) (k : ℕ) where
-    pub case-sent : has k (run (machine f checks) empty l).cases ≡ standing (case_sent f k l)
-    case-sent =
+    pub case_sent_lem : has k (run (machine f checks) empty l).cases ≡ standing (case_sent f k l)
+    case_sent_lem =
         let e : find k (run (machine f checks) empty l).cases ≡ resolve (case_shown f k) (last_of (of_case f k) l) none
-        = run_look (machine f checks) (λ s. find k s.cases) (of_case f k) (case_shown f k) (case-law f checks k) empty l ∙
-        simp (← find-nil {F = F} k, all_same (machine f checks) empty l h) in
-        ap is_some e ∙ stands-sent f.kind (λ r. find k (f.case_rows r)) (of_case f k) (λ r p c. p) l
+        = run_look (machine f checks) (λ s. find k s.cases) (of_case f k) (case_shown f k) (case_law f checks k) empty l ∙
+        simp (← find_nil {F = F} k, all_same (machine f checks) empty l h) in
+        ap is_some e ∙ stands_sent f.kind (λ r. find k (f.case_rows r)) (of_case f k) (λ r p c. p) l
 
-    pub event-sent : has k (run (machine f checks) empty l).events ≡ standing (event_sent f k l)
-    event-sent =
+    pub event_sent_lem : has k (run (machine f checks) empty l).events ≡ standing (event_sent f k l)
+    event_sent_lem =
         let e : find k (run (machine f checks) empty l).events ≡ resolve (event_shown f k) (last_of (of_event f k) l) none
-        = run_look (machine f checks) (λ s. find k s.events) (of_event f k) (event_shown f k) (event-law f checks k) empty l ∙
-        simp (← find-nil {F = E} k, all_same (machine f checks) empty l h) in
-        ap is_some e ∙ stands-sent f.kind (λ r. find k (f.event_rows r)) (of_event f k) (λ r p c. named r k p c) l
+        = run_look (machine f checks) (λ s. find k s.events) (of_event f k) (event_shown f k) (event_law f checks k) empty l ∙
+        simp (← find_nil {F = E} k, all_same (machine f checks) empty l h) in
+        ap is_some e ∙ stands_sent f.kind (λ r. find k (f.event_rows r)) (of_event f k) (λ r p c. named r k p c) l
 
   -- no accepted record is one that the table refuses
-  pub by-table : Lawful f checks → (l a : List R) (r : R) (b : List R) → AllTaken (machine f checks) empty l → l ≡ a ++ r ∷ b → Refused f r a → ⊥
+  pub by_table : Lawful f checks → (l a : List R) (r : R) (b : List R) → AllTaken (machine f checks) empty l → l ≡ a ++ r ∷ b → Refused f r a → ⊥
   unfolding machine
-  by-table w l a r b h e d =
+  by_table w l a r b h e d =
       let g : AllTaken (machine f checks) empty (a ++ r ∷ b) = rw e at h in
-      let j = all-at (machine f checks) empty a r b g in
-      let fa = all-front (machine f checks) empty a (r ∷ b) g in
+      let j = all_at (machine f checks) empty a r b g in
+      let fa = all_front (machine f checks) empty a (r ∷ b) g in
       let s : State F E = run (machine f checks) empty a in
-      let t : t14 f r s || t15 f r s ≡ true = (refusals f s a (case-sent a fa) (event-sent a fa) r).1 d in
+      let t : t14 f r s || t15 f r s ≡ true = (refusals f s a (case_sent_lem a fa) (event_sent_lem a fa) r).1 d in
       or_cases (t14 f r s) (t15 f r s)
       (λ p. true≢false (sym p ∙ w.not14 s r j))
       (λ p. true≢false (sym p ∙ w.not15 s r j))
@@ -199,19 +199,19 @@ module _ {F E R X : Type 0} (f : Flow F E R) (checks : R → List (Check (State 
   abbrev m : Machine (State F E) R
   m = machine f checks
 
-  case-stands : (xs : List X) (k : ℕ) → has k (after f m entries xs).cases ≡ standing (case_sent f k (log f m entries xs))
-  case-stands xs k = rw (← log-run m entries empty xs) (case-sent f checks (log f m entries xs) (taken_all-all m entries empty xs) k)
+  case_stands : (xs : List X) (k : ℕ) → has k (after f m entries xs).cases ≡ standing (case_sent f k (log f m entries xs))
+  case_stands xs k = rw (← log_run m entries empty xs) (case_sent_lem f checks (log f m entries xs) (taken_all_all m entries empty xs) k)
 
-  event-stands : (xs : List X) (k : ℕ) → has k (after f m entries xs).events ≡ standing (event_sent f k (log f m entries xs))
-  event-stands xs k = rw (← log-run m entries empty xs) (event-sent f checks (log f m entries xs) (taken_all-all m entries empty xs) k)
+  event_stands : (xs : List X) (k : ℕ) → has k (after f m entries xs).events ≡ standing (event_sent f k (log f m entries xs))
+  event_stands xs k = rw (← log_run m entries empty xs) (event_sent_lem f checks (log f m entries xs) (taken_all_all m entries empty xs) k)
 
   pub sequences : Sequences f m entries
   sequences =
       record {
-        case-stands = case-stands;
-        event-stands = event-stands;
-        refusals = λ xs r. refusals f (after f m entries xs) (log f m entries xs) (case-stands xs) (event-stands xs) r;
-        are14 = λ xs r. are14 f (after f m entries xs) (log f m entries xs) (case-stands xs) (event-stands xs) r;
-        are15 = λ xs r. are15 f (after f m entries xs) (log f m entries xs) (case-stands xs) (event-stands xs) r;
-        by-table = λ xs a r b e d. by-table f checks w (log f m entries xs) a r b (taken_all-all m entries empty xs) e d;
+        case_stands = case_stands;
+        event_stands = event_stands;
+        refusals = λ xs r. refusals f (after f m entries xs) (log f m entries xs) (case_stands xs) (event_stands xs) r;
+        are14 = λ xs r. are14 f (after f m entries xs) (log f m entries xs) (case_stands xs) (event_stands xs) r;
+        are15 = λ xs r. are15 f (after f m entries xs) (log f m entries xs) (case_stands xs) (event_stands xs) r;
+        by_table = λ xs a r b e d. by_table f checks w (log f m entries xs) a r b (taken_all_all m entries empty xs) e d;
       }

@@ -15,7 +15,7 @@ use Rattle.model.specs.Anomalies.{t14, t15}
 pub record Counted (ns : List ℕ) (records accepted discarded : ℕ) : Type 0 where
   pub as_many : length ns ≡ records
   pub together : accepted + discarded ≡ records
-  pub zeros-are : accepted ≡ zeros ns
+  pub zeros_are : accepted ≡ zeros ns
 
 -- Demand 2
 pub record Demand2 {S R : Type 0} (checks : R → List (Check S)) (m : Machine S R) : Type 0 where
@@ -56,13 +56,13 @@ module _ {F E R X : Type 0} (f : Flow F E R) (m : Machine (State F E) R) (entrie
   pub record Demand3 {B : Type 0} (encode : State F E → B) : Type 0 where
     -- K6: a case or an event stands exactly when "the last accepted record with its key inserts or varies it and, of an event, no accepted cancellation of its
     -- case came later; it shows that record's fields"
-    pub case-stands : (xs : List X) (k : ℕ) (v : F) →
+    pub case_stands : (xs : List X) (k : ℕ) (v : F) →
         find k (after xs).cases ≡ some v ↔ Shown f.kind (λ r. find k (f.case_rows r)) (of_case f k) (log xs) v
-    pub event-stands : (xs : List X) (k : ℕ) (v : E) → find k (after xs).events ≡ some v ↔ EventStands f k (log xs) v
+    pub event_stands : (xs : List X) (k : ℕ) (v : E) → find k (after xs).events ≡ some v ↔ EventStands f k (log xs) v
     -- in ascending order, each key once
     pub ascending : (xs : List X) → Good (after xs)
-    pub cases-once : (xs : List X) → Once (after xs).cases
-    pub events-once : (xs : List X) → Once (after xs).events
+    pub cases_once : (xs : List X) → Once (after xs).cases
+    pub events_once : (xs : List X) → Once (after xs).events
     -- the same things standing, the same bytes
     pub same_bytes : (xs ys : List X) →
         ((k : ℕ) → find k (after xs).cases ≡ find k (after ys).cases) →
@@ -76,19 +76,19 @@ module _ {F E R X : Type 0} (f : Flow F E R) (m : Machine (State F E) R) (entrie
   -- FAR 6.3, section 4.3, and J7, over any history
   pub record Sequences : Type 0 where
     -- a key stands exactly when it was sent and not annulled since
-    pub case-stands : (xs : List X) (k : ℕ) → has k (after xs).cases ≡ standing (case_sent f k (log xs))
-    pub event-stands : (xs : List X) (k : ℕ) → has k (after xs).events ≡ standing (event_sent f k (log xs))
+    pub case_stands : (xs : List X) (k : ℕ) → has k (after xs).cases ≡ standing (case_sent f k (log xs))
+    pub event_stands : (xs : List X) (k : ℕ) → has k (after xs).events ≡ standing (event_sent f k (log xs))
     -- 14 and 15 are exactly the table's refusals: 14 of an insertion, 15 of any other
     pub refusals : (xs : List X) (r : R) → t14 f r (after xs) || t15 f r (after xs) ≡ true ↔ Refused f r (log xs)
     pub are14 : (xs : List X) (r : R) → t14 f r (after xs) ≡ true ↔ (is_insert (f.kind r) ≡ true) × Refused f r (log xs)
     pub are15 : (xs : List X) (r : R) → t15 f r (after xs) ≡ true ↔ (is_insert (f.kind r) ≡ false) × Refused f r (log xs)
     -- no accepted record is one that the table refuses after the accepted ones before it
-    pub by-table : (xs : List X) (a : List R) (r : R) (b : List R) → log xs ≡ a ++ r ∷ b → Refused f r a → ⊥
+    pub by_table : (xs : List X) (a : List R) (r : R) (b : List R) → log xs ≡ a ++ r ∷ b → Refused f r a → ⊥
 
 -- a file of one track: none of its records has events' rows, or none has cases' rows
 pub data OneTrack {F E R : Type 0} (f : Flow F E R) (rs : List R) : Type 0 where
-  cases-only : all (λ r. eqb (length (f.event_rows r)) 0) rs ≡ true → OneTrack f rs
-  events-only : all (λ r. eqb (length (f.case_rows r)) 0) rs ≡ true → OneTrack f rs
+  cases_only : all (λ r. eqb (length (f.event_rows r)) 0) rs ≡ true → OneTrack f rs
+  events_only : all (λ r. eqb (length (f.case_rows r)) 0) rs ≡ true → OneTrack f rs
 
 -- K1 and K2, of each file: "cases after = cases before + accepted insertions of Track 1 - its accepted cancellations", events likewise
 pub record Conserved {F E R : Type 0} (f : Flow F E R) (m : Machine (State F E) R) (s : State F E) (rs : List R) : Type 0 where

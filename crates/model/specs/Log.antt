@@ -94,7 +94,7 @@ module _ {F E R : Type 0} (f : Flow F E R) where
   -- K6: "the last accepted record with its key inserts or varies it and, of an event, no accepted cancellation of its case came later"
   pub record EventStands (k : ℕ) (log : List R) (v : E) : Type 0 where
     pub shown : Shown f.kind (λ r. find k (f.event_rows r)) (λ r. has k (f.event_rows r)) log v
-    pub none-later : any (carries_away k) shown.is_last.after ≡ false
+    pub none_later : any (carries_away k) shown.is_last.after ≡ false
 
   -- what it then shows
   abbrev pub case_shown : ℕ → R → Option F

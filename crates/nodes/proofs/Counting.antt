@@ -17,8 +17,8 @@ use Rattle.schema.specs.Schema.{Particle, Node, leaf, group, another, Nodes, non
 use Rattle.schema.specs.Shape.{Seek, nowhere, here, may_come, seek, named_in}
 use Rattle.schema.specs.CountedElements.{marked, child_count, count_in, count_of}
 use Rattle.nodes.specs.Lookup.{first_named, child_of}
-use Rattle.nodes.proofs.Taken.{Meets, may-come, Walked, ended, told, noted, born}
-use Rattle.nodes.proofs.Present.{node_of, only, owed, Among, front, later, only-among, group-walked, child-there, child-most}
+use Rattle.nodes.proofs.Taken.{Meets, may_come_lem, Walked, ended, told, noted, born}
+use Rattle.nodes.proofs.Present.{node_of, only, owed, Among, front, later, only_among, group_walked, child_there, child_most}
 
 -- what holds of nodes and of those left after each holds of those from a child's own node on
 module _ (x : List ℕ) (q : Nodes → Type 0) (less : (n : Node) (ns : Nodes) → q (n ▸ ns) → q ns) where
@@ -32,16 +32,16 @@ module _ (x : List ℕ) (q : Nodes → Type 0) (less : (n : Node) (ns : Nodes) �
       go true a b i f =
           let u : n ≡ m = cc in
           let v : ns ≡ ms = cc in
-          (rw u at (may-come x n k a).0, rw (u, v) at h)
+          (rw u at (may_come_lem x n k a).0, rw (u, v) at h)
       go false a true i f = never cc
       go false a false i f = i f
 
 -- a child's count and that of what follows
-child-count : (y : ℕ) (x : List ℕ) (ps : List Pair) (j : Inside) (after : Nodes → ℕ → ℕ) (m : Node) (ms : Nodes) (c : ℕ)
+child_count_lem : (y : ℕ) (x : List ℕ) (ps : List Pair) (j : Inside) (after : Nodes → ℕ → ℕ) (m : Node) (ms : Nodes) (c : ℕ)
     → child_count (λ os. count_in os 0 j) after (here m ms c) ≡ marked (particle_of m) + count_of m (mk y x ps j) + after (m ▸ ms) (suc c)
-child-count y x ps j after (leaf h t) ms c = omega arith
-child-count y x ps j after (group h os) ms c = refl
-child-count y x ps j after (another h) ms c = omega arith
+child_count_lem y x ps j after (leaf h t) ms c = omega arith
+child_count_lem y x ps j after (group h os) ms c = refl
+child_count_lem y x ps j after (another h) ms c = omega arith
 
 -- ---- no node is marked
 
@@ -62,19 +62,19 @@ hollow (leaf h t) = true
 hollow (group h ns) = unmarked ns
 hollow (another h) = true
 
-not-marked : (b : Bool) → not b ≡ true → ◌≡◌ {A = ℕ} (cond b 1 0) 0
-not-marked true e = absurd (false≢true e)
-not-marked false e = refl
+not_marked : (b : Bool) → not b ≡ true → ◌≡◌ {A = ℕ} (cond b 1 0) 0
+not_marked true e = absurd (false≢true e)
+not_marked false e = refl
 
-blank-both : (n : Node) → blank n ≡ true → (marked (particle_of n) ≡ 0) × (hollow n ≡ true)
+blank_both : (n : Node) → blank n ≡ true → (marked (particle_of n) ≡ 0) × (hollow n ≡ true)
 unfolding blank
-blank-both (leaf h t) e = (not-marked h.counted e, refl)
-blank-both (group h ns) e = (not-marked h.counted (and_left (not h.counted) (unmarked ns) e), and_right (not h.counted) (unmarked ns) e)
-blank-both (another h) e = (not-marked h.counted e, refl)
+blank_both (leaf h t) e = (not_marked h.counted e, refl)
+blank_both (group h ns) e = (not_marked h.counted (and_left (not h.counted) (unmarked ns) e), and_right (not h.counted) (unmarked ns) e)
+blank_both (another h) e = (not_marked h.counted e, refl)
 
-unmarked-less : (n : Node) (ns : Nodes) → unmarked (n ▸ ns) ≡ true → unmarked ns ≡ true
+unmarked_less : (n : Node) (ns : Nodes) → unmarked (n ▸ ns) ≡ true → unmarked ns ≡ true
 unfolding unmarked
-unmarked-less n ns e = and_right (blank n) (unmarked ns) e
+unmarked_less n ns e = and_right (blank n) (unmarked ns) e
 
 -- WHERE NO NODE IS MARKED nothing is counted
 pub count_none : (ns : Nodes) (k : ℕ) (i : Inside) → unmarked ns ≡ true → count_in ns k i ≡ 0
@@ -84,25 +84,25 @@ count_none ns k (says t i) e = count_none ns k i e
 count_none ns k (note i) e = count_none ns k i e
 count_none ns k (elem y n ps j i) e = go (seek n ns k) refl (λ os f. count_none os 0 j f) (λ os c f. count_none os c i f)
   where
-    in-it : (m : Node) → hollow m ≡ true → ((os : Nodes) → unmarked os ≡ true → count_in os 0 j ≡ 0) → count_of m (mk y n ps j) ≡ 0
-    in-it (leaf h t) f w = refl
-    in-it (group h os) f w = w os f
-    in-it (another h) f w = refl
+    in_it : (m : Node) → hollow m ≡ true → ((os : Nodes) → unmarked os ≡ true → count_in os 0 j ≡ 0) → count_of m (mk y n ps j) ≡ 0
+    in_it (leaf h t) f w = refl
+    in_it (group h os) f w = w os f
+    in_it (another h) f w = refl
 
     go : (s : Seek) → seek n ns k ≡ s → ((os : Nodes) → unmarked os ≡ true → count_in os 0 j ≡ 0) → ((os : Nodes) (c : ℕ) → unmarked os ≡ true → count_in os c i ≡ 0)
         → child_count (λ os. count_in os 0 j) (λ os c. count_in os c i) s ≡ 0
     go nowhere s w r = refl
     go (here m ms c) s w r =
-        let f = (found_at n (λ os. unmarked os ≡ true) unmarked-less ns k m ms c s e).1 in
-        let b = blank-both m (and_left (blank m) (unmarked ms) f) in
-        let u = in-it m b.1 w in
+        let f = (found_at n (λ os. unmarked os ≡ true) unmarked_less ns k m ms c s e).1 in
+        let b = blank_both m (and_left (blank m) (unmarked ms) f) in
+        let u = in_it m b.1 w in
         let v = r (m ▸ ms) (suc c) f in
-        child-count y n ps j (λ os c. count_in os c i) m ms c ∙ omega arith
+        child_count_lem y n ps j (λ os c. count_in os c i) m ms c ∙ omega arith
 
-pub hollow-none : (n : Node) (t : Tree) → hollow n ≡ true → count_of n t ≡ 0
-hollow-none (leaf h x) t e = refl
-hollow-none (group h ns) t e = count_none ns 0 t.inside e
-hollow-none (another h) t e = refl
+pub hollow_none : (n : Node) (t : Tree) → hollow n ≡ true → count_of n t ≡ 0
+hollow_none (leaf h x) t e = refl
+hollow_none (group h ns) t e = count_none ns 0 t.inside e
+hollow_none (another h) t e = refl
 
 -- ---- a group without a fault
 
@@ -115,16 +115,16 @@ abbrev Adds : (Tree → ℕ) → Nodes → Type 0
 Adds f ns = (n : Node) → Among n ns → (c : Tree) → c.named ≡ (particle_of n).named → marked (particle_of n) + count_of n c ≡ f c
 
 -- THE COUNT OF A GROUP WITHOUT A FAULT is the sum over its children
-count-sum : (p : Tree → Type 0) (f : Tree → ℕ) {ns : Nodes} {k : ℕ} {i : Inside} → Walked p ns k i → Adds f ns → count_in ns k i ≡ sum_over f (kids i)
+count_sum : (p : Tree → Type 0) (f : Tree → ℕ) {ns : Nodes} {k : ℕ} {i : Inside} → Walked p ns k i → Adds f ns → count_in ns k i ≡ sum_over f (kids i)
 unfolding count_in sum_over
-count-sum p f (ended e) a = refl
-count-sum p f (told r) a = count-sum p f r a
-count-sum p f (noted r) a = count-sum p f r a
-count-sum p f (born {ns = ns} {k = k} {y = y} {n = n} {ps = ps} {j = j} {i = i} {m = m} {ms = ms} {c = c} s h r) a =
+count_sum p f (ended e) a = refl
+count_sum p f (told r) a = count_sum p f r a
+count_sum p f (noted r) a = count_sum p f r a
+count_sum p f (born {ns = ns} {k = k} {y = y} {n = n} {ps = ps} {j = j} {i = i} {m = m} {ms = ms} {c = c} s h r) a =
     let w = found_at n (Adds f) (λ o os g b u. g b (later u)) ns k m ms c s a in
     let u = w.1 m front (mk y n ps j) w.0 in
-    let v = count-sum p f r w.1 in
-    rw s (child-count y n ps j (λ os c. count_in os c i) m ms c ∙ omega arith)
+    let v = count_sum p f r w.1 in
+    rw s (child_count_lem y n ps j (λ os c. count_in os c i) m ms c ∙ omega arith)
 
 -- a test of each node
 unfoldable pub each_node : (Node → Bool) → Nodes → Bool
@@ -145,10 +145,10 @@ abbrev pub marks_in : List ℕ → Node → Bool
 marks_in x n = not (particle_of n).counted && (same x (particle_of n).named || hollow n)
 
 module _ (x : List ℕ) (f : Tree → ℕ) where
-  sum-none : (cs : List Tree) → length (named_in x cs) ≤ 0 → sum_over (λ c. cond (same x c.named) (f c) 0) cs ≡ 0
+  sum_none : (cs : List Tree) → length (named_in x cs) ≤ 0 → sum_over (λ c. cond (same x c.named) (f c) 0) cs ≡ 0
   unfolding named_in sum_over
-  sum-none [] l = refl
-  sum-none (c ∷ cs) l = go (same x c.named) (sum-none cs) l
+  sum_none [] l = refl
+  sum_none (c ∷ cs) l = go (same x c.named) (sum_none cs) l
     where
       go : (b : Bool) → (length (named_in x cs) ≤ 0 → sum_over (λ c. cond (same x c.named) (f c) 0) cs ≡ 0) → length (cond b (c ∷ named_in x cs) (named_in x cs)) ≤ 0
           → cond b (f c) 0 + sum_over (λ c. cond (same x c.named) (f c) 0) cs ≡ 0
@@ -165,28 +165,28 @@ module _ (x : List ℕ) (f : Tree → ℕ) where
           → (any (λ c. same x c.named) cs ≡ true → length (named_in x cs) ≤ 1 → sum_over (λ c. cond (same x c.named) (f c) 0) cs ≡ f (first_named x cs))
           → b || any (λ c. same x c.named) cs ≡ true → length (cond b (c ∷ named_in x cs) (named_in x cs)) ≤ 1
           → cond b (f c) 0 + sum_over (λ c. cond (same x c.named) (f c) 0) cs ≡ f (cond b c (first_named x cs))
-      go true i e l = let u = sum-none cs (omega arith) in omega arith
+      go true i e l = let u = sum_none cs (omega arith) in omega arith
       go false i e l = let u = i e l in omega arith
 
 module _ (p : Tree → Type 0) (far : (c : Tree) → p c → 0 < c.from) {h : Particle} {ns : Nodes} {t : Tree} (m : Meets p (group h ns) t) where
   -- as many as there are children of the names
-  pub count-named : (b : List ℕ → Bool) → each_node (marks_named b) ns ≡ true → count_in ns 0 t.inside ≡ sum_over (λ c. cond (b c.named) 1 0) (kids t.inside)
-  count-named b e = count-sum p (λ c. cond (b c.named) 1 0) (group-walked p far m) adds
+  pub count_named : (b : List ℕ → Bool) → each_node (marks_named b) ns ≡ true → count_in ns 0 t.inside ≡ sum_over (λ c. cond (b c.named) 1 0) (kids t.inside)
+  count_named b e = count_sum p (λ c. cond (b c.named) 1 0) (group_walked p far m) adds
     where
       adds : Adds (λ c. cond (b c.named) 1 0) ns
       adds n a c u =
           let w = each_at (marks_named b) a e in
           let k = eqb-true (marked (particle_of n)) (cond (b (particle_of n).named) 1 0) (and_left (eqb (marked (particle_of n)) (cond (b (particle_of n).named) 1 0)) (hollow n) w) in
-          let z = hollow-none n c (and_right (eqb (marked (particle_of n)) (cond (b (particle_of n).named) 1 0)) (hollow n) w) in
+          let z = hollow_none n c (and_right (eqb (marked (particle_of n)) (cond (b (particle_of n).named) 1 0)) (hollow n) w) in
           let v : ◌≡◌ {A = ℕ} (cond (b c.named) 1 0) (cond (b (particle_of n).named) 1 0) = rw u in
           omega arith
 
   -- all that is counted stands in one child, which must come, once
-  pub count-child : (x : List ℕ) (n : Node) → node_of x ns ≡ only n → owed x ns 0 ≡ true → (particle_of n).most ≡ 1 → each_node (marks_in x) ns ≡ true
+  pub count_child : (x : List ℕ) (n : Node) → node_of x ns ≡ only n → owed x ns 0 ≡ true → (particle_of n).most ≡ 1 → each_node (marks_in x) ns ≡ true
       → count_in ns 0 t.inside ≡ count_of n (child_of x t)
-  count-child x n e o l k =
-      count-sum p (λ c. cond (same x c.named) (count_of n c) 0) (group-walked p far m) adds
-      ∙ sum_one x (count_of n) (kids t.inside) (child-there p far m x o) (let w = child-most p far m x n e (omega arith) in omega arith)
+  count_child x n e o l k =
+      count_sum p (λ c. cond (same x c.named) (count_of n c) 0) (group_walked p far m) adds
+      ∙ sum_one x (count_of n) (kids t.inside) (child_there p far m x o) (let w = child_most p far m x n e (omega arith) in omega arith)
     where
       adds : Adds (λ c. cond (same x c.named) (count_of n c) 0) ns
       adds o a c u = go (same x (particle_of o).named) refl (and_right (not (particle_of o).counted) (same x (particle_of o).named || hollow o) w)
@@ -195,14 +195,14 @@ module _ (p : Tree → Type 0) (far : (c : Tree) → p c → 0 < c.from) {h : Pa
           w = each_at (marks_in x) a k
 
           z : marked (particle_of o) ≡ 0
-          z = not-marked (particle_of o).counted (and_left (not (particle_of o).counted) (same x (particle_of o).named || hollow o) w)
+          z = not_marked (particle_of o).counted (and_left (not (particle_of o).counted) (same x (particle_of o).named || hollow o) w)
 
           go : (b : Bool) → same x (particle_of o).named ≡ b → b || hollow o ≡ true → marked (particle_of o) + count_of o c ≡ cond (same x c.named) (count_of n c) 0
           go true v f =
-              let q : count_of o c ≡ count_of n c = ap (λ (y : Node). count_of y c) (only-among x e a v) in
+              let q : count_of o c ≡ count_of n c = ap (λ (y : Node). count_of y c) (only_among x e a v) in
               let s : cond (same x c.named) (count_of n c) 0 ≡ count_of n c = rw (u, v) in
               omega (arith, z)
           go false v f =
-              let q = hollow-none o c f in
+              let q = hollow_none o c f in
               let s : cond (same x c.named) (count_of n c) 0 ≡ 0 = rw (u, v) in
               omega (arith, z)

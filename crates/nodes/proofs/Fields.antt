@@ -13,27 +13,27 @@ use Rattle.schema.specs.Texts.{Texts, fits_text}
 use Rattle.schema.specs.Schema.{Attr, Particle, leaf}
 use Rattle.schema.specs.Shape.{is_named, attr_fits, attrs_fit, leaf_fits, begins}
 use Rattle.nodes.specs.Lookup.{value_in, attr_of, has_attr, said, text_of}
-use Rattle.nodes.proofs.Taken.{Meets, cond-none}
+use Rattle.nodes.proofs.Taken.{Meets, cond_none}
 
-leaf-fits : (x : Texts) (i : Inside) → leaf_fits x i ≡ true → fits_text x (said i) ≡ true
-leaf-fits x end e = e
-leaf-fits x (says t end) e = e
-leaf-fits x (says t (says u k)) e = absurd (false≢true e)
-leaf-fits x (says t (note k)) e = absurd (false≢true e)
-leaf-fits x (says t (elem z n ps i k)) e = absurd (false≢true e)
-leaf-fits x (note k) e = absurd (false≢true e)
-leaf-fits x (elem z n ps i k) e = absurd (false≢true e)
+leaf_fits_lem : (x : Texts) (i : Inside) → leaf_fits x i ≡ true → fits_text x (said i) ≡ true
+leaf_fits_lem x end e = e
+leaf_fits_lem x (says t end) e = e
+leaf_fits_lem x (says t (says u k)) e = absurd (false≢true e)
+leaf_fits_lem x (says t (note k)) e = absurd (false≢true e)
+leaf_fits_lem x (says t (elem z n ps i k)) e = absurd (false≢true e)
+leaf_fits_lem x (note k) e = absurd (false≢true e)
+leaf_fits_lem x (elem z n ps i k) e = absurd (false≢true e)
 
 module _ (p : Tree → Type 0) (far : (c : Tree) → p c → 0 < c.from) {h : Particle} {x : Texts} {t : Tree} (m : Meets p (leaf h x) t) where
-  leaf-both : attrs_fit [] h.attrs t.pairs && leaf_fits x t.inside ≡ true
-  leaf-both = (cond-none (attrs_fit [] h.attrs t.pairs && leaf_fits x t.inside) 0 t.from (far t m.known.0) m.clean).0
+  leaf_both : attrs_fit [] h.attrs t.pairs && leaf_fits x t.inside ≡ true
+  leaf_both = (cond_none (attrs_fit [] h.attrs t.pairs && leaf_fits x t.inside) 0 t.from (far t m.known.0) m.clean).0
 
   -- a leaf's text is of its texts
-  pub leaf-text : fits_text x (text_of t) ≡ true
-  leaf-text = leaf-fits x t.inside (and_right (attrs_fit [] h.attrs t.pairs) (leaf_fits x t.inside) leaf-both)
+  pub leaf_text : fits_text x (text_of t) ≡ true
+  leaf_text = leaf_fits_lem x t.inside (and_right (attrs_fit [] h.attrs t.pairs) (leaf_fits x t.inside) leaf_both)
 
-  pub leaf-attrs : attrs_fit [] h.attrs t.pairs ≡ true
-  leaf-attrs = and_left (attrs_fit [] h.attrs t.pairs) (leaf_fits x t.inside) leaf-both
+  pub leaf_attrs : attrs_fit [] h.attrs t.pairs ≡ true
+  leaf_attrs = and_left (attrs_fit [] h.attrs t.pairs) (leaf_fits x t.inside) leaf_both
 
 -- ---- attributes
 
@@ -46,22 +46,22 @@ unfoldable pub attr_named : List ℕ → List Attr → Given
 attr_named x [] = ungiven
 attr_named x (a ∷ as') = cond (same x a.named) (given a) (attr_named x as')
 
-attr-fits : (x : List ℕ) (ps : List Pair) (a : Attr) (attrs : List Attr) → attr_named x attrs ≡ given a → all (attr_fits ps) attrs ≡ true → attr_fits ps a ≡ true
+attr_fits_lem : (x : List ℕ) (ps : List Pair) (a : Attr) (attrs : List Attr) → attr_named x attrs ≡ given a → all (attr_fits ps) attrs ≡ true → attr_fits ps a ≡ true
 unfolding attr_named all
-attr-fits x ps a [] e h = never cc
-attr-fits x ps a (b ∷ attrs) e h = go (same x b.named) (λ q. attr-fits x ps a attrs q (and_right (attr_fits ps b) (all (attr_fits ps) attrs) h)) e
+attr_fits_lem x ps a [] e h = never cc
+attr_fits_lem x ps a (b ∷ attrs) e h = go (same x b.named) (λ q. attr_fits_lem x ps a attrs q (and_right (attr_fits ps b) (all (attr_fits ps) attrs) h)) e
   where
     go : (t : Bool) → (attr_named x attrs ≡ given a → attr_fits ps a ≡ true) → cond t (given b) (attr_named x attrs) ≡ given a → attr_fits ps a ≡ true
     go true i q = let w : b ≡ a = cc in rw w at (and_left (attr_fits ps b) (all (attr_fits ps) attrs) h)
     go false i q = i q
 
 -- a value that is there is of its texts
-value-fits : (n : List ℕ) (x : Texts) (ps : List Pair) → any (is_named n) ps ≡ true → all (λ p. not (is_named n p) || fits_text x p.val) ps ≡ true
+value_fits : (n : List ℕ) (x : Texts) (ps : List Pair) → any (is_named n) ps ≡ true → all (λ p. not (is_named n p) || fits_text x p.val) ps ≡ true
     → fits_text x (value_in n ps) ≡ true
 unfolding any all value_in
-value-fits n x [] e h = absurd (false≢true e)
-value-fits n x (q ∷ ps) e h =
-    go (is_named n q) (λ f. value-fits n x ps f (and_right (not (is_named n q) || fits_text x q.val) (all (λ p. not (is_named n p) || fits_text x p.val) ps) h))
+value_fits n x [] e h = absurd (false≢true e)
+value_fits n x (q ∷ ps) e h =
+    go (is_named n q) (λ f. value_fits n x ps f (and_right (not (is_named n q) || fits_text x q.val) (all (λ p. not (is_named n p) || fits_text x p.val) ps) h))
     (and_left (not (is_named n q) || fits_text x q.val) (all (λ p. not (is_named n p) || fits_text x p.val) ps) h) e
   where
     go : (b : Bool) → (any (is_named n) ps ≡ true → fits_text x (value_in n ps) ≡ true) → not b || fits_text x q.val ≡ true → b || any (is_named n) ps ≡ true
@@ -69,10 +69,10 @@ value-fits n x (q ∷ ps) e h =
     go true i f e = f
     go false i f e = i e
 
-pub value-missing : (n : List ℕ) (ps : List Pair) → any (is_named n) ps ≡ false → value_in n ps ≡ []
+pub value_missing : (n : List ℕ) (ps : List Pair) → any (is_named n) ps ≡ false → value_in n ps ≡ []
 unfolding any value_in
-value-missing n [] e = refl
-value-missing n (q ∷ ps) e = rw (or_left (is_named n q) (any (is_named n) ps) e) (value-missing n ps (or_right (is_named n q) (any (is_named n) ps) e))
+value_missing n [] e = refl
+value_missing n (q ∷ ps) e = rw (or_left (is_named n q) (any (is_named n) ps) e) (value_missing n ps (or_right (is_named n q) (any (is_named n) ps) e))
 
 -- an attribute that may be missing
 pub data AttrMayLack (a : Attr) (t : Tree) : Type 0 where
@@ -82,7 +82,7 @@ pub data AttrMayLack (a : Attr) (t : Tree) : Type 0 where
 module _ (attrs : List Attr) (t : Tree) (f : attrs_fit [] attrs t.pairs ≡ true) (x : List ℕ) (a : Attr) (e : attr_named x attrs ≡ given a) where
   both : attr_fits t.pairs a ≡ true
   both =
-      attr-fits x t.pairs a attrs e
+      attr_fits_lem x t.pairs a attrs e
       (and_left (all (attr_fits t.pairs) attrs)
       (all (λ p. any (λ a. is_named a.named p) attrs || any (λ f. begins f p.key) []) t.pairs) f)
 
@@ -90,15 +90,15 @@ module _ (attrs : List Attr) (t : Tree) (f : attrs_fit [] attrs t.pairs ≡ true
   values = and_right (not a.required || any (is_named a.named) t.pairs) (all (λ p. not (is_named a.named p) || fits_text a.texts p.val) t.pairs) both
 
   -- a required attribute is there, and of its texts
-  pub attr-one : a.required ≡ true → fits_text a.texts (attr_of a.named t) ≡ true
-  attr-one r =
+  pub attr_one : a.required ≡ true → fits_text a.texts (attr_of a.named t) ≡ true
+  attr_one r =
       let q = and_left (not a.required || any (is_named a.named) t.pairs) (all (λ p. not (is_named a.named p) || fits_text a.texts p.val) t.pairs) both in
-      value-fits a.named a.texts t.pairs (rw r at q) values
+      value_fits a.named a.texts t.pairs (rw r at q) values
 
   -- any other is missing, or of its texts
-  pub attr-maybe : AttrMayLack a t
-  attr-maybe = go (has_attr a.named t) refl
+  pub attr_maybe : AttrMayLack a t
+  attr_maybe = go (has_attr a.named t) refl
     where
       go : (b : Bool) → has_attr a.named t ≡ b → AttrMayLack a t
-      go true u = has u (value-fits a.named a.texts t.pairs u values)
-      go false u = lacks u (value-missing a.named t.pairs u)
+      go true u = has u (value_fits a.named a.texts t.pairs u values)
+      go false u = lacks u (value_missing a.named t.pairs u)

@@ -9,12 +9,12 @@ use Rattle.laws.specs.Lists.{same}
 use Rattle.laws.proofs.Truth.{and_left, and_right}
 
 -- texts that are the same
-pub same-is : (a b : List ℕ) → same a b ≡ true → a ≡ b
+pub same_is : (a b : List ℕ) → same a b ≡ true → a ≡ b
 unfolding same
-same-is [] [] e = refl
-same-is [] (y ∷ b) e = absurd (false≢true e)
-same-is (x ∷ a) [] e = absurd (false≢true e)
-same-is (x ∷ a) (y ∷ b) e = rw (eqb-true x y (and_left (eqb x y) (same a b) e), same-is a b (and_right (eqb x y) (same a b) e))
+same_is [] [] e = refl
+same_is [] (y ∷ b) e = absurd (false≢true e)
+same_is (x ∷ a) [] e = absurd (false≢true e)
+same_is (x ∷ a) (y ∷ b) e = rw (eqb-true x y (and_left (eqb x y) (same a b) e), same_is a b (and_right (eqb x y) (same a b) e))
 
 pub same_self : (a : List ℕ) → same a a ≡ true
 unfolding same

@@ -11,7 +11,7 @@ use Rattle.markup.specs.Tags.{Pair, Attributes, ending, before, attributes_step,
 use Rattle.markup.specs.View.{part, pair}
 use Rattle.reading.proofs.Cut.{never}
 use Rattle.laws.proofs.Fuel.{loop-next, loop-stop}
-use Rattle.reading.proofs.Tags.{attributes-less}
+use Rattle.reading.proofs.Tags.{attributes_less}
 use Rattle.nodes.specs.Lookup.{value_in}
 use Rattle.nodes.specs.Stands.{Valued}
 use Rattle.nodes.specs.declared.Value.{Value}
@@ -22,33 +22,33 @@ abbrev pub OfPairs : (List Pair → Type 0) → List ℕ → Type 0
 OfPairs P l = (a : Attributes) (m : List ℕ) → attributes l ≡ read a m → P a.pairs
 
 module _ (P : List Pair → Type 0) (l : List ℕ) where
-  pub of-done : (v : Read Bool) → stop (then v (λ b m. read (ending b) m)) ≡ attributes_step l → P [] → OfPairs P l
+  pub of_done : (v : Read Bool) → stop (then v (λ b m. read (ending b) m)) ≡ attributes_step l → P [] → OfPairs P l
   unfolding attributes
-  of-done v e p a m h = go v (sym (loop-stop refused attributes_step attributes-less (sym e)) ∙ h)
+  of_done v e p a m h = go v (sym (loop-stop refused attributes_step attributes_less (sym e)) ∙ h)
     where
       go : (v : Read Bool) → then v (λ b m. read (ending b) m) ≡ read a m → P a.pairs
       go refused e = never cc
       go (read b k) e = let j : ending b ≡ a = cc in rw (← j) p
 
-  pub of-next : {p : Pair} {k : List ℕ} → next (before p) k ≡ attributes_step l → OfPairs (λ ps. P (p ∷ ps)) k → OfPairs P l
+  pub of_next : {p : Pair} {k : List ℕ} → next (before p) k ≡ attributes_step l → OfPairs (λ ps. P (p ∷ ps)) k → OfPairs P l
   unfolding attributes
-  of-next {p} {k} e g a m h = go (attributes k) refl (sym (loop-next refused attributes_step attributes-less (sym e)) ∙ h)
+  of_next {p} {k} e g a m h = go (attributes k) refl (sym (loop-next refused attributes_step attributes_less (sym e)) ∙ h)
     where
       go : (r : Read Attributes) → attributes k ≡ r → before p r ≡ read a m → P a.pairs
       go refused i e = never cc
       go (read c n) i e = let j : record { pairs = p ∷ c.pairs; shut = c.shut } ≡ a = cc in rw (← j) (g c n i)
 
 module _ (s x : List ℕ) where
-  pub valued-none : Valued s x [] value.Missing
+  pub valued_none : Valued s x [] value.Missing
   unfolding value_in any
-  valued-none = (refl, refl)
+  valued_none = (refl, refl)
 
-  pub valued-here : (a e v w : ℕ) (ps : List Pair) → true ≡ same x (part s a e) → Valued s x (pair s a e v w ∷ ps) (value.Text v w)
+  pub valued_here : (a e v w : ℕ) (ps : List Pair) → true ≡ same x (part s a e) → Valued s x (pair s a e v w ∷ ps) (value.Text v w)
   unfolding value_in any
-  valued-here a b v w ps e = (rw (← e), rw (← e))
+  valued_here a b v w ps e = (rw (← e), rw (← e))
 
   -- past another attribute
-  pub valued-on : (p : Pair) (ps : List Pair) (r : Value) → false ≡ same x p.key → Valued s x ps r → Valued s x (p ∷ ps) r
+  pub valued_on : (p : Pair) (ps : List Pair) (r : Value) → false ≡ same x p.key → Valued s x ps r → Valued s x (p ∷ ps) r
   unfolding value_in any
-  valued-on p ps (value.Text a e) h k = rw (← h) k
-  valued-on p ps value.Missing h k = rw (← h) k
+  valued_on p ps (value.Text a e) h k = rw (← h) k
+  valued_on p ps value.Missing h k = rw (← h) k

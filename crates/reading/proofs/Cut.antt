@@ -8,7 +8,7 @@ use lib.ListN.{length, take, drop, get_or, length-append}
 use lib.Seq.{take-take}
 use Rattle.laws.specs.Loop.{Step, loop}
 use Rattle.laws.specs.Loop.Step.{stop, next}
-use Rattle.laws.proofs.Fuel.{Shrinks, loop-next, loop-stop, by-steps}
+use Rattle.laws.proofs.Fuel.{Shrinks, loop-next, loop-stop, by_steps}
 use Rattle.markup.specs.NamesAndValues.{Read, then}
 use Rattle.markup.specs.NamesAndValues.Read.{refused, read}
 
@@ -20,12 +20,12 @@ pub then_is : {A B : Type 0} (o : Read A) (k : A → List ℕ → Read B) {b : B
 then_is refused k e = never cc
 then_is (read a y) k e = (a, y, refl, e)
 
-pub cond-is : {A : Type 0} (t : Bool) {o : Read A} {a : A} {m : List ℕ} → cond t o refused ≡ read a m → (t ≡ true) × (o ≡ read a m)
-cond-is true e = (refl, e)
-cond-is false e = never cc
+pub cond_is : {A : Type 0} (t : Bool) {o : Read A} {a : A} {m : List ℕ} → cond t o refused ≡ read a m → (t ≡ true) × (o ≡ read a m)
+cond_is true e = (refl, e)
+cond_is false e = never cc
 
-pub read-in : {A : Type 0} {a b : A} {l m : List ℕ} → read a l ≡ read b m → (a ≡ b) × (l ≡ m)
-read-in e = (cc, cc)
+pub read_in : {A : Type 0} {a b : A} {l m : List ℕ} → read a l ≡ read b m → (a ≡ b) × (l ≡ m)
+read_in e = (cc, cc)
 
 -- what is read does not depend on what follows
 abbrev pub still : {A : Type 0} → ℕ → A → A
@@ -53,30 +53,30 @@ like (b ∷ e) m z zero j h q = refl
 like (b ∷ e) m z (suc i) j h q = ap (λ (y : List ℕ). b ∷ y) (like e m z i j (omega arith) q)
 
 module _ {A X : Type 0} {put : A → List ℕ → X} {move : ℕ → A → A} {c j : ℕ} where
-  pub cond-cuts : (t : Bool) {r s : List ℕ → X} {l : List ℕ} → Cuts put move c j r l → Cuts put move c j s l → Cuts put move c j (λ x. cond t (r x) (s x)) l
-  cond-cuts true h k = h
-  cond-cuts false h k = k
+  pub cond_cuts : (t : Bool) {r s : List ℕ → X} {l : List ℕ} → Cuts put move c j r l → Cuts put move c j s l → Cuts put move c j (λ x. cond t (r x) (s x)) l
+  cond_cuts true h k = h
+  cond_cuts false h k = k
 
-  pub cons-cuts : (r : List ℕ → X) (b : ℕ) {l : List ℕ} → Cuts put move c j (λ x. r (b ∷ x)) l → Cuts put move (suc c) j r (b ∷ l)
-  cons-cuts r b h a m e =
+  pub cons_cuts : (r : List ℕ → X) (b : ℕ) {l : List ℕ} → Cuts put move c j (λ x. r (b ∷ x)) l → Cuts put move (suc c) j r (b ∷ l)
+  cons_cuts r b h a m e =
       let x = h a m e in
       record { bytes = b ∷ x.bytes; base = x.base; some = omega arith; whole = ap (λ (y : List ℕ). b ∷ y) x.whole; value = x.value; again = x.again }
 
   -- fewer bytes told of, more looked ahead at
-  pub less-cuts : {r : List ℕ → X} {l : List ℕ} (d i : ℕ) → d ≤ c → j ≤ i → Cuts put move c j r l → Cuts put move d i r l
-  less-cuts d i p q h a m e =
+  pub less_cuts : {r : List ℕ → X} {l : List ℕ} (d i : ℕ) → d ≤ c → j ≤ i → Cuts put move c j r l → Cuts put move d i r l
+  less_cuts d i p q h a m e =
       let x = h a m e in
       record { bytes = x.bytes; base = x.base; some = omega arith; whole = x.whole; value = x.value; again = λ z g. x.again z (like [] m z j i (omega arith) g) }
 
-  tail-cut : (r : List ℕ → X) (b : ℕ) (l : List ℕ) (a : A) (m : List ℕ) → Cut put move (suc c) j r (b ∷ l) a m → Cut put move c j (λ x. r (b ∷ x)) l a m
-  tail-cut r b l a m x = go x.bytes x.some x.whole x.again
+  tail_cut : (r : List ℕ → X) (b : ℕ) (l : List ℕ) (a : A) (m : List ℕ) → Cut put move (suc c) j r (b ∷ l) a m → Cut put move c j (λ x. r (b ∷ x)) l a m
+  tail_cut r b l a m x = go x.bytes x.some x.whole x.again
     where
       go : (e : List ℕ) → suc c ≤ length e → b ∷ l ≡ e ++ m → ((z : List ℕ) → take j z ≡ take j m → r (e ++ z) ≡ put (move (length z) x.base) z) → Cut put move c j (λ x. r (b ∷ x)) l a m
       go [] s w g = absurd (omega arith)
       go (d ∷ e) s w g = let p : b ≡ d = cc in record { bytes = e; base = x.base; some = omega arith; whole = cc; value = x.value; again = λ z q. rw p (g z q) }
 
-  pub tail-cuts : (r : List ℕ → X) (b : ℕ) {l : List ℕ} → Cuts put move (suc c) j r (b ∷ l) → Cuts put move c j (λ x. r (b ∷ x)) l
-  tail-cuts r b {l} h a m e = tail-cut r b l a m (h a m e)
+  pub tail_cuts : (r : List ℕ → X) (b : ℕ) {l : List ℕ} → Cuts put move (suc c) j r (b ∷ l) → Cuts put move c j (λ x. r (b ∷ x)) l
+  tail_cuts r b {l} h a m e = tail_cut r b l a m (h a m e)
 
 -- a reader that first looks at the byte before it
 pub head_of : (e m z : List ℕ) → 0 < length e → get_or (e ++ z) 0 0 ≡ get_or (e ++ m) 0 0
@@ -84,17 +84,17 @@ head_of [] m z h = absurd (omega arith)
 head_of (b ∷ e) m z h = refl
 
 module _ {A X : Type 0} {put : A → List ℕ → X} {move : ℕ → A → A} {c j : ℕ} where
-  pub look-cuts : (g : ℕ → List ℕ → X) {l : List ℕ} → ((h : ℕ) → Cuts put move (suc c) j (g h) l) → Cuts put move (suc c) j (λ x. g (get_or x 0 0) x) l
-  look-cuts g {l} h a m e =
+  pub look_cuts : (g : ℕ → List ℕ → X) {l : List ℕ} → ((h : ℕ) → Cuts put move (suc c) j (g h) l) → Cuts put move (suc c) j (λ x. g (get_or x 0 0) x) l
+  look_cuts g {l} h a m e =
       let x = h (get_or l 0 0) a m e in
       let s : 0 < length x.bytes = omega arith in
       let p : (z : List ℕ) → get_or (x.bytes ++ z) 0 0 ≡ get_or l 0 0 = λ z. head_of x.bytes m z s ∙ ap (λ (y : List ℕ). get_or y 0 0) (sym x.whole) in
       record { bytes = x.bytes; base = x.base; some = x.some; whole = x.whole; value = x.value; again = λ z q. rw (p z) (x.again z q) }
 
   -- what is made of a reader's answer
-  pub map-cut : {B Y : Type 0} {to : B → List ℕ → Y} {moved : ℕ → B → B} {r : List ℕ → X} {l : List ℕ} {a : A} {m : List ℕ} (h : X → Y) (g : A → B)
+  pub map_cut : {B Y : Type 0} {to : B → List ℕ → Y} {moved : ℕ → B → B} {r : List ℕ → X} {l : List ℕ} {a : A} {m : List ℕ} (h : X → Y) (g : A → B)
       → ((a : A) (z : List ℕ) → h (put a z) ≡ to (g a) z) → ((q : ℕ) (a : A) → g (move q a) ≡ moved q (g a)) → Cut put move c j r l a m → Cut to moved c j (λ x. h (r x)) l (g a) m
-  map-cut {B} {Y} {to} {moved} {r} {l} {a} {m} h g p n x =
+  map_cut {B} {Y} {to} {moved} {r} {l} {a} {m} h g p n x =
       record {
         bytes = x.bytes;
         base = g x.base;
@@ -104,8 +104,8 @@ module _ {A X : Type 0} {put : A → List ℕ → X} {move : ℕ → A → A} {c
         again = λ z q. ap h (x.again z q) ∙ p (move (length z) x.base) z ∙ ap (λ (s : B). to s z) (n (length z) x.base);
       }
 
-  pub cuts-is : {r s : List ℕ → X} {l : List ℕ} → ((x : List ℕ) → s x ≡ r x) → Cuts put move c j r l → Cuts put move c j s l
-  cuts-is {r} {s} {l} p h a m e =
+  pub cuts_is : {r s : List ℕ → X} {l : List ℕ} → ((x : List ℕ) → s x ≡ r x) → Cuts put move c j r l → Cuts put move c j s l
+  cuts_is {r} {s} {l} p h a m e =
       let x = h a m (sym (p l) ∙ e) in
       record { bytes = x.bytes; base = x.base; some = x.some; whole = x.whole; value = x.value; again = λ z q. p (x.bytes ++ z) ∙ x.again z q }
 
@@ -130,39 +130,39 @@ module _ {A X : Type 0} {put : A → List ℕ → X} {move : ℕ → A → A} {c
       }
 
 module _ {A : Type 0} {move : ℕ → A → A} {c j : ℕ} where
-  pub then-local : {B : Type 0} {d i : ℕ} (r : List ℕ → Read B) (k : B → List ℕ → Read A)
+  pub then_local : {B : Type 0} {d i : ℕ} (r : List ℕ → Read B) (k : B → List ℕ → Read A)
       → Local still d i r → ((b : B) → Local move c j (k b)) → i ≤ c + j → Local move (d + c) j (λ l. then (r l) k)
-  then-local r k p q n l a m e =
+  then_local r k p q n l a m e =
       let x = then_is (r l) k e in
       follow (λ l. then (r l) k) k (λ l b y g. rw g) (p l x.0 x.1 x.2) x.2 (q x.0 x.1) n a m e
 
-  pub map-local : {B : Type 0} {moved : ℕ → B → B} (r : List ℕ → Read A) (g : A → B)
+  pub map_local : {B : Type 0} {moved : ℕ → B → B} (r : List ℕ → Read A) (g : A → B)
       → ((q : ℕ) (a : A) → g (move q a) ≡ moved q (g a)) → Local move c j r → Local moved c j (λ l. then (r l) (λ a m. read (g a) m))
-  map-local {B} {moved} r g n p l b m e =
+  map_local {B} {moved} r g n p l b m e =
       let x = then_is (r l) (λ a m. read (g a) m) e in
-      let v = read-in x.3 in
+      let v = read_in x.3 in
       subst (λ (s : B). Cut read moved c j (λ l. then (r l) (λ a m. read (g a) m)) l s m) v.0
-      (map-cut (λ o. then o (λ a m. read (g a) m)) g (λ a z. refl) n (p l x.0 m (x.2 ∙ ap (read x.0) v.1)))
+      (map_cut (λ o. then o (λ a m. read (g a) m)) g (λ a z. refl) n (p l x.0 m (x.2 ∙ ap (read x.0) v.1)))
 
-pub refused-cuts : {A : Type 0} {move : ℕ → A → A} {c j : ℕ} (l : List ℕ) → Cuts read move c j (λ _. refused) l
-refused-cuts l a m e = never cc
+pub refused_cuts : {A : Type 0} {move : ℕ → A → A} {c j : ℕ} (l : List ℕ) → Cuts read move c j (λ _. refused) l
+refused_cuts l a m e = never cc
 
 -- the answer a alone
 abbrev pub only : {A : Type 0} → A → Unit {0} → List ℕ → Read A
 only a u m = read a m
 
-pub only-cuts : {A : Type 0} {c j : ℕ} {r : List ℕ → Read A} {l : List ℕ} (a : A) → Cuts read still c j r l → Cuts (only a) still c j r l
-only-cuts a h u m e =
+pub only_cuts : {A : Type 0} {c j : ℕ} {r : List ℕ → Read A} {l : List ℕ} (a : A) → Cuts read still c j r l → Cuts (only a) still c j r l
+only_cuts a h u m e =
     let x = h a m e in
     record { bytes = x.bytes; base = u; some = x.some; whole = x.whole; value = refl; again = λ z q. x.again z q ∙ ap (λ (s : _). read s z) (sym x.value) }
 
-pub read-local : {A : Type 0} {move : ℕ → A → A} (a : A) → ((q : ℕ) → move q a ≡ a) → Local move 0 0 (λ l. read a l)
-read-local a n l b m e = record { bytes = []; base = a; some = omega arith; whole = cc; value = let v : a ≡ b = cc in sym v ∙ sym (n (length m)); again = λ z q. rw (n (length z)) }
+pub read_local : {A : Type 0} {move : ℕ → A → A} (a : A) → ((q : ℕ) → move q a ≡ a) → Local move 0 0 (λ l. read a l)
+read_local a n l b m e = record { bytes = []; base = a; some = omega arith; whole = cc; value = let v : a ≡ b = cc in sym v ∙ sym (n (length m)); again = λ z q. rw (n (length z)) }
 
 -- after a byte that was looked at
-pub past-local : {A : Type 0} (c : ℕ) (r : List ℕ → Read A) → Local still (suc c) 0 r → Local still (suc c) 0 (λ l. r (drop 1 l))
-past-local c r h [] = λ a m e. let x = h [] a m e in absurd (omega (arith, x.some, ap length x.whole, length-append x.bytes m))
-past-local c r h (b ∷ l) = less-cuts (suc c) 0 (omega arith) (omega arith) (cons-cuts (λ l. r (drop 1 l)) b (h l))
+pub past_local : {A : Type 0} (c : ℕ) (r : List ℕ → Read A) → Local still (suc c) 0 r → Local still (suc c) 0 (λ l. r (drop 1 l))
+past_local c r h [] = λ a m e. let x = h [] a m e in absurd (omega (arith, x.some, ap length x.whole, length-append x.bytes m))
+past_local c r h (b ∷ l) = less_cuts (suc c) 0 (omega arith) (omega arith) (cons_cuts (λ l. r (drop 1 l)) b (h l))
 
 -- ---- loops
 
@@ -199,16 +199,16 @@ stopped a m = stop (read a m)
 
 module _ {A : Type 0} {move : ℕ → A → A} {c j : ℕ} (step : List ℕ → Step (Read A)) (stops : (l : List ℕ) → Cuts stopped move (suc c) j step l)
     (goes : (l : List ℕ) (f : Read A → Read A) (y : List ℕ) → step l ≡ next f y → Goes move step l f y) where
-  pub goes-less : Shrinks step
-  goes-less l f y e = let g = goes l f y e in omega (arith, ap length g.whole, length-append g.bytes y, g.some)
+  pub goes_less : Shrinks step
+  goes_less l f y e = let g = goes l f y e in omega (arith, ap length g.whole, length-append g.bytes y, g.some)
 
-  abbrev whole-loop : List ℕ → Read A
-  whole-loop = loop refused step
+  abbrev whole_loop : List ℕ → Read A
+  whole_loop = loop refused step
 
   -- a step and the rest of the loop
-  cut-next : (l : List ℕ) (f : Read A → Read A) (y : List ℕ) (g : Goes move step l f y) (b : A) (m : List ℕ) → Cut read move (suc c) j whole-loop y b m
-      → Cut read move (suc c) j whole-loop l (g.adds (length y) b) m
-  cut-next l f y g b m w =
+  cut_next : (l : List ℕ) (f : Read A → Read A) (y : List ℕ) (g : Goes move step l f y) (b : A) (m : List ℕ) → Cut read move (suc c) j whole_loop y b m
+      → Cut read move (suc c) j whole_loop l (g.adds (length y) b) m
+  cut_next l f y g b m w =
       let v : (z : List ℕ) → g.adds (length (w.bytes ++ z)) (move (length z) w.base) ≡ move (length z) (g.adds (length w.bytes) w.base) =
       λ z. ap (λ (q : ℕ). g.adds q (move (length z) w.base)) (length-append w.bytes z) ∙ g.moves (length w.bytes) (length z) w.base in
       record {
@@ -218,30 +218,30 @@ module _ {A : Type 0} {move : ℕ → A → A} {c j : ℕ} (step : List ℕ → 
         whole = g.whole ∙ ap (λ (s : List ℕ). g.bytes ++ s) w.whole ∙ sym (append_assoc g.bytes w.bytes m);
         value = ap (λ (q : List ℕ). g.adds (length q) b) w.whole ∙ ap (g.adds (length (w.bytes ++ m))) w.value ∙ v m;
         again = λ z q.
-            ap whole-loop (append_assoc g.bytes w.bytes z)
-            ∙ loop-next refused step goes-less (g.again (w.bytes ++ z) (like w.bytes m z 1 j (omega (arith, w.some)) q ∙ ap (take 1) (sym w.whole)))
+            ap whole_loop (append_assoc g.bytes w.bytes z)
+            ∙ loop-next refused step goes_less (g.again (w.bytes ++ z) (like w.bytes m z 1 j (omega (arith, w.some)) q ∙ ap (take 1) (sym w.whole)))
             ∙ ap (adding (g.adds (length (w.bytes ++ z)))) (w.again z q)
             ∙ ap (λ (s : A). read s z) (v z);
       }
 
-  pub loop-local : Local move (suc c) j (loop refused step)
-  loop-local = by-steps step goes-less (Cuts read move (suc c) j whole-loop) one
+  pub loop_local : Local move (suc c) j (loop refused step)
+  loop_local = by_steps step goes_less (Cuts read move (suc c) j whole_loop) one
     where
-      one : (l : List ℕ) → ((f : Read A → Read A) (y : List ℕ) → step l ≡ next f y → Cuts read move (suc c) j whole-loop y) → Cuts read move (suc c) j whole-loop l
+      one : (l : List ℕ) → ((f : Read A → Read A) (y : List ℕ) → step l ≡ next f y → Cuts read move (suc c) j whole_loop y) → Cuts read move (suc c) j whole_loop l
       one l h a m e = go (step l) refl
         where
-          under : (f : Read A → Read A) (y : List ℕ) (g : Goes move step l f y) → Cuts read move (suc c) j whole-loop y → (o : Read A) → whole-loop y ≡ o → adding (g.adds (length y)) o ≡ read a m
-              → Cut read move (suc c) j whole-loop l a m
+          under : (f : Read A → Read A) (y : List ℕ) (g : Goes move step l f y) → Cuts read move (suc c) j whole_loop y → (o : Read A) → whole_loop y ≡ o → adding (g.adds (length y)) o ≡ read a m
+              → Cut read move (suc c) j whole_loop l a m
           under f y g k refused w u = never cc
           under f y g k (read b x) w u =
               let p : x ≡ m = cc in
               let v : g.adds (length y) b ≡ a = cc in
-              subst (λ (s : A). Cut read move (suc c) j whole-loop l s m) v (cut-next l f y g b m (k b m (w ∙ ap (read b) p)))
+              subst (λ (s : A). Cut read move (suc c) j whole_loop l s m) v (cut_next l f y g b m (k b m (w ∙ ap (read b) p)))
 
-          go : (s : Step (Read A)) → step l ≡ s → Cut read move (suc c) j whole-loop l a m
+          go : (s : Step (Read A)) → step l ≡ s → Cut read move (suc c) j whole_loop l a m
           go (stop r) w =
-              let x = stops l a m (w ∙ ap stop (sym (loop-stop refused step goes-less w) ∙ e)) in
-              record { bytes = x.bytes; base = x.base; some = x.some; whole = x.whole; value = x.value; again = λ z q. loop-stop refused step goes-less (x.again z q) }
+              let x = stops l a m (w ∙ ap stop (sym (loop-stop refused step goes_less w) ∙ e)) in
+              record { bytes = x.bytes; base = x.base; some = x.some; whole = x.whole; value = x.value; again = λ z q. loop-stop refused step goes_less (x.again z q) }
           go (next f y) w =
               let g = goes l f y w in
-              under f y g (h f y w) (whole-loop y) refl (sym (ap (λ (k : Read A → Read A). k (whole-loop y)) g.is) ∙ sym (loop-next refused step goes-less w) ∙ e)
+              under f y g (h f y w) (whole_loop y) refl (sym (ap (λ (k : Read A → Read A). k (whole_loop y)) g.is) ∙ sym (loop-next refused step goes_less w) ∙ e)

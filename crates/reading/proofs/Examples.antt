@@ -11,29 +11,29 @@ use Rattle.markup.specs.Elements.Inside.{end, says, note, elem}
 use Rattle.markup.specs.Document.{document}
 use Rattle.reading.specs.Print.{print, placed_tree}
 use Rattle.reading.specs.Printable.{Printable, Plain}
-use Rattle.reading.proofs.Allowed.{plain-document}
+use Rattle.reading.proofs.Allowed.{plain_document}
 
 -- an element with an attribute, a text, a comment and a child; z and y are its places
 abbrev sample : ℕ → ℕ → Tree
 sample z y = mk z (bytes "X") (record { key = bytes "a"; val = bytes "1" } ∷ []) (says (bytes "t") (note (elem y (bytes "Y") [] end end)))
 
-pub sample-printed : print (sample 0 0) ≡ bytes "<X a=\"1\">t<!----><Y></Y></X>"
-sample-printed = refl
+pub sample_printed : print (sample 0 0) ≡ bytes "<X a=\"1\">t<!----><Y></Y></X>"
+sample_printed = refl
 
-pub sample-placed : placed_tree [] (sample 0 0) ≡ sample 28 11
-sample-placed = refl
+pub sample_placed : placed_tree [] (sample 0 0) ≡ sample 28 11
+sample_placed = refl
 
-sample-printable : Printable depth (sample 0 0)
+sample_printable : Printable depth (sample 0 0)
 unfolding all any same differ
-sample-printable = (
+sample_printable = (
   record { named = record { starts = refl; bytes = refl }; pairs = (record { starts = refl; bytes = refl }, refl, tt); apart = refl },
   (omega arith, refl, tt, (record { named = record { starts = refl; bytes = refl }; pairs = tt; apart = refl }, tt, tt)),
   tt,
 )
 
-sample-plain : Plain (alone (sample 0 0))
+sample_plain : Plain (alone (sample 0 0))
 unfolding all
-sample-plain = ((refl, tt), (refl, (tt, tt, tt)), tt)
+sample_plain = ((refl, tt), (refl, (tt, tt, tt)), tt)
 
 pub sample-read : document (bytes "<X a=\"1\">t<!----><Y></Y></X>") ≡ read (sample 28 11) []
-sample-read = plain-document (sample 0 0) sample-printable sample-plain
+sample-read = plain_document (sample 0 0) sample_printable sample_plain

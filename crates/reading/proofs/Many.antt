@@ -17,12 +17,12 @@ use Rattle.reading.specs.Places.{up_tree}
 use Rattle.reading.specs.Everywhere.{Every}
 use Rattle.reading.specs.Print.{end_on}
 use Rattle.reading.specs.Many.{wrapped_tree, below_root, PartIn, Parted, file_of_one, Single, said, records, Files}
-use Rattle.reading.proofs.Cut.{read-in}
+use Rattle.reading.proofs.Cut.{read_in}
 use Rattle.reading.proofs.Elements.{Ends}
-use Rattle.reading.proofs.Steps.{Built, built, element-from}
-use Rattle.reading.proofs.Files.{Rooted, document-is}
-use Rattle.reading.proofs.Places.{every_map, StandsIn, stands-later, kids-stand}
-use Rattle.reading.proofs.Parts.{part_of, start_of, assembled-document}
+use Rattle.reading.proofs.Steps.{Built, built, element_from}
+use Rattle.reading.proofs.Files.{Rooted, document_is}
+use Rattle.reading.proofs.Places.{every_map, StandsIn, stands_later, kids_stand}
+use Rattle.reading.proofs.Parts.{part_of, start_of, assembled_document}
 
 -- what was read in a file is a part of it
 part_in : (f : List ℕ) → all in_file f ≡ true → (c : Tree) → StandsIn below_root f c → PartIn f c
@@ -34,27 +34,27 @@ part_in f h c k =
       before = k.before;
       after = k.after;
       stands = w;
-      place = element-from below_root k.here c k.after k.reads ∙ ap length p.1;
+      place = element_from below_root k.here c k.after k.reads ∙ ap length p.1;
       is = p.2;
       allowed = all_left in_file p.0.bytes k.after (all_right in_file k.before (p.0.bytes ++ k.after) (subst (λ (l : List ℕ). all in_file l ≡ true) w h));
     }
 
 -- TAKEN APART: a root without children, or a start tag and parts
 pub parted : (f : List ℕ) (t : Tree) (m : List ℕ) → document f ≡ read t m → (kids t.inside ≡ []) ⊎ Parted f t
-parted f t m e = let r = (document-is f t m e).0 in go r (built below_root r.here t r.after r.reads)
+parted f t m e = let r = (document_is f t m e).0 in go r (built below_root r.here t r.after r.reads)
   where
     go : (r : Rooted f t) → Built below_root r.here t r.after → (kids t.inside ≡ []) ⊎ Parted f t
     go r b = split b.start.shut refl b.holds
       where
         split : (q : Bool) → b.start.shut ≡ q → cond q (read end b.rest) (content (element below_root) b.start.named b.rest) ≡ read b.inside r.after → (kids t.inside ≡ []) ⊎ Parted f t
-        split true w u = inl (ap (λ (s : Tree). kids s.inside) b.is ∙ ap kids (sym (read-in u).0))
+        split true w u = inl (ap (λ (s : Tree). kids s.inside) b.is ∙ ap kids (sym (read_in u).0))
         split false w u =
             let g = b.start in
             let s = start_of r.here g.named g.pairs b.rest (b.tags ∙ ap (λ (q : Bool). read (record { named = g.named; pairs = g.pairs; shut = q }) b.rest) w) in
             let v : f ≡ r.lead ++ (s.0.bytes ++ b.rest) = r.stands ∙ ap (λ (y : List ℕ). r.lead ++ y) s.1 in
             let o : Ends f b.rest = (r.lead ++ s.0.bytes, v ∙ sym (append_assoc r.lead s.0.bytes b.rest)) in
             let k : Every (PartIn f) (kids b.inside) =
-            every_map (StandsIn below_root b.rest) (PartIn f) (λ c x. part_in f r.allowed c (stands-later o c x)) (kids b.inside) (kids-stand below_root g b.rest b.inside r.after b.holds) in
+            every_map (StandsIn below_root b.rest) (PartIn f) (λ c x. part_in f r.allowed c (stands_later o c x)) (kids b.inside) (kids_stand below_root g b.rest b.inside r.after b.holds) in
             inr (record {
               start = s.0;
               lead = r.lead;
@@ -71,7 +71,7 @@ single : (f : List ℕ) (t : Tree) (p : Parted f t) (c : Tree) → PartIn f c �
 single f t p c k =
     let head = p.start.bytes in
     let b = k.part.bytes in
-    let e : document (file_of_one head b p.start.named) ≡ read (wrapped_tree p.start (k.part ∷ []) []) [] = assembled-document p.start (k.part ∷ []) p.allowed (k.allowed, tt) in
+    let e : document (file_of_one head b p.start.named) ≡ read (wrapped_tree p.start (k.part ∷ []) []) [] = assembled_document p.start (k.part ∷ []) p.allowed (k.allowed, tt) in
     record {
       before = k.before;
       bytes = b;
@@ -85,20 +85,20 @@ single f t p c k =
     }
 
 -- ONE FILE OR MANY: each record of a file, put alone between the root's start tag and an end tag, is read there as the same tree
-pub one-or-many : (f : List ℕ) (t : Tree) (m : List ℕ) → document f ≡ read t m → (head : List ℕ) × Every (Single f t head) (kids t.inside)
-one-or-many f t m e =
+pub one_or_many : (f : List ℕ) (t : Tree) (m : List ℕ) → document f ≡ read t m → (head : List ℕ) × Every (Single f t head) (kids t.inside)
+one_or_many f t m e =
     ⊎_elim (λ w. ([], subst (Every (Single f t [])) (sym w) tt)) (λ p. (p.start.bytes, every_map (PartIn f) (Single f t p.start.bytes) (single f t p) (kids t.inside) p.each)) (parted f t m e)
 
 -- the file of one is in the markup
-pub single-document : (f : List ℕ) (t : Tree) (head : List ℕ) (c : Tree) (o : Single f t head c) → in_markup (file_of_one head o.bytes t.named) ≡ true
+pub single_document : (f : List ℕ) (t : Tree) (head : List ℕ) (c : Tree) (o : Single f t head c) → in_markup (file_of_one head o.bytes t.named) ≡ true
 unfolding in_markup
-single-document f t head c o = ap was_read o.short
+single_document f t head c o = ap was_read o.short
 
 -- what E14 uses: for anything φ said of a record that does not depend on its place, the records of a file are, one by one, the records of the files of one
 module _ {R : Type 0} (φ : Tree → R) where
   pub one_each : ((j : ℕ) (t : Tree) → φ (up_tree j t) ≡ φ t) → (f : List ℕ) (t : Tree) (m : List ℕ) → document f ≡ read t m → (gs : List (List ℕ)) × Files φ (records φ (document f)) gs
   one_each free f t m e =
-      let s = one-or-many f t m e in
+      let s = one_or_many f t m e in
       let x = each s.0 (kids t.inside) s.1 in
       (x.0, rw e x.1)
     where
@@ -109,7 +109,7 @@ module _ {R : Type 0} (φ : Tree → R) where
           let r = each head cs h.1 in (
             file_of_one head o.bytes t.named ∷ r.0,
             (
-              single-document f t head c o,
+              single_document f t head c o,
               ap (records φ) o.short ∙ ap (λ (q : R). q ∷ []) (free (length (end_on t.named [])) o.same ∙ sym (free (length o.after) o.same) ∙ ap φ (sym o.long)),
               r.1,
             ),

@@ -10,22 +10,22 @@ use Rattle.markup.specs.NamesAndValues.Read.{read}
 use Rattle.markup.specs.Comments.{dashed}
 use Rattle.markup.specs.Elements.{Tree, element}
 use Rattle.reading.proofs.Cut.{Cut, Local}
-use Rattle.reading.proofs.Tags.{dashed-local}
-use Rattle.reading.proofs.Elements.{element-local}
+use Rattle.reading.proofs.Tags.{dashed_local}
+use Rattle.reading.proofs.Elements.{element_local}
 
-pub cut-shrinks : {A X : Type 0} {put : A → List ℕ → X} {move : ℕ → A → A} {c j : ℕ} {r : List ℕ → X} {l : List ℕ} {a : A} {m : List ℕ} → Cut put move c j r l a m → c + length m ≤ length l
-cut-shrinks {m = m} x = omega (arith, x.some, ap length x.whole, length-append x.bytes m)
+pub cut_shrinks : {A X : Type 0} {put : A → List ℕ → X} {move : ℕ → A → A} {c j : ℕ} {r : List ℕ → X} {l : List ℕ} {a : A} {m : List ℕ} → Cut put move c j r l a m → c + length m ≤ length l
+cut_shrinks {m = m} x = omega (arith, x.some, ap length x.whole, length-append x.bytes m)
 
 -- a reader that takes at least c bytes leaves c fewer
 pub takes : {A : Type 0} {move : ℕ → A → A} {c j : ℕ} {r : List ℕ → Read A} → Local move c j r → (l : List ℕ) {a : A} {m : List ℕ} → r l ≡ read a m → c + length m ≤ length l
-takes h l {a} {m} e = cut-shrinks (h l a m e)
+takes h l {a} {m} e = cut_shrinks (h l a m e)
 
-pub skip-shrinks : (l : List ℕ) → length (skip_ws l) ≤ length l
+pub skip_shrinks : (l : List ℕ) → length (skip_ws l) ≤ length l
 unfolding skip_ws
-skip-shrinks l = omega (arith, length-drop (run_length is_ws l) l)
+skip_shrinks l = omega (arith, length-drop (run_length is_ws l) l)
 
-pub dashed-shrinks : (l : List ℕ) {u : Unit {0}} {m : List ℕ} → dashed l ≡ read u m → 3 + length m ≤ length l
-dashed-shrinks = takes dashed-local
+pub dashed_shrinks : (l : List ℕ) {u : Unit {0}} {m : List ℕ} → dashed l ≡ read u m → 3 + length m ≤ length l
+dashed_shrinks = takes dashed_local
 
-pub element-shrinks : (d : ℕ) (l : List ℕ) {t : Tree} {m : List ℕ} → element d l ≡ read t m → 3 + length m ≤ length l
-element-shrinks d = takes (element-local d)
+pub element_shrinks : (d : ℕ) (l : List ℕ) {t : Tree} {m : List ℕ} → element d l ≡ read t m → 3 + length m ≤ length l
+element_shrinks d = takes (element_local d)

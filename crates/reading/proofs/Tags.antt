@@ -17,96 +17,96 @@ use Rattle.markup.specs.NamesAndValues.Read.{refused, read}
 use Rattle.markup.specs.Comments.{opens_other, comment, dashed}
 use Rattle.markup.specs.Tags.{Pair, attribute, Attributes, ending, before, go_on, attributes_at, attributes_step, attributes, differ, Tag, tag_of, tag, end_tag}
 use Rattle.reading.specs.Printable.{IsName}
-use Rattle.reading.proofs.Cut.{never, still, Cut, Cuts, Local, refused-cuts, past-local, cond-cuts, cons-cuts, tail-cuts, less-cuts, look-cuts, follow, then-local, read-local, Goes, goes_of, stopped, then_is, cond-is, read-in, map-cut, goes-less, loop-local}
-use Rattle.reading.proofs.Leaves.{run-local, front_length, byte-is, byte-local, spaced-local, name-is, name-local, value-local}
+use Rattle.reading.proofs.Cut.{never, still, Cut, Cuts, Local, refused_cuts, past_local, cond_cuts, cons_cuts, tail_cuts, less_cuts, look_cuts, follow, then_local, read_local, Goes, goes_of, stopped, then_is, cond_is, read_in, map_cut, goes_less, loop_local}
+use Rattle.reading.proofs.Leaves.{run_local, front_length, byte_is, byte_local, spaced_local, name_is, name_local, value_local}
 
 -- ---- comments
 
-pub comment-local : Local still 1 0 comment
+pub comment_local : Local still 1 0 comment
 unfolding comment
-comment-local [] = λ a m e. never cc
-comment-local (b ∷ l) =
-    less-cuts 1 0 (omega arith) (omega arith)
-    (cons-cuts comment b
-    (look-cuts (λ h x. cond (eqb b (code "-") && eqb h (code "-")) (byte (code ">") (drop 1 x)) (cond (opens_other b h) refused (comment x)))
-    (λ h. cond-cuts (eqb b (code "-") && eqb h (code "-")) (past-local 0 (byte (code ">")) (byte-local (code ">")) l) (cond-cuts (opens_other b h) (refused-cuts l) (comment-local l)))))
+comment_local [] = λ a m e. never cc
+comment_local (b ∷ l) =
+    less_cuts 1 0 (omega arith) (omega arith)
+    (cons_cuts comment b
+    (look_cuts (λ h x. cond (eqb b (code "-") && eqb h (code "-")) (byte (code ">") (drop 1 x)) (cond (opens_other b h) refused (comment x)))
+    (λ h. cond_cuts (eqb b (code "-") && eqb h (code "-")) (past_local 0 (byte (code ">")) (byte_local (code ">")) l) (cond_cuts (opens_other b h) (refused_cuts l) (comment_local l)))))
 
-pub dashed-local : Local still 3 0 dashed
+pub dashed_local : Local still 3 0 dashed
 unfolding dashed
-dashed-local =
-    then-local (byte (code "-")) (λ _ m. then (byte (code "-") m) (λ _ m. comment m)) (byte-local (code "-"))
-    (λ _. then-local (byte (code "-")) (λ _ m. comment m) (byte-local (code "-")) (λ _. comment-local) (omega arith)) (omega arith)
+dashed_local =
+    then_local (byte (code "-")) (λ _ m. then (byte (code "-") m) (λ _ m. comment m)) (byte_local (code "-"))
+    (λ _. then_local (byte (code "-")) (λ _ m. comment m) (byte_local (code "-")) (λ _. comment_local) (omega arith)) (omega arith)
 
 -- ---- attributes
 
 abbrev pair_of : List ℕ → List ℕ → Pair
 pair_of n v = record { key = n; val = v }
 
-pub attribute-local : Local still 4 0 attribute
+pub attribute_local : Local still 4 0 attribute
 unfolding attribute skip_ws
-attribute-local =
-    then-local name (λ n m. then (byte (code "=") (skip_ws m)) (λ _ m. then (value (skip_ws m)) (λ v m. read (pair_of n v) m))) name-local
-    (λ n. then-local (λ m. byte (code "=") (skip_ws m)) (λ _ m. then (value (skip_ws m)) (λ v m. read (pair_of n v) m)) (spaced-local (code "="))
-    (λ _. then-local (λ l. read (front is_ws l) (after is_ws l)) (λ _ m. then (value m) (λ v m. read (pair_of n v) m)) (run-local is_ws)
-    (λ _. then-local value (λ v m. read (pair_of n v) m) value-local (λ v. read-local (pair_of n v) (λ q. refl)) (omega arith)) (omega arith)) (omega arith)) (omega arith)
+attribute_local =
+    then_local name (λ n m. then (byte (code "=") (skip_ws m)) (λ _ m. then (value (skip_ws m)) (λ v m. read (pair_of n v) m))) name_local
+    (λ n. then_local (λ m. byte (code "=") (skip_ws m)) (λ _ m. then (value (skip_ws m)) (λ v m. read (pair_of n v) m)) (spaced_local (code "="))
+    (λ _. then_local (λ l. read (front is_ws l) (after is_ws l)) (λ _ m. then (value m) (λ v m. read (pair_of n v) m)) (run_local is_ws)
+    (λ _. then_local value (λ v m. read (pair_of n v) m) value_local (λ v. read_local (pair_of n v) (λ q. refl)) (omega arith)) (omega arith)) (omega arith)) (omega arith)
 
-pub end_tag-local : (n : List ℕ) → Local still 2 0 (end_tag n)
+pub end_tag_local : (n : List ℕ) → Local still 2 0 (end_tag n)
 unfolding end_tag
-end_tag-local n =
-    then-local name (λ m rest. cond (same n m) (byte (code ">") (skip_ws rest)) refused) name-local
-    (λ m l. cond-cuts (same n m) (spaced-local (code ">") l) (refused-cuts l)) (omega arith)
+end_tag_local n =
+    then_local name (λ m rest. cond (same n m) (byte (code ">") (skip_ws rest)) refused) name_local
+    (λ m l. cond_cuts (same n m) (spaced_local (code ">") l) (refused_cuts l)) (omega arith)
 
 -- ---- the attributes of a tag
 
-go_on-is : (o : Read Pair) (f : Read Attributes → Read Attributes) (y : List ℕ) → go_on o ≡ next f y → (p : Pair) × (o ≡ read p y) × (f ≡ before p)
-go_on-is refused f y e = never cc
-go_on-is (read p m) f y e = (p, cc, cc)
+go_on_is : (o : Read Pair) (f : Read Attributes → Read Attributes) (y : List ℕ) → go_on o ≡ next f y → (p : Pair) × (o ≡ read p y) × (f ≡ before p)
+go_on_is refused f y e = never cc
+go_on_is (read p m) f y e = (p, cc, cc)
 
-go_on-not : (o : Read Pair) (a : Attributes) (m : List ℕ) → go_on o ≡ stopped a m → ⊥
-go_on-not refused a m e = never cc
-go_on-not (read p m) a x e = never cc
+go_on_not : (o : Read Pair) (a : Attributes) (m : List ℕ) → go_on o ≡ stopped a m → ⊥
+go_on_not refused a m e = never cc
+go_on_not (read p m) a x e = never cc
 
-shut-local : Local still 1 0 (λ l. then (byte (code ">") l) (λ _ m. read (ending true) m))
-shut-local = then-local (byte (code ">")) (λ _ m. read (ending true) m) (byte-local (code ">")) (λ _. read-local (ending true) (λ q. refl)) (omega arith)
+shut_local : Local still 1 0 (λ l. then (byte (code ">") l) (λ _ m. read (ending true) m))
+shut_local = then_local (byte (code ">")) (λ _ m. read (ending true) m) (byte_local (code ">")) (λ _. read_local (ending true) (λ q. refl)) (omega arith)
 
 -- a reader's answer as the loop's
-stop-cuts : {A : Type 0} {c j : ℕ} (r : List ℕ → Read A) {l : List ℕ} → Cuts read still c j r l → Cuts stopped still c j (λ x. stop (r x)) l
-stop-cuts r h a m e = map-cut stop (λ a. a) (λ a z. refl) (λ q a. refl) (h a m cc)
+stop_cuts : {A : Type 0} {c j : ℕ} (r : List ℕ → Read A) {l : List ℕ} → Cuts read still c j r l → Cuts stopped still c j (λ x. stop (r x)) l
+stop_cuts r h a m e = map_cut stop (λ a. a) (λ a z. refl) (λ q a. refl) (h a m cc)
 
-go_on-cuts : {c j : ℕ} (r : List ℕ → Read Pair) {l : List ℕ} → Cuts read still c j r l → Cuts next still c j (λ x. go_on (r x)) l
-go_on-cuts {c} {j} r {l} h f m e =
-    let g = go_on-is (r l) f m e in
-    subst (λ (k : Read Attributes → Read Attributes). Cut next still c j (λ x. go_on (r x)) l k m) (sym g.2) (map-cut go_on before (λ a z. refl) (λ q a. refl) (h g.0 m g.1))
+go_on_cuts : {c j : ℕ} (r : List ℕ → Read Pair) {l : List ℕ} → Cuts read still c j r l → Cuts next still c j (λ x. go_on (r x)) l
+go_on_cuts {c} {j} r {l} h f m e =
+    let g = go_on_is (r l) f m e in
+    subst (λ (k : Read Attributes → Read Attributes). Cut next still c j (λ x. go_on (r x)) l k m) (sym g.2) (map_cut go_on before (λ a z. refl) (λ q a. refl) (h g.0 m g.1))
 
-at-end : (w : ℕ) (s : Step (Read Attributes)) → attributes_at w [] ≡ s → s ≡ stop refused
+at_end_lem : (w : ℕ) (s : Step (Read Attributes)) → attributes_at w [] ≡ s → s ≡ stop refused
 unfolding attribute name
-at-end w s e = go (eqb w 0) e
+at_end_lem w s e = go (eqb w 0) e
   where
     go : (t : Bool) → cond t (stop refused) (stop refused) ≡ s → s ≡ stop refused
     go true u = sym u
     go false u = sym u
 
 at_stops : (w : ℕ) (l : List ℕ) → Cuts stopped still 1 0 (attributes_at w) l
-at_stops w [] = λ a m e. let q = at-end w (stopped a m) e in never cc
+at_stops w [] = λ a m e. let q = at_end_lem w (stopped a m) e in never cc
 at_stops w (b ∷ l) =
-    cons-cuts (attributes_at w) b
-    (cond-cuts (eqb b (code ">")) (stop-cuts (λ x. read (ending false) x) (read-local (ending false) (λ q. refl) l))
-    (cond-cuts (eqb b (code "/")) (stop-cuts (λ x. then (byte (code ">") x) (λ _ m. read (ending true) m)) (less-cuts 0 0 (omega arith) (omega arith) (shut-local l)))
-    (cond-cuts (eqb w 0) (stop-cuts (λ x. refused) (refused-cuts l)) (λ a m e. absurd (go_on-not (attribute (b ∷ l)) a m e)))))
+    cons_cuts (attributes_at w) b
+    (cond_cuts (eqb b (code ">")) (stop_cuts (λ x. read (ending false) x) (read_local (ending false) (λ q. refl) l))
+    (cond_cuts (eqb b (code "/")) (stop_cuts (λ x. then (byte (code ">") x) (λ _ m. read (ending true) m)) (less_cuts 0 0 (omega arith) (omega arith) (shut_local l)))
+    (cond_cuts (eqb w 0) (stop_cuts (λ x. refused) (refused_cuts l)) (λ a m e. absurd (go_on_not (attribute (b ∷ l)) a m e)))))
 
 at_goes : (w : ℕ) (l : List ℕ) → Cuts next still 1 0 (attributes_at w) l
-at_goes w [] = λ f m e. let q = at-end w (next f m) e in never cc
+at_goes w [] = λ f m e. let q = at_end_lem w (next f m) e in never cc
 at_goes w (b ∷ l) =
-    cons-cuts (attributes_at w) b
-    (cond-cuts (eqb b (code ">")) (λ f m e. never cc)
-    (cond-cuts (eqb b (code "/")) (λ f m e. never cc)
-    (cond-cuts (eqb w 0) (λ f m e. never cc) (go_on-cuts (λ x. attribute (b ∷ x)) (less-cuts 0 0 (omega arith) (omega arith) (tail-cuts attribute b (attribute-local (b ∷ l))))))))
+    cons_cuts (attributes_at w) b
+    (cond_cuts (eqb b (code ">")) (λ f m e. never cc)
+    (cond_cuts (eqb b (code "/")) (λ f m e. never cc)
+    (cond_cuts (eqb w 0) (λ f m e. never cc) (go_on_cuts (λ x. attribute (b ∷ x)) (less_cuts 0 0 (omega arith) (omega arith) (tail_cuts attribute b (attribute_local (b ∷ l))))))))
 
 -- the step's white space
-step-cuts : {A : Type 0} {put : A → List ℕ → Step (Read Attributes)} → ((w : ℕ) (l : List ℕ) → Cuts put still 1 0 (attributes_at w) l) → (l : List ℕ) → Cuts put still 1 0 attributes_step l
+step_cuts : {A : Type 0} {put : A → List ℕ → Step (Read Attributes)} → ((w : ℕ) (l : List ℕ) → Cuts put still 1 0 (attributes_at w) l) → (l : List ℕ) → Cuts put still 1 0 attributes_step l
 unfolding attributes_step skip_ws
-step-cuts {A} {put} h l =
-    follow attributes_step (λ t y. attributes_at (length t) y) is (run-local is_ws l (front is_ws l) (after is_ws l) refl) refl (h (length (front is_ws l)) (after is_ws l)) (omega arith)
+step_cuts {A} {put} h l =
+    follow attributes_step (λ t y. attributes_at (length t) y) is (run_local is_ws l (front is_ws l) (after is_ws l) refl) refl (h (length (front is_ws l)) (after is_ws l)) (omega arith)
   where
     is : (l t y : List ℕ) → read (front is_ws l) (after is_ws l) ≡ read t y → attributes_at (run_length is_ws l) (after is_ws l) ≡ attributes_at (length t) y
     is l t y e = let a : front is_ws l ≡ t = cc in let b : after is_ws l ≡ y = cc in ap (λ (n : ℕ). attributes_at n (after is_ws l)) (sym (front_length is_ws l) ∙ ap length a) ∙ ap (attributes_at (length t)) b
@@ -119,41 +119,41 @@ at_before w l f y e = go (eqb (get_or l 0 0) (code ">")) (eqb (get_or l 0 0) (co
     go true u v k = never cc
     go false true v k = never cc
     go false false true k = never cc
-    go false false false k = let g = go_on-is (attribute l) f y k in (g.0, g.2)
+    go false false false k = let g = go_on_is (attribute l) f y k in (g.0, g.2)
 
 abbrev first : Pair → Attributes → Attributes
 first p a = record { pairs = p ∷ a.pairs; shut = a.shut }
 
-attributes-goes : (l : List ℕ) (f : Read Attributes → Read Attributes) (y : List ℕ) → attributes_step l ≡ next f y → Goes still attributes_step l f y
+attributes_goes : (l : List ℕ) (f : Read Attributes → Read Attributes) (y : List ℕ) → attributes_step l ≡ next f y → Goes still attributes_step l f y
 unfolding attributes_step
-attributes-goes l f y e = let b = at_before (run_length is_ws l) (skip_ws l) f y e in goes_of (step-cuts at_goes l f y e) (omega arith) (first b.0) b.1 (λ r a. refl)
+attributes_goes l f y e = let b = at_before (run_length is_ws l) (skip_ws l) f y e in goes_of (step_cuts at_goes l f y e) (omega arith) (first b.0) b.1 (λ r a. refl)
 
-pub attributes-less : Shrinks attributes_step
-attributes-less = goes-less attributes_step (step-cuts at_stops) attributes-goes
+pub attributes_less : Shrinks attributes_step
+attributes_less = goes_less attributes_step (step_cuts at_stops) attributes_goes
 
-pub attributes-local : Local still 1 0 attributes
+pub attributes_local : Local still 1 0 attributes
 unfolding attributes
-attributes-local = loop-local attributes_step (step-cuts at_stops) attributes-goes
+attributes_local = loop_local attributes_step (step_cuts at_stops) attributes_goes
 
 -- ---- a start tag
 
-tag_of-local : (n : List ℕ) (a : Attributes) → Local still 0 0 (tag_of n a)
-tag_of-local n a l = cond-cuts (differ a.pairs) (read-local (record { named = n; pairs = a.pairs; shut = a.shut }) (λ q. refl) l) (refused-cuts l)
+tag_of_local : (n : List ℕ) (a : Attributes) → Local still 0 0 (tag_of n a)
+tag_of_local n a l = cond_cuts (differ a.pairs) (read_local (record { named = n; pairs = a.pairs; shut = a.shut }) (λ q. refl) l) (refused_cuts l)
 
-pub tag-local : Local still 3 0 tag
+pub tag_local : Local still 3 0 tag
 unfolding tag
-tag-local =
-    then-local (byte (code "<")) (λ _ m. then (name m) (λ n m. then (attributes m) (tag_of n))) (byte-local (code "<"))
-    (λ _. then-local name (λ n m. then (attributes m) (tag_of n)) name-local
-    (λ n. then-local attributes (tag_of n) attributes-local (tag_of-local n) (omega arith)) (omega arith)) (omega arith)
+tag_local =
+    then_local (byte (code "<")) (λ _ m. then (name m) (λ n m. then (attributes m) (tag_of n))) (byte_local (code "<"))
+    (λ _. then_local name (λ n m. then (attributes m) (tag_of n)) name_local
+    (λ n. then_local attributes (tag_of n) attributes_local (tag_of_local n) (omega arith)) (omega arith)) (omega arith)
 
 -- `<` and the name
-pub tag-opens : (l : List ℕ) (t : Tag) (m : List ℕ) → tag l ≡ read t m → (y : List ℕ) × (l ≡ code "<" ∷ (t.named ++ y)) × IsName t.named
+pub tag_opens : (l : List ℕ) (t : Tag) (m : List ℕ) → tag l ≡ read t m → (y : List ℕ) × (l ≡ code "<" ∷ (t.named ++ y)) × IsName t.named
 unfolding tag
-tag-opens l t m e =
+tag_opens l t m e =
     let p = then_is (byte (code "<") l) (λ _ m. then (name m) (λ n m. then (attributes m) (tag_of n))) e in
     let q = then_is (name p.1) (λ n m. then (attributes m) (tag_of n)) p.3 in
     let r = then_is (attributes q.1) (tag_of q.0) q.3 in
-    let n : q.0 ≡ t.named = ap (λ (t : Tag). t.named) (read-in (cond-is (differ r.0.pairs) r.3).1).0 in
-    let i = name-is p.1 q.0 q.1 q.2 in
-    (q.1, byte-is (code "<") l p.0 p.1 p.2 ∙ ap (λ (s : List ℕ). code "<" ∷ s) (i.2 ∙ ap (λ (s : List ℕ). s ++ q.1) n), subst IsName n i.0)
+    let n : q.0 ≡ t.named = ap (λ (t : Tag). t.named) (read_in (cond_is (differ r.0.pairs) r.3).1).0 in
+    let i = name_is p.1 q.0 q.1 q.2 in
+    (q.1, byte_is (code "<") l p.0 p.1 p.2 ∙ ap (λ (s : List ℕ). code "<" ∷ s) (i.2 ∙ ap (λ (s : List ℕ). s ++ q.1) n), subst IsName n i.0)

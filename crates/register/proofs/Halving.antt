@@ -87,7 +87,7 @@ nowhere f v lo hi a p n =
     other h e = true≢false (sym (ap₂ ◌&&◌ (lt-ltb a hi h) (eq-eqb (f a) v e)) ∙ n)
 
     past : Rises f lo hi → a < hi → v < f a
-    past r h = let z = p.over r a (omega arith) h in ne-lt (f a) v (omega arith) (other h)
+    past r h = let z = p.over r a (omega arith) h in ne_lt (f a) v (omega arith) (other h)
       where
-        ne-lt : (x y : ℕ) → y ≤ x → (x ≡ y → ⊥) → y < x
-        ne-lt x y l g = omega arith
+        ne_lt : (x y : ℕ) → y ≤ x → (x ≡ y → ⊥) → y < x
+        ne_lt x y l g = omega arith

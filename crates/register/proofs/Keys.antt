@@ -15,22 +15,22 @@ use Rattle.rows.specs.Packing.{num, first_bits}
 use Rattle.rows.specs.Ordering.{order_of}
 use Rattle.rows.specs.declared.reader.Order.{Order}
 use Rattle.rows.specs.declared.reader.Order.TheVariants.{Less, Same, More}
-use Rattle.rows.proofs.Ordering.{less-order, same-order, more-order}
+use Rattle.rows.proofs.Ordering.{less_order, same_order, more_order}
 use Rattle.register.specs.Search.{key_at, probe_key}
 use Rattle.register.specs.TakenOutBytes.{stands_at}
 
 -- the first bits of row i, as the code cuts it out
-pub row-key : (w k i : ℕ) (reg : List ℕ) → 4 + w * (i + 1) ≤ length reg → first_bits k (take (4 + w * i + w - (4 + w * i)) (drop (4 + w * i) reg)) ≡ key_at w k reg i
+pub row_key : (w k i : ℕ) (reg : List ℕ) → 4 + w * (i + 1) ≤ length reg → first_bits k (take (4 + w * i + w - (4 + w * i)) (drop (4 + w * i) reg)) ≡ key_at w k reg i
 unfolding key_at
-row-key w k i reg h =
+row_key w k i reg h =
     let e : 4 + w * i + w - (4 + w * i) ≡ w = omega arith in
     let t : List ℕ = take w (drop (4 + w * i) reg) in
     let n : length t ≡ w = length-take-le w (drop (4 + w * i) reg) (rw length-drop (omega arith)) in
     ap (λ (j : ℕ). first_bits k (take j (drop (4 + w * i) reg))) e ∙ ap (λ (j : ℕ). num t / 2 ^ (8 * j - k)) n
 
-pub probe-key : (w k : ℕ) (probe : List ℕ) → length probe ≡ w → first_bits k probe ≡ probe_key w k probe
+pub probe_key_lem : (w k : ℕ) (probe : List ℕ) → length probe ≡ w → first_bits k probe ≡ probe_key w k probe
 unfolding probe_key
-probe-key w k probe e = ap (λ (j : ℕ). num probe / 2 ^ (8 * j - k)) e
+probe_key_lem w k probe e = ap (λ (j : ℕ). num probe / 2 ^ (8 * j - k)) e
 
 -- below, with t 0, or not above, with t 1
 abbrev pub told_below : Order → ℕ → Bool
@@ -39,17 +39,17 @@ told_below Same t = ltb 0 t
 told_below More t = false
 
 pub told_below_lem : (m n t : ℕ) → t ≤ 1 → (o s : Order) → o ≡ order_of m n → o ≡ s → told_below s t ≡ ltb m (n + t)
-told_below_lem m n t h o Less e f = let l : m < n = less-order m n (sym e ∙ f) in sym (lt-ltb m (n + t) (omega arith))
+told_below_lem m n t h o Less e f = let l : m < n = less_order m n (sym e ∙ f) in sym (lt-ltb m (n + t) (omega arith))
 told_below_lem m n t h o Same e f = go (tri 0 t)
   where
     l : m ≡ n
-    l = same-order m n (sym e ∙ f)
+    l = same_order m n (sym e ∙ f)
 
     go : Tri 0 t → ltb 0 t ≡ ltb m (n + t)
     go (below p a b) = a ∙ sym (lt-ltb m (n + t) (omega (arith, l)))
     go (equal p a b) = a ∙ sym (le-ltb m (n + t) (omega (arith, l)))
     go (above p a b) = absurd (omega arith)
-told_below_lem m n t h o More e f = let l : n < m = more-order m n (sym e ∙ f) in sym (le-ltb m (n + t) (omega arith))
+told_below_lem m n t h o More e f = let l : n < m = more_order m n (sym e ∙ f) in sym (le-ltb m (n + t) (omega arith))
 
 abbrev pub told_same : Order → Bool
 told_same Less = false
@@ -57,15 +57,15 @@ told_same Same = true
 told_same More = false
 
 pub told_same_lem : (m n : ℕ) (o s : Order) → o ≡ order_of m n → o ≡ s → told_same s ≡ eqb m n
-told_same_lem m n o Less e f = let l : m < n = less-order m n (sym e ∙ f) in sym (ne_eqb m n (λ g. omega arith))
-told_same_lem m n o Same e f = sym (eq-eqb m n (same-order m n (sym e ∙ f)))
-told_same_lem m n o More e f = let l : n < m = more-order m n (sym e ∙ f) in sym (ne_eqb m n (λ g. omega arith))
+told_same_lem m n o Less e f = let l : m < n = less_order m n (sym e ∙ f) in sym (ne_eqb m n (λ g. omega arith))
+told_same_lem m n o Same e f = sym (eq-eqb m n (same_order m n (sym e ∙ f)))
+told_same_lem m n o More e f = let l : n < m = more_order m n (sym e ∙ f) in sym (ne_eqb m n (λ g. omega arith))
 
-pub not-before : (i hi : ℕ) (b : Bool) → hi ≤ i → false ≡ ltb i hi && b
-not-before i hi b h = rw (le-ltb i hi h)
+pub not_before : (i hi : ℕ) (b : Bool) → hi ≤ i → false ≡ ltb i hi && b
+not_before i hi b h = rw (le-ltb i hi h)
 
-pub before-is : (i hi : ℕ) (a b : Bool) → i < hi → a ≡ b → a ≡ ltb i hi && b
-before-is i hi a b h e = rw (lt-ltb i hi h) e
+pub before_is : (i hi : ℕ) (a b : Bool) → i < hi → a ≡ b → a ≡ ltb i hi && b
+before_is i hi a b h e = rw (lt-ltb i hi h) e
 
-pub stands-in : (w k hi : ℕ) (row a : List ℕ) (i : ℕ) → stands_at w k hi row a i ≡ true → i < hi
-stands-in w k hi row a i e = ltb-true i hi (and_left (ltb i hi) (eqb (key_at w k a i) (probe_key w k row)) e)
+pub stands_in : (w k hi : ℕ) (row a : List ℕ) (i : ℕ) → stands_at w k hi row a i ≡ true → i < hi
+stands_in w k hi row a i e = ltb-true i hi (and_left (ltb i hi) (eqb (key_at w k a i) (probe_key w k row)) e)

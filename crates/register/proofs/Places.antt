@@ -15,13 +15,13 @@ use Rattle.laws.proofs.Order.{Tri, tri}
 use Rattle.laws.proofs.Order.Tri.{below, equal, above}
 use Rattle.model.specs.Map.{Row, Map, Asc, del}
 use Rattle.model.specs.Flow.{State}
-use Rattle.model.proofs.MapPlace.{AllBelow, all-below, cut-asc, del-out}
+use Rattle.model.proofs.MapPlace.{AllBelow, all_below, cut_asc, del_out}
 use Rattle.register.specs.Layout.{Layout, row_in}
 use Rattle.register.specs.Stored.{Laid, Fits, Stored, Group, cases, events, rows_of, key_bits_of, rest_of, key_part, split_of}
 use Rattle.register.specs.Search.{key_at, Rises, Placed}
 use Rattle.register.proofs.From.{from_at}
-use Rattle.register.proofs.MixedKeys.{spare_of, group-bits, few, key_below, key-same, firsts-rise}
-use Rattle.register.proofs.States.{cases-back, events-back}
+use Rattle.register.proofs.MixedKeys.{spare_of, group_bits, few, key_below, key_same, firsts_rise}
+use Rattle.register.proofs.States.{cases_back, events_back}
 use Rattle.register.proofs.Changes.{start_of}
 
 below_at : (k : ℕ) (d : Row ℕ) (m : Map ℕ) (p : ℕ) → AllBelow k m → p < length m → (get_or m p d).key < k
@@ -30,25 +30,25 @@ below_at k d (x ∷ m) zero b h = b.0
 below_at k d (x ∷ m) (suc p) b h = below_at k d m p b.1 (omega arith)
 
 -- later rows have larger keys
-asc-less : (d : Row ℕ) (m : Map ℕ) (p q : ℕ) → Asc 0 m → p < q → q < length m → (get_or m p d).key < (get_or m q d).key
-asc-less d m p q h l g =
+asc_less : (d : Row ℕ) (m : Map ℕ) (p q : ℕ) → Asc 0 m → p < q → q < length m → (get_or m p d).key < (get_or m q d).key
+asc_less d m p q h l g =
     let x : Row ℕ = get_or m q d in
-    let c = cut-asc 0 (take q m) x (drop (suc q) m) (rw (split_at m q d g) at h) in
+    let c = cut_asc 0 (take q m) x (drop (suc q) m) (rw (split_at m q d g) at h) in
     let n : length (take q m) ≡ q = length-take-le q m (omega arith) in
     rw (get_or-take q m p d l) at (below_at x.key d (take q m) p c.1 (omega arith))
 
-pub key-is : (l : Layout) (reg : List ℕ) (k i : ℕ) → key_at l.bytes k reg i ≡ row_in l reg i / 2 ^ (8 * l.bytes - k)
+pub key_is : (l : Layout) (reg : List ℕ) (k i : ℕ) → key_at l.bytes k reg i ≡ row_in l reg i / 2 ^ (8 * l.bytes - k)
 unfolding key_at row_in
-key-is l reg k i = refl
+key_is l reg k i = refl
 
-pub first-is : (g : Group) (l : Layout) (reg : List ℕ) (i : ℕ) → key_at l.bytes (key_bits_of g l) reg i ≡ row_in l reg i / 2 ^ rest_of g l
-first-is cases l reg i = key-is l reg l.case_key i
-first-is events l reg i = key-is l reg l.event_key i
+pub first_is : (g : Group) (l : Layout) (reg : List ℕ) (i : ℕ) → key_at l.bytes (key_bits_of g l) reg i ≡ row_in l reg i / 2 ^ rest_of g l
+first_is cases l reg i = key_is l reg l.case_key i
+first_is events l reg i = key_is l reg l.event_key i
 
 -- a place found by the numbers f is the place by the numbers g, where below by the one is below by the other
 module _ (f g : ℕ → ℕ) (v w lo hi r : ℕ) (alike : (k : ℕ) → (g k < w) ↔ (f k < v)) (rise : Rises f lo hi) (pl : Placed f v lo hi r) where
-  pub under-by : (k : ℕ) → lo ≤ k → k < r → g k < w
-  under-by k a b = (alike k).1 (pl.under rise k a b)
+  pub under_by : (k : ℕ) → lo ≤ k → k < r → g k < w
+  under_by k a b = (alike k).1 (pl.under rise k a b)
 
   pub over_by : (k : ℕ) → r ≤ k → k < hi → w ≤ g k
   over_by k a b = go (tri (g k) w)
@@ -72,44 +72,44 @@ module _ (l : Layout) (lay : Laid l) (g : Group) (reg : List ℕ) (s : State ℕ
       go : (g : Group) (p : ℕ) (d : Row ℕ) → p < length (rows_of g s) → split_of g l (row_in l reg (start_of g s + p)) ≡ get_or (rows_of g s) p d
       go cases p d i =
           sym (from_at (λ j. split_of cases l (row_in l reg j)) 0 (length s.cases) p d i)
-          ∙ ap (λ (m : Map ℕ). get_or m p d) (cases-back l lay reg s h)
+          ∙ ap (λ (m : Map ℕ). get_or m p d) (cases_back l lay reg s h)
       go events p d i =
           sym (from_at (λ j. split_of events l (row_in l reg j)) (length s.cases) (length s.events) p d i)
-          ∙ ap (λ (m : Map ℕ). get_or m p d) (events-back l lay reg s h)
+          ∙ ap (λ (m : Map ℕ). get_or m p d) (events_back l lay reg s h)
 
-  pub key-at : (p : ℕ) (d : Row ℕ) → p < length (rows_of g s) → keys (start_of g s + p) ≡ (get_or (rows_of g s) p d).key
-  key-at p d i =
-      ap (key_part g l) (first-is g l reg (start_of g s + p)) ∙ ap (λ (r : Row ℕ). r.key) (row_at p d i)
+  pub key_at_lem : (p : ℕ) (d : Row ℕ) → p < length (rows_of g s) → keys (start_of g s + p) ≡ (get_or (rows_of g s) p d).key
+  key_at_lem p d i =
+      ap (key_part g l) (first_is g l reg (start_of g s + p)) ∙ ap (λ (r : Row ℕ). r.key) (row_at p d i)
 
-  pub good-rows : Asc 0 (rows_of g s)
-  good-rows = go g
+  pub good_rows : Asc 0 (rows_of g s)
+  good_rows = go g
     where
       go : (g : Group) → Asc 0 (rows_of g s)
       go cases = h.good.0
       go events = h.good.1
 
-  pub fits-rows : Fits g l (rows_of g s)
-  fits-rows = go g
+  pub fits_rows : Fits g l (rows_of g s)
+  fits_rows = go g
     where
       go : (g : Group) → Fits g l (rows_of g s)
       go cases = h.cases_fit
-      go events = h.events-fit
+      go events = h.events_fit
 
   -- the keys rise, as the search supposes
-  pub keys-climb : (p q : ℕ) → start_of g s ≤ p → p < q → q < start_of g s + length (rows_of g s) → keys p < keys q
-  keys-climb p q a b c =
+  pub keys_climb : (p q : ℕ) → start_of g s ≤ p → p < q → q < start_of g s + length (rows_of g s) → keys p < keys q
+  keys_climb p q a b c =
       let d : Row ℕ = record { key = 0; val = 0 } in
       let u : ℕ = p - start_of g s in
       let v : ℕ = q - start_of g s in
       let eu : start_of g s + (p - start_of g s) ≡ p = omega arith in
       let ev : start_of g s + (q - start_of g s) ≡ q = omega arith in
-      let ku : keys p ≡ (get_or (rows_of g s) u d).key = ap keys (sym eu) ∙ key-at u d (omega arith) in
-      let kv : keys q ≡ (get_or (rows_of g s) v d).key = ap keys (sym ev) ∙ key-at v d (omega arith) in
-      let k : (get_or (rows_of g s) u d).key < (get_or (rows_of g s) v d).key = asc-less d (rows_of g s) u v good-rows (omega arith) (omega arith) in
+      let ku : keys p ≡ (get_or (rows_of g s) u d).key = ap keys (sym eu) ∙ key_at_lem u d (omega arith) in
+      let kv : keys q ≡ (get_or (rows_of g s) v d).key = ap keys (sym ev) ∙ key_at_lem v d (omega arith) in
+      let k : (get_or (rows_of g s) u d).key < (get_or (rows_of g s) v d).key = asc_less d (rows_of g s) u v good_rows (omega arith) (omega arith) in
       omega arith
 
-  pub keys-rise : Rises keys (start_of g s) (start_of g s + length (rows_of g s))
-  keys-rise p q a b c = let k = keys-climb p q a b c in omega arith
+  pub keys_rise : Rises keys (start_of g s) (start_of g s + length (rows_of g s))
+  keys_rise p q a b c = let k = keys_climb p q a b c in omega arith
 
   -- ---- by as many bits as a probe's key has
   module _ (p : ℕ) where
@@ -121,18 +121,18 @@ module _ (l : Layout) (lay : Laid l) (g : Group) (reg : List ℕ) (s : State ℕ
 
     pub bits_at : (i : ℕ) → bits i ≡ firsts i / 2 ^ spared
     bits_at i =
-        let e : 8 * l.bytes - (key_bits_of g l - spared) ≡ rest_of g l + spared = omega (arith, few g lay p, group-bits g lay) in
-        key-is l reg (key_bits_of g l - spared) i ∙ ap (λ (k : ℕ). row_in l reg i / 2 ^ k) e
-        ∙ sym (shr-shr (row_in l reg i) (rest_of g l) spared) ∙ ap (λ (q : ℕ). q / 2 ^ spared) (sym (first-is g l reg i))
+        let e : 8 * l.bytes - (key_bits_of g l - spared) ≡ rest_of g l + spared = omega (arith, few g lay p, group_bits g lay) in
+        key_is l reg (key_bits_of g l - spared) i ∙ ap (λ (k : ℕ). row_in l reg i / 2 ^ k) e
+        ∙ sym (shr-shr (row_in l reg i) (rest_of g l) spared) ∙ ap (λ (q : ℕ). q / 2 ^ spared) (sym (first_is g l reg i))
 
     -- a place found by these bits is the place of the key
-    pub bits-placed : (hi i : ℕ) → hi ≡ start_of g s + length (rows_of g s) →
+    pub bits_placed : (hi i : ℕ) → hi ≡ start_of g s + length (rows_of g s) →
         Placed bits (p / 2 ^ spared) (start_of g s) hi i → Placed keys (key_part g l p) (start_of g s) hi i
-    bits-placed hi i eh pl =
+    bits_placed hi i eh pl =
         record {
           low = pl.low;
           high = pl.high;
-          under = λ r. under-by bits keys (p / 2 ^ spared) (key_part g l p) (start_of g s) hi i alike rise pl;
+          under = λ r. under_by bits keys (p / 2 ^ spared) (key_part g l p) (start_of g s) hi i alike rise pl;
           over = λ r. over_by bits keys (p / 2 ^ spared) (key_part g l p) (start_of g s) hi i alike rise pl;
         }
       where
@@ -143,16 +143,16 @@ module _ (l : Layout) (lay : Laid l) (g : Group) (reg : List ℕ) (s : State ℕ
 
         rise : Rises bits (start_of g s) hi
         rise a b x y z =
-            rw (bits_at a, bits_at b) (firsts-rise g l lay (firsts a) (firsts b) (keys-climb a b x y (rw eh at z)) spared)
+            rw (bits_at a, bits_at b) (firsts_rise g l lay (firsts a) (firsts b) (keys_climb a b x y (rw eh at z)) spared)
 
     -- and the row there has them exactly where it has the key
-    pub bits-same : (i : ℕ) → eqb (bits i) (p / 2 ^ spared) ≡ eqb (keys i) (key_part g l p)
-    bits-same i = ap (λ (k : ℕ). eqb k (p / 2 ^ spared)) (bits_at i) ∙ go (tri (keys i) (key_part g l p))
+    pub bits_same : (i : ℕ) → eqb (bits i) (p / 2 ^ spared) ≡ eqb (keys i) (key_part g l p)
+    bits_same i = ap (λ (k : ℕ). eqb k (p / 2 ^ spared)) (bits_at i) ∙ go (tri (keys i) (key_part g l p))
       where
         go : Tri (keys i) (key_part g l p) → eqb (firsts i / 2 ^ spared) (p / 2 ^ spared) ≡ eqb (keys i) (key_part g l p)
-        go (below x _ f) = ne_eqb _ _ (λ e. let v = (key-same g l lay p (firsts i)).1 e in omega arith) ∙ sym f
-        go (equal x _ f) = eq-eqb _ _ ((key-same g l lay p (firsts i)).0 x) ∙ sym f
-        go (above x _ f) = ne_eqb _ _ (λ e. let v = (key-same g l lay p (firsts i)).1 e in omega arith) ∙ sym f
+        go (below x _ f) = ne_eqb _ _ (λ e. let v = (key_same g l lay p (firsts i)).1 e in omega arith) ∙ sym f
+        go (equal x _ f) = eq-eqb _ _ ((key_same g l lay p (firsts i)).0 x) ∙ sym f
+        go (above x _ f) = ne_eqb _ _ (λ e. let v = (key_same g l lay p (firsts i)).1 e in omega arith) ∙ sym f
 
 -- a map in which v is no key, and c rows have smaller keys
 pub record Apart (m : Map ℕ) (v c : ℕ) : Type 0 where
@@ -175,10 +175,10 @@ pub record Within (m : Map ℕ) (v c : ℕ) : Type 0 where
   pub above : Asc (suc row.key) vs
 
 -- what is left without that row
-pub within-out : {m : Map ℕ} {v c : ℕ} (p : Within m v c) → del v m ≡ p.us ++ p.vs
-within-out p =
+pub within_out : {m : Map ℕ} {v c : ℕ} (p : Within m v c) → del v m ≡ p.us ++ p.vs
+within_out p =
     ap₂ (λ (k : ℕ) (x : Map ℕ). del k x) (sym p.is) p.whole
-    ∙ del-out p.us p.row p.vs (subst (λ (k : ℕ). AllBelow k p.us) (sym p.is) p.below) p.above
+    ∙ del_out p.us p.row p.vs (subst (λ (k : ℕ). AllBelow k p.us) (sym p.is) p.below) p.above
 
 module _ (l : Layout) (lay : Laid l) (g : Group) (reg : List ℕ) (s : State ℕ ℕ) (h : Stored l reg s) (v hi i : ℕ)
     (eh : hi ≡ start_of g s + length (rows_of g s)) (pl : Placed (keys l lay g reg s h) v (start_of g s) hi i) where
@@ -192,19 +192,19 @@ module _ (l : Layout) (lay : Laid l) (g : Group) (reg : List ℕ) (s : State ℕ
   c = i - start_of g s
 
   rise : Rises (keys l lay g reg s h) (start_of g s) hi
-  rise = rw eh (keys-rise l lay g reg s h)
+  rise = rw eh (keys_rise l lay g reg s h)
 
   -- a place of the group, from the register's front
   key_of : (p : ℕ) → p < length m → keys l lay g reg s h (start_of g s + p) ≡ (get_or m p none).key
-  key_of p q = key-at l lay g reg s h p none q
+  key_of p q = key_at_lem l lay g reg s h p none q
 
-  cut-length : length (take c m) ≡ c
-  cut-length = length-take-le c m (omega (arith, pl.high))
+  cut_length : length (take c m) ≡ c
+  cut_length = length-take-le c m (omega (arith, pl.high))
 
   cut_below : AllBelow v (take c m)
   cut_below =
-      all-below v none (take c m) (λ p q.
-      let n : p < c = omega (arith, cut-length) in
+      all_below v none (take c m) (λ p q.
+      let n : p < c = omega (arith, cut_length) in
       let k : keys l lay g reg s h (start_of g s + p) ≡ (get_or m p none).key = key_of p (omega (arith, pl.high)) in
       let b : keys l lay g reg s h (start_of g s + p) < v = pl.under rise (start_of g s + p) (omega arith) (omega (arith, pl.low)) in
       rw (get_or-take c m p none n) (omega arith))
@@ -212,10 +212,10 @@ module _ (l : Layout) (lay : Laid l) (g : Group) (reg : List ℕ) (s : State ℕ
   here : c < length m → keys l lay g reg s h i ≡ (get_or m c none).key
   here q = let e : i ≡ start_of g s + c = omega (arith, pl.low) in ap (keys l lay g reg s h) e ∙ key_of c q
 
-  above-cut : (i < hi → keys l lay g reg s h i ≡ v → ⊥) → (ws : Map ℕ) → drop c m ≡ ws → Asc (suc v) ws
+  above_cut : (i < hi → keys l lay g reg s h i ≡ v → ⊥) → (ws : Map ℕ) → drop c m ≡ ws → Asc (suc v) ws
   unfolding Asc
-  above-cut o [] f = tt
-  above-cut o (x ∷ ws) f =
+  above_cut o [] f = tt
+  above_cut o (x ∷ ws) f =
       let n : length m - c ≡ suc (length ws) = sym (length-drop c m) ∙ ap length f in
       let q : i < hi = omega (arith, pl.low, pl.high) in
       let z : c + 0 ≡ c = omega arith in
@@ -224,7 +224,7 @@ module _ (l : Layout) (lay : Laid l) (g : Group) (reg : List ℕ) (s : State ℕ
       let b : v ≤ keys l lay g reg s h i = pl.over rise i (omega arith) q in
       let d : keys l lay g reg s h i ≡ v → ⊥ = o q in
       let w : m ≡ take c m ++ x ∷ ws = sym (take-append-drop c m) ∙ ap (λ (y : Map ℕ). take c m ++ y) f in
-      (omega arith, (cut-asc 0 (take c m) x ws (subst (Asc 0) w (good-rows l lay g reg s h))).2)
+      (omega arith, (cut_asc 0 (take c m) x ws (subst (Asc 0) w (good_rows l lay g reg s h))).2)
 
   pub apart : ltb i hi && eqb (keys l lay g reg s h i) v ≡ false → Apart m v c
   apart e =
@@ -232,9 +232,9 @@ module _ (l : Layout) (lay : Laid l) (g : Group) (reg : List ℕ) (s : State ℕ
         us = take c m;
         vs = drop c m;
         whole = sym (take-append-drop c m);
-        count = cut-length;
+        count = cut_length;
         below = cut_below;
-        above = above-cut other (drop c m) refl;
+        above = above_cut other (drop c m) refl;
       }
     where
       other : i < hi → keys l lay g reg s h i ≡ v → ⊥
@@ -251,8 +251,8 @@ module _ (l : Layout) (lay : Laid l) (g : Group) (reg : List ℕ) (s : State ℕ
         row = get_or m c none;
         vs = drop (suc c) m;
         whole = w;
-        count = cut-length;
+        count = cut_length;
         below = cut_below;
         is = sym (here n) ∙ k;
-        above = (cut-asc 0 (take c m) (get_or m c none) (drop (suc c) m) (subst (Asc 0) w (good-rows l lay g reg s h))).2;
+        above = (cut_asc 0 (take c m) (get_or m c none) (drop (suc c) m) (subst (Asc 0) w (good_rows l lay g reg s h))).2;
       }

@@ -10,11 +10,11 @@ use lib.Pow.{pow-add}
 use lib.Seq.{take_at, drop_at, take-add, drop-drop, length-take-le}
 use Rattle.model.specs.Map.{Row, Map}
 use Rattle.rows.specs.Packing.{num, digits, each, Fit}
-use Rattle.rows.proofs.Bytes.{digits-length, num-digits, digits-num, fit-take, fit-drop, num-lt}
+use Rattle.rows.proofs.Bytes.{digits-length, num-digits, digits-num, fit_take, fit_drop, num_lt}
 use Rattle.register.specs.Layout.{Layout, row_at, row_in}
 use Rattle.register.specs.State.{from, unsplit, rows_bytes}
 use Rattle.register.specs.Stored.{Laid, Group, rest_of, split_of, Fits}
-use Rattle.register.proofs.MixedKeys.{number_of, split_by_lem, row_lt, sizes-by}
+use Rattle.register.proofs.MixedKeys.{number_of, split_by_lem, row_lt, sizes_by}
 
 -- ---- a row as a number
 
@@ -24,31 +24,31 @@ number_lt k w b r e h g = rw (← e, pow-add 2 k w) (digits_lt h g)
 
 -- ---- groups of rows that have their sizes
 
-pub fits-append : (g : Group) (l : Layout) (a b : Map ℕ) → Fits g l a → Fits g l b → Fits g l (a ++ b)
+pub fits_append : (g : Group) (l : Layout) (a b : Map ℕ) → Fits g l a → Fits g l b → Fits g l (a ++ b)
 unfolding Fits
-fits-append g l [] b p q = q
-fits-append g l (x ∷ a) b p q = (p.0, fits-append g l a b p.1 q)
+fits_append g l [] b p q = q
+fits_append g l (x ∷ a) b p q = (p.0, fits_append g l a b p.1 q)
 
-pub fits-left : (g : Group) (l : Layout) (a b : Map ℕ) → Fits g l (a ++ b) → Fits g l a
+pub fits_left : (g : Group) (l : Layout) (a b : Map ℕ) → Fits g l (a ++ b) → Fits g l a
 unfolding Fits
-fits-left g l [] b p = tt
-fits-left g l (x ∷ a) b p = (p.0, fits-left g l a b p.1)
+fits_left g l [] b p = tt
+fits_left g l (x ∷ a) b p = (p.0, fits_left g l a b p.1)
 
-pub fits-right : (g : Group) (l : Layout) (a b : Map ℕ) → Fits g l (a ++ b) → Fits g l b
+pub fits_right : (g : Group) (l : Layout) (a b : Map ℕ) → Fits g l (a ++ b) → Fits g l b
 unfolding Fits
-fits-right g l [] b p = p
-fits-right g l (x ∷ a) b p = fits-right g l a b p.1
+fits_right g l [] b p = p
+fits_right g l (x ∷ a) b p = fits_right g l a b p.1
 
 -- without the rows between
 pub fits_out : (g : Group) (l : Layout) (a m b : Map ℕ) → Fits g l (a ++ (m ++ b)) → Fits g l (a ++ b)
-fits_out g l a m b p = fits-append g l a b (fits-left g l a (m ++ b) p) (fits-right g l m b (fits-right g l a (m ++ b) p))
+fits_out g l a m b p = fits_append g l a b (fits_left g l a (m ++ b) p) (fits_right g l m b (fits_right g l a (m ++ b) p))
 
 module _ (l : Layout) where
-  pub bytes-append : (w : ℕ) (a b : Map ℕ) → rows_bytes l w (a ++ b) ≡ rows_bytes l w a ++ rows_bytes l w b
+  pub bytes_append : (w : ℕ) (a b : Map ℕ) → rows_bytes l w (a ++ b) ≡ rows_bytes l w a ++ rows_bytes l w b
   unfolding rows_bytes
-  bytes-append w [] b = refl
-  bytes-append w (r ∷ a) b =
-      ap (λ (x : List ℕ). digits l.bytes (unsplit w r) ++ x) (bytes-append w a b)
+  bytes_append w [] b = refl
+  bytes_append w (r ∷ a) b =
+      ap (λ (x : List ℕ). digits l.bytes (unsplit w r) ++ x) (bytes_append w a b)
       ∙ sym (append_assoc (digits l.bytes (unsplit w r)) (rows_bytes l w a) (rows_bytes l w b))
 
   pub bytes-length : (w : ℕ) (m : Map ℕ) → length (rows_bytes l w m) ≡ l.bytes * length m
@@ -101,17 +101,17 @@ module _ (l : Layout) where
         let e : row_at l (suc i) ≡ row_at l i + l.bytes = omega arith in
         let s : l.bytes + l.bytes * k ≡ l.bytes * suc k = omega arith in
         ap₂ (λ (x y : List ℕ). x ++ y)
-        (ap (digits l.bytes) (number_of g l (num t)) ∙ ap (λ (n : ℕ). digits n (num t)) (sym lt) ∙ digits-num t (fit-take 8 l.bytes (drop (row_at l i) reg) (fit-drop 8 (row_at l i) reg f)))
+        (ap (digits l.bytes) (number_of g l (num t)) ∙ ap (λ (n : ℕ). digits n (num t)) (sym lt) ∙ digits-num t (fit_take 8 l.bytes (drop (row_at l i) reg) (fit_drop 8 (row_at l i) reg f)))
         (ih ∙ ap (λ (n : ℕ). take (l.bytes * k) (drop n reg)) e ∙ ap (take (l.bytes * k)) (sym (drop-drop l.bytes (row_at l i) reg)))
         ∙ sym (take-add l.bytes (l.bytes * k) (drop (row_at l i) reg))
         ∙ ap (λ (n : ℕ). take n (drop (row_at l i) reg)) s
 
     -- rows that were read have their sizes
-    pub fits-back : Laid l → (reg : List ℕ) (i n : ℕ) → Fit (each 8 reg) → row_at l (i + n) ≤ length reg → Fits g l (from (λ j. split_of g l (row_in l reg j)) i n)
+    pub fits_back : Laid l → (reg : List ℕ) (i n : ℕ) → Fit (each 8 reg) → row_at l (i + n) ≤ length reg → Fits g l (from (λ j. split_of g l (row_in l reg j)) i n)
     unfolding from Fits row_in
-    fits-back lay reg i zero f h = tt
-    fits-back lay reg i (suc n) f h =
+    fits_back lay reg i zero f h = tt
+    fits_back lay reg i (suc n) f h =
         let t : List ℕ = take l.bytes (drop (row_at l i) reg) in
         let lt : length t ≡ l.bytes = length-take-le l.bytes (drop (row_at l i) reg) (rw length-drop (omega arith)) in
-        let u : num t < 2 ^ (8 * l.bytes) = rw lt at (num-lt t (fit-take 8 l.bytes (drop (row_at l i) reg) (fit-drop 8 (row_at l i) reg f))) in
-        (sizes-by g l lay (num t) u, fits-back lay reg (suc i) n f (omega arith))
+        let u : num t < 2 ^ (8 * l.bytes) = rw lt at (num_lt t (fit_take 8 l.bytes (drop (row_at l i) reg) (fit_drop 8 (row_at l i) reg f))) in
+        (sizes_by g l lay (num t) u, fits_back lay reg (suc i) n f (omega arith))

@@ -10,34 +10,34 @@ use Rattle.register.specs.Gap.{opened_wide}
 use Rattle.register.specs.Moves.{on_part, opened_by, closed_up}
 
 module _ (x y z : List ℕ) (a k : ℕ) (e : length x ≡ a) (f : length y ≡ k) where
-  pub mid-seam : take k (drop a (x ++ (y ++ z))) ≡ y
-  mid-seam = ap (take k) (drop_at x (y ++ z) a e) ∙ take_at y z k f
+  pub mid_seam : take k (drop a (x ++ (y ++ z))) ≡ y
+  mid_seam = ap (take k) (drop_at x (y ++ z) a e) ∙ take_at y z k f
 
-  pub post-seam : drop k (drop a (x ++ (y ++ z))) ≡ z
-  post-seam = ap (drop k) (drop_at x (y ++ z) a e) ∙ drop_at y z k f
+  pub post_seam : drop k (drop a (x ++ (y ++ z))) ≡ z
+  post_seam = ap (drop k) (drop_at x (y ++ z) a e) ∙ drop_at y z k f
 
   -- what stands in the place of the part
-  pub put-seam : (t : List ℕ) → put_mid a k (x ++ (y ++ z)) t ≡ x ++ (t ++ z)
-  put-seam t =
+  pub put_seam : (t : List ℕ) → put_mid a k (x ++ (y ++ z)) t ≡ x ++ (t ++ z)
+  put_seam t =
       ap (λ (l : List ℕ). l ++ (t ++ drop k (drop a (x ++ (y ++ z))))) (take_at x (y ++ z) a e)
-      ∙ ap (λ (l : List ℕ). x ++ (t ++ l)) post-seam
+      ∙ ap (λ (l : List ℕ). x ++ (t ++ l)) post_seam
 
-  pub on-seam : (g : List ℕ → List ℕ) → on_part g a k (x ++ (y ++ z)) ≡ x ++ (g y ++ z)
+  pub on_seam : (g : List ℕ → List ℕ) → on_part g a k (x ++ (y ++ z)) ≡ x ++ (g y ++ z)
   unfolding on_part
-  on-seam g = put-seam (g (take k (drop a (x ++ (y ++ z))))) ∙ ap (λ (l : List ℕ). x ++ (g l ++ z)) mid-seam
+  on_seam g = put_seam (g (take k (drop a (x ++ (y ++ z))))) ∙ ap (λ (l : List ℕ). x ++ (g l ++ z)) mid_seam
 
-pub zeros-split : (k z : ℕ) → k ≤ z → replicate {A = ℕ} z 0 ≡ replicate k 0 ++ replicate (z - k) 0
-zeros-split k z h =
+pub zeros_split : (k z : ℕ) → k ≤ z → replicate {A = ℕ} z 0 ≡ replicate k 0 ++ replicate (z - k) 0
+zeros_split k z h =
     let e : z ≡ k + (z - k) = omega arith in
     ap (λ (n : ℕ). replicate {A = ℕ} n 0) e ∙ sym (replicate-append-replicate {A = ℕ} k (z - k) 0)
 
 -- w bytes go from between x and y, and zeros come in behind y
 module _ (x row y t : List ℕ) (w a k : ℕ) (ex : length x ≡ a) (er : length row ≡ w) (ek : length y + w ≡ k) where
-  pub closes-part : on_part (closed_up w) a k (x ++ (row ++ (y ++ t))) ≡ x ++ (y ++ (replicate w 0 ++ t))
+  pub closes_part : on_part (closed_up w) a k (x ++ (row ++ (y ++ t))) ≡ x ++ (y ++ (replicate w 0 ++ t))
   unfolding closed_up
-  closes-part =
+  closes_part =
       ap (λ (l : List ℕ). on_part (closed_up w) a k (x ++ l)) (sym (append_assoc row y t))
-      ∙ on-seam x (row ++ y) t a k ex (length-append row y ∙ omega arith) (closed_up w)
+      ∙ on_seam x (row ++ y) t a k ex (length-append row y ∙ omega arith) (closed_up w)
       ∙ ap (λ (l : List ℕ). x ++ ((l ++ replicate w 0) ++ t)) (drop_at row y w er)
       ∙ ap (λ (l : List ℕ). x ++ l) (append_assoc y (replicate w 0) t)
 
@@ -51,19 +51,19 @@ module _ (x row y : List ℕ) (w a k z : ℕ) (ex : length x ≡ a) (er : length
       let lk : length p ≡ k = lp ∙ ek in
       let t : length y ≡ length p - length row = omega arith in
       ap (λ (l : List ℕ). on_part (opened_by row) a k (x ++ l))
-      (ap (λ (l : List ℕ). y ++ l) (zeros-split w z h) ∙ sym (append_assoc y (replicate w 0) (replicate (z - w) 0)))
-      ∙ on-seam x p (replicate (z - w) 0) a k ex lk (opened_by row)
+      (ap (λ (l : List ℕ). y ++ l) (zeros_split w z h) ∙ sym (append_assoc y (replicate w 0) (replicate (z - w) 0)))
+      ∙ on_seam x p (replicate (z - w) 0) a k ex lk (opened_by row)
       ∙ ap (λ (l : List ℕ). x ++ ((row ++ l) ++ replicate (z - w) 0)) (take_at y (replicate w 0) (length p - length row) t)
       ∙ ap (λ (l : List ℕ). x ++ l) (append_assoc row y (replicate (z - w) 0))
 
   pub closes : on_part (closed_up w) a k (x ++ (row ++ (y ++ replicate (z - w) 0))) ≡ x ++ (y ++ replicate z 0)
-  closes = closes-part x row y (replicate (z - w) 0) w a k ex er ek ∙ ap (λ (l : List ℕ). x ++ (y ++ l)) (sym (zeros-split w z h))
+  closes = closes_part x row y (replicate (z - w) 0) w a k ex er ek ∙ ap (λ (l : List ℕ). x ++ (y ++ l)) (sym (zeros_split w z h))
 
 -- the shift by w, and then the last w bytes cleared
-pub shifts-closed : (w : ℕ) (p q z : List ℕ) → w ≤ length p → q ≡ drop w p ++ drop (length p - w) p
+pub shifts_closed : (w : ℕ) (p q z : List ℕ) → w ≤ length p → q ≡ drop w p ++ drop (length p - w) p
     → z ≡ replicate (length (take (length q - (length q - w)) (drop (length q - w) q))) 0
     → put_mid (length q - w) (length q - (length q - w)) q z ≡ drop w p ++ replicate w 0
-shifts-closed w p q z h e f =
+shifts_closed w p q z h e f =
     let x : List ℕ = drop w p in
     let y : List ℕ = drop (length p - w) p in
     let eq : q ≡ x ++ (y ++ []) = e ∙ ap (λ (l : List ℕ). x ++ l) (sym (append-nil y)) in
@@ -73,26 +73,26 @@ shifts-closed w p q z h e f =
     let a : length x ≡ length q - w = omega arith in
     let k : length y ≡ length q - (length q - w) = omega arith in
     let m : take (length q - (length q - w)) (drop (length q - w) q) ≡ y
-    = ap (λ (l : List ℕ). take (length q - (length q - w)) (drop (length q - w) l)) eq ∙ mid-seam x y [] (length q - w) (length q - (length q - w)) a k in
+    = ap (λ (l : List ℕ). take (length q - (length q - w)) (drop (length q - w) l)) eq ∙ mid_seam x y [] (length q - w) (length q - (length q - w)) a k in
     let fz : z ≡ replicate w 0 = f ∙ ap (λ (l : List ℕ). replicate (length l) 0) m ∙ ap (λ (n : ℕ). replicate n 0) ly in
     ap (λ (l : List ℕ). put_mid (length q - w) (length q - (length q - w)) l z) eq
-    ∙ put-seam x y [] (length q - w) (length q - (length q - w)) a k z
+    ∙ put_seam x y [] (length q - w) (length q - (length q - w)) a k z
     ∙ ap (λ (l : List ℕ). x ++ l) (append-nil z ∙ fz)
 
 -- the shift by w, and then a row over the first w bytes
-pub shifts-opened : (w : ℕ) (p q z row : List ℕ) → w ≤ length p → length row ≡ w → q ≡ take w p ++ take (length p - w) p → z ≡ row
+pub shifts_opened : (w : ℕ) (p q z row : List ℕ) → w ≤ length p → length row ≡ w → q ≡ take w p ++ take (length p - w) p → z ≡ row
     → z ++ drop w q ≡ opened_by row p
 unfolding opened_by
-shifts-opened w p q z row h er e f =
+shifts_opened w p q z row h er e f =
     ap₂ (λ (x y : List ℕ). x ++ drop w y) f e
     ∙ ap (λ (l : List ℕ). row ++ l) (drop_at (take w p) (take (length p - w) p) w (length-take-le w p h))
     ∙ ap (λ (k : ℕ). row ++ take (length p - k) p) (sym er)
 
 -- the shift by j rows, and then a row over the last of the j in front
-pub shifts-wide : (w j : ℕ) (p q z row : List ℕ) → 0 < j → w * j ≤ length p → q ≡ take (w * j) p ++ take (length p - w * j) p → z ≡ row
+pub shifts_wide : (w j : ℕ) (p q z row : List ℕ) → 0 < j → w * j ≤ length p → q ≡ take (w * j) p ++ take (length p - w * j) p → z ≡ row
     → put_mid (w * j - w) (w * j - (w * j - w)) q z ≡ opened_wide w j row p
 unfolding opened_wide
-shifts-wide w j p q z row h l e f =
+shifts_wide w j p q z row h l e f =
     let x : List ℕ = take (w * (j - 1)) p in
     let y : List ℕ = drop (w * (j - 1)) (take (w * j) p) in
     let t : List ℕ = take (length p - w * j) p in
@@ -105,5 +105,5 @@ shifts-wide w j p q z row h l e f =
     = sym (take-append-drop (w * (j - 1)) (take (w * j) p)) ∙ ap (λ (u : List ℕ). u ++ y) (take-take (w * (j - 1)) (w * j) p (omega arith)) in
     let eq : q ≡ x ++ (y ++ t) = e ∙ ap (λ (u : List ℕ). u ++ t) s ∙ append_assoc x y t in
     ap (λ (u : List ℕ). put_mid (w * j - w) (w * j - (w * j - w)) u z) eq
-    ∙ put-seam x y t (w * j - w) (w * j - (w * j - w)) lx ly z
+    ∙ put_seam x y t (w * j - w) (w * j - (w * j - w)) lx ly z
     ∙ ap (λ (u : List ℕ). x ++ (u ++ t)) f

@@ -51,13 +51,13 @@ shifted_step w p k h l =
 unfoldable pub leftward : ℕ → List ℕ → ℕ → List ℕ
 leftward w p k = take k (drop w p) ++ drop k p
 
-pub leftward-start : (w : ℕ) (p : List ℕ) → p ≡ leftward w p 0
+pub leftward_start : (w : ℕ) (p : List ℕ) → p ≡ leftward w p 0
 unfolding leftward
-leftward-start w p = refl
+leftward_start w p = refl
 
-pub leftward-end : (w : ℕ) (p : List ℕ) → leftward w p (length p - w) ≡ drop w p ++ drop (length p - w) p
+pub leftward_end : (w : ℕ) (p : List ℕ) → leftward w p (length p - w) ≡ drop w p ++ drop (length p - w) p
 unfolding leftward
-leftward-end w p = ap (λ (x : List ℕ). x ++ drop (length p - w) p) (take_all (length p - w) (drop w p) (simp length-drop (omega arith)))
+leftward_end w p = ap (λ (x : List ℕ). x ++ drop (length p - w) p) (take_all (length p - w) (drop w p) (simp length-drop (omega arith)))
 
 leftward-suc : (w : ℕ) (p : List ℕ) (k : ℕ) → k + w < length p → set (leftward w p k) k (get_or (leftward w p k) (k + w) 0) ≡ leftward w p (suc k)
 unfolding leftward
@@ -74,5 +74,5 @@ leftward-suc w p k h =
     ∙ sym (append_snoc (take k q) (get_or q k 0) (drop (suc k) p))
     ∙ ap (λ (x : List ℕ). x ++ drop (suc k) p) (sym (take-suc q k 0 lq))
 
-pub leftward-step : (w : ℕ) (p : List ℕ) (k : ℕ) → k + w < length p → set (leftward w p k) k (get_or (leftward w p k) (k + w) 0) ≡ leftward w p (k + 1)
-leftward-step w p k h = rw (add-one k) (leftward-suc w p k h)
+pub leftward_step : (w : ℕ) (p : List ℕ) (k : ℕ) → k + w < length p → set (leftward w p k) k (get_or (leftward w p k) (k + w) 0) ≡ leftward w p (k + 1)
+leftward_step w p k h = rw (add-one k) (leftward-suc w p k h)

@@ -10,7 +10,7 @@ use lib.Seq.{drop_at}
 use borrow.Author.Tests.{leb-true, le-leb}
 use Rattle.laws.specs.Lists.{all}
 use Rattle.laws.proofs.Truth.{and_left, and_right}
-use Rattle.laws.proofs.Every.{and-tell}
+use Rattle.laws.proofs.Every.{and_tell}
 use Rattle.model.specs.Flow.{State}
 use Rattle.rows.specs.Packing.{each, Fit, digits}
 use Rattle.register.specs.Layout.{Layout, case_rest, event_rest}
@@ -18,20 +18,20 @@ use Rattle.register.specs.RoomAndEmptying.{room}
 use Rattle.register.specs.State.{state_of, rows_bytes, used, encode}
 use Rattle.register.specs.Sound.{ascending, Rules, valid, sound_by}
 use Rattle.register.specs.Stored.{Laid, Stored}
-use Rattle.register.proofs.Ascending.{asc-told}
+use Rattle.register.proofs.Ascending.{asc_told}
 use Rattle.register.proofs.RowBytes.{bytes-length}
-use Rattle.register.proofs.States.{room-holds, state-encode, stored-state}
+use Rattle.register.proofs.States.{room_holds, state_encode, stored_state}
 
-zero-run : (n : ℕ) → all (λ b. eqb b 0) (replicate n 0) ≡ true
+zero_run : (n : ℕ) → all (λ b. eqb b 0) (replicate n 0) ≡ true
 unfolding all
-zero-run zero = refl
-zero-run (suc n) = zero-run n
+zero_run zero = refl
+zero_run (suc n) = zero_run n
 
 -- past its rows an encoding is zero
 module _ (l : Layout) (n : ℕ) (s : State ℕ ℕ) where
-  pub past-rows : drop (used l s) (encode l n s) ≡ replicate (n - used l s) 0
+  pub past_rows : drop (used l s) (encode l n s) ≡ replicate (n - used l s) 0
   unfolding encode
-  past-rows =
+  past_rows =
       let x : List ℕ = digits 2 (length s.cases) ++ digits 2 (length s.events) in
       let c : List ℕ = rows_bytes l (case_rest l) s.cases in
       let e : List ℕ = rows_bytes l (event_rest l) s.events in
@@ -45,20 +45,20 @@ module _ (l : Layout) (n : ℕ) (s : State ℕ ℕ) where
       ∙ ap (drop (used l s)) (sym (append_assoc x (c ++ e) z))
       ∙ drop_at (x ++ (c ++ e)) z (used l s) u
 
-  pub zero-tail : all (λ b. eqb b 0) (drop (used l s) (encode l n s)) ≡ true
-  zero-tail = rw past-rows (zero-run (n - used l s))
+  pub zero_tail : all (λ b. eqb b 0) (drop (used l s) (encode l n s)) ≡ true
+  zero_tail = rw past_rows (zero_run (n - used l s))
 
 -- ---- soundness by any rules
 
 module _ (l : Layout) (lay : Laid l) (rules : Rules) (reg : List ℕ) where
   -- a valid state's bytes are sound
-  pub sound-of : (s : State ℕ ℕ) → Stored l reg s → valid l rules (length reg) s ≡ true → sound_by l rules reg ≡ true
-  sound-of s h v =
-      let e : state_of l reg ≡ s = state-encode l lay reg s h in
+  pub sound_of : (s : State ℕ ℕ) → Stored l reg s → valid l rules (length reg) s ≡ true → sound_by l rules reg ≡ true
+  sound_of s h v =
+      let e : state_of l reg ≡ s = state_encode l lay reg s h in
       let t : all (λ b. eqb b 0) (drop (used l s) reg) ≡ true =
-      ap (λ (r : List ℕ). all (λ b. eqb b 0) (drop (used l s) r)) h.bytes ∙ zero-tail l (length reg) s in
-      and-tell (leb 4 (length reg)) _ (le-leb 4 (length reg) h.long)
-      (and-tell (valid l rules (length reg) (state_of l reg)) _
+      ap (λ (r : List ℕ). all (λ b. eqb b 0) (drop (used l s) r)) h.bytes ∙ zero_tail l (length reg) s in
+      and_tell (leb 4 (length reg)) _ (le-leb 4 (length reg) h.long)
+      (and_tell (valid l rules (length reg) (state_of l reg)) _
       (ap (valid l rules (length reg)) e ∙ v) (ap (λ (x : State ℕ ℕ). all (λ b. eqb b 0) (drop (used l x) reg)) e ∙ t))
 
   module _ (f : Fit (each 8 reg)) (h : sound_by l rules reg ≡ true) where
@@ -68,18 +68,18 @@ module _ (l : Layout) (lay : Laid l) (rules : Rules) (reg : List ℕ) where
     long : 4 ≤ length reg
     long = leb-true 4 (length reg) (and_left (leb 4 (length reg)) _ h)
 
-    pub sound-valid : valid l rules (length reg) (state_of l reg) ≡ true
-    sound-valid = and_left (valid l rules (length reg) (state_of l reg)) (all (λ b. eqb b 0) (drop (used l (state_of l reg)) reg)) rest
+    pub sound_valid : valid l rules (length reg) (state_of l reg) ≡ true
+    sound_valid = and_left (valid l rules (length reg) (state_of l reg)) (all (λ b. eqb b 0) (drop (used l (state_of l reg)) reg)) rest
 
     -- sound bytes hold their state
-    pub sound-stored : Stored l reg (state_of l reg)
-    sound-stored =
+    pub sound_stored : Stored l reg (state_of l reg)
+    sound_stored =
         let s = state_of l reg in
         let k = length s.cases + length s.events in
-        let few : k ≤ room l (length reg) = leb-true k (room l (length reg)) (and_left (leb k (room l (length reg))) _ sound-valid) in
-        let a = and_right (leb k (room l (length reg))) _ sound-valid in
-        let b = and_right (all rules.case_row s.cases && all rules.event-row s.events) _ a in
+        let few : k ≤ room l (length reg) = leb-true k (room l (length reg)) (and_left (leb k (room l (length reg))) _ sound_valid) in
+        let a = and_right (leb k (room l (length reg))) _ sound_valid in
+        let b = and_right (all rules.case_row s.cases && all rules.event_row s.events) _ a in
         let up = and_left (ascending s.cases && ascending s.events) _ b in
-        stored-state l reg f (room-holds l (length reg) k long few).1 lay long few
-        (asc-told s.cases (and_left (ascending s.cases) _ up), asc-told s.events (and_right (ascending s.cases) _ up))
+        stored_state l reg f (room_holds l (length reg) k long few).1 lay long few
+        (asc_told s.cases (and_left (ascending s.cases) _ up), asc_told s.events (and_right (ascending s.cases) _ up))
         (and_right (valid l rules (length reg) (state_of l reg)) (all (λ b. eqb b 0) (drop (used l (state_of l reg)) reg)) rest)

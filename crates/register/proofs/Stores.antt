@@ -10,16 +10,16 @@ use Rattle.laws.proofs.Truth.{and_left, and_right}
 use Rattle.register.specs.RoomAndEmptying.{most_rows}
 
 module _ (w n size : ℕ) (t : Bool) (e : t ≡ leb n most_rows && leb (4 + w * n) size) where
-  pub room-few : t ≡ true → n ≤ most_rows
-  room-few f = leb-true n most_rows (and_left (leb n most_rows) (leb (4 + w * n) size) (sym e ∙ f))
+  pub room_few : t ≡ true → n ≤ most_rows
+  room_few f = leb-true n most_rows (and_left (leb n most_rows) (leb (4 + w * n) size) (sym e ∙ f))
 
   -- the rows up to any of them end within the register
-  pub room-end : t ≡ true → (i : ℕ) → i ≤ n → 4 + w * i ≤ size
-  room-end f i h =
+  pub room_end : t ≡ true → (i : ℕ) → i ≤ n → 4 + w * i ≤ size
+  room_end f i h =
       let z : 4 + w * n ≤ size = leb-true (4 + w * n) size (and_right (leb n most_rows) (leb (4 + w * n) size) (sym e ∙ f)) in
       omega (arith, mul-le-mul_left w h)
 
-  pub room-denied : t ≡ false → n ≤ most_rows → 4 + w * n ≤ size → ⊥
-  room-denied f p q =
+  pub room_denied : t ≡ false → n ≤ most_rows → 4 + w * n ≤ size → ⊥
+  room_denied f p q =
       let z : leb n most_rows && leb (4 + w * n) size ≡ true = rw (le-leb n most_rows p) (le-leb (4 + w * n) size q) in
       true≢false (sym z ∙ sym e ∙ f)

@@ -11,7 +11,7 @@ use borrow.Author.Tests.{ltb-true, lt-ltb}
 use Rattle.laws.specs.Lists.{all}
 use Rattle.laws.proofs.Order.{Tri, below, equal, above, tri}
 use Rattle.laws.proofs.Truth.{and_left, and_right}
-use Rattle.laws.proofs.Every.{Every, every_map, all_told, all_tell, same_truth, and-tell}
+use Rattle.laws.proofs.Every.{Every, every_map, all_told, all_tell, same_truth, and_tell}
 use Rattle.model.specs.Map.{Row, Map}
 use Rattle.rows.specs.Packing.{num}
 use Rattle.register.specs.Layout.{Layout, row_in}
@@ -26,29 +26,29 @@ module _ {A : Type 0} (f : ℕ → A) where
       let e : hi - i ≡ suc (hi - (i + 1)) = omega arith in
       ap (from f i) e ∙ rw add-one
 
-  pub from-none : (i hi : ℕ) → hi ≤ i → from f i (hi - i) ≡ []
+  pub from_none : (i hi : ℕ) → hi ≤ i → from f i (hi - i) ≡ []
   unfolding from
-  from-none i hi h = let e : hi - i ≡ 0 = omega arith in ap (from f i) e
+  from_none i hi h = let e : hi - i ≡ 0 = omega arith in ap (from f i) e
 
   -- what holds of each row of a walk
-  pub from-every : (P : A → Type 0) (i k : ℕ) → ((j : ℕ) → i ≤ j → j < i + k → P (f j)) → Every P (from f i k)
+  pub from_every : (P : A → Type 0) (i k : ℕ) → ((j : ℕ) → i ≤ j → j < i + k → P (f j)) → Every P (from f i k)
   unfolding from
-  from-every P i zero h = tt
-  from-every P i (suc k) h = (h i (omega arith) (omega arith), from-every P (suc i) k (λ j a b. h j (omega arith) (omega arith)))
+  from_every P i zero h = tt
+  from_every P i (suc k) h = (h i (omega arith) (omega arith), from_every P (suc i) k (λ j a b. h j (omega arith) (omega arith)))
 
   -- ---- a test of each row
   module _ (p : A → Bool) (target good : Bool) (i hi : ℕ) (inv : target ≡ all p (from f i (hi - i))) where
-    pub row-good : i < hi → good ≡ p (f i) → good ≡ true → target ≡ all p (from f (i + 1) (hi - (i + 1)))
+    pub row_good : i < hi → good ≡ p (f i) → good ≡ true → target ≡ all p (from f (i + 1) (hi - (i + 1)))
     unfolding all
-    row-good h e g = inv ∙ ap (all p) (from_next i hi h) ∙ rw (sym e ∙ g)
+    row_good h e g = inv ∙ ap (all p) (from_next i hi h) ∙ rw (sym e ∙ g)
 
-    pub row-bad : i < hi → good ≡ p (f i) → good ≡ false → false ≡ target
+    pub row_bad : i < hi → good ≡ p (f i) → good ≡ false → false ≡ target
     unfolding all
-    row-bad h e g = sym (inv ∙ ap (all p) (from_next i hi h) ∙ rw (sym e ∙ g))
+    row_bad h e g = sym (inv ∙ ap (all p) (from_next i hi h) ∙ rw (sym e ∙ g))
 
-    pub rows-done : hi ≤ i → true ≡ target
+    pub rows_done : hi ≤ i → true ≡ target
     unfolding all
-    rows-done h = sym (inv ∙ ap (all p) (from-none i hi h))
+    rows_done h = sym (inv ∙ ap (all p) (from_none i hi h))
 
 -- ---- ascending keys: neighbours suffice
 
@@ -56,14 +56,14 @@ pub climb : (r s : Row ℕ) (m : Map ℕ) → ascending (r ∷ s ∷ m) ≡ (ltb
 unfolding ascending all
 climb r s m =
     same_truth (ascending (r ∷ s ∷ m)) (ltb r.key s.key && ascending (s ∷ m))
-    (λ h. and-tell (ltb r.key s.key) _ (and_left (ltb r.key s.key) _ (and_left (all (λ t. ltb r.key t.key) (s ∷ m)) _ h)) (and_right (all (λ t. ltb r.key t.key) (s ∷ m)) _ h))
+    (λ h. and_tell (ltb r.key s.key) _ (and_left (ltb r.key s.key) _ (and_left (all (λ t. ltb r.key t.key) (s ∷ m)) _ h)) (and_right (all (λ t. ltb r.key t.key) (s ∷ m)) _ h))
     (λ h.
     let a = and_left (ltb r.key s.key) _ h in
     let b = and_right (ltb r.key s.key) _ h in
     let l : r.key < s.key = ltb-true r.key s.key a in
     let u = all_told (λ t. ltb s.key t.key) m (and_left (all (λ t. ltb s.key t.key) m) _ b) in
-    and-tell (all (λ t. ltb r.key t.key) (s ∷ m)) _
-    (and-tell (ltb r.key s.key) _ a (all_tell (λ t. ltb r.key t.key) m (every_map m (λ t e. let k : s.key < t.key = ltb-true s.key t.key e in lt-ltb r.key t.key (omega arith)) u))) b)
+    and_tell (all (λ t. ltb r.key t.key) (s ∷ m)) _
+    (and_tell (ltb r.key s.key) _ a (all_tell (λ t. ltb r.key t.key) m (every_map m (λ t e. let k : s.key < t.key = ltb-true s.key t.key e in lt-ltb r.key t.key (omega arith)) u))) b)
 
 module _ (l : Layout) (w kbits : ℕ) (reg : List ℕ) (e : l.bytes ≡ w) where
   abbrev rows : ℕ → Row ℕ
@@ -74,9 +74,9 @@ module _ (l : Layout) (w kbits : ℕ) (reg : List ℕ) (e : l.bytes ≡ w) where
   unfolding key_at row_in
   key_here k = ap (λ (v : ℕ). num (take v (drop (4 + v * k) reg)) / 2 ^ (8 * w - kbits)) (sym e)
 
-  pub key-there : (k start : ℕ) → start ≡ 4 + w * k → probe_key w kbits (take (start + w - start) (drop start reg)) ≡ (rows k).key
+  pub key_there : (k start : ℕ) → start ≡ 4 + w * k → probe_key w kbits (take (start + w - start) (drop start reg)) ≡ (rows k).key
   unfolding probe_key key_at
-  key-there k start h =
+  key_there k start h =
       let q : start + w - start ≡ w = omega arith in
       ap (λ (v : ℕ). num (take v (drop start reg)) / 2 ^ (8 * w - kbits)) q ∙ ap (λ (v : ℕ). num (take w (drop v reg)) / 2 ^ (8 * w - kbits)) h ∙ key_here k
 
@@ -92,21 +92,21 @@ module _ (l : Layout) (w kbits : ℕ) (reg : List ℕ) (e : l.bytes ≡ w) where
         good ≡ ltb (rows k).key (rows (k + 1)).key
     told g =
         let z : (rows (k + 1)).key + 0 ≡ (rows (k + 1)).key = omega arith in
-        g ∙ ap₂ (λ (a b : ℕ). ltb a (b + 0)) (key_here k) (key-there (k + 1) (4 + w * (k + 1)) refl) ∙ ap (ltb (rows k).key) z
+        g ∙ ap₂ (λ (a b : ℕ). ltb a (b + 0)) (key_here k) (key_there (k + 1) (4 + w * (k + 1)) refl) ∙ ap (ltb (rows k).key) z
 
-    pub climb-on : k + 1 < hi → good ≡ ltb (key_at w kbits reg k) (probe_key w kbits (take (4 + w * (k + 1) + w - (4 + w * (k + 1))) (drop (4 + w * (k + 1)) reg)) + 0) →
+    pub climb_on : k + 1 < hi → good ≡ ltb (key_at w kbits reg k) (probe_key w kbits (take (4 + w * (k + 1) + w - (4 + w * (k + 1))) (drop (4 + w * (k + 1)) reg)) + 0) →
         good ≡ true → target ≡ ascending (from rows (k + 1) (hi - (k + 1)))
-    climb-on h g t = two h ∙ rw (sym (told g) ∙ t)
+    climb_on h g t = two h ∙ rw (sym (told g) ∙ t)
 
-    pub climb-not : k + 1 < hi → good ≡ ltb (key_at w kbits reg k) (probe_key w kbits (take (4 + w * (k + 1) + w - (4 + w * (k + 1))) (drop (4 + w * (k + 1)) reg)) + 0) →
+    pub climb_not : k + 1 < hi → good ≡ ltb (key_at w kbits reg k) (probe_key w kbits (take (4 + w * (k + 1) + w - (4 + w * (k + 1))) (drop (4 + w * (k + 1)) reg)) + 0) →
         good ≡ false → false ≡ target
-    climb-not h g t = sym (two h ∙ rw (sym (told g) ∙ t))
+    climb_not h g t = sym (two h ∙ rw (sym (told g) ∙ t))
 
-    pub climb-done : hi ≤ k + 1 → true ≡ target
+    pub climb_done : hi ≤ k + 1 → true ≡ target
     unfolding ascending all
-    climb-done h = sym (inv ∙ ends (tri hi k))
+    climb_done h = sym (inv ∙ ends (tri hi k))
       where
         ends : Tri hi k → ascending (from rows k (hi - k)) ≡ true
-        ends (below a _ _) = ap ascending (from-none rows k hi (omega arith))
-        ends (equal a _ _) = ap ascending (from-none rows k hi (omega arith))
-        ends (above a _ _) = ap ascending (from_next rows k hi a ∙ ap (λ (m : Map ℕ). rows k ∷ m) (from-none rows (k + 1) hi h))
+        ends (below a _ _) = ap ascending (from_none rows k hi (omega arith))
+        ends (equal a _ _) = ap ascending (from_none rows k hi (omega arith))
+        ends (above a _ _) = ap ascending (from_next rows k hi a ∙ ap (λ (m : Map ℕ). rows k ∷ m) (from_none rows (k + 1) hi h))

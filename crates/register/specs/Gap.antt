@@ -13,8 +13,8 @@ pub record Gap (w i j n : ℕ) (a b : List ℕ) : Type 0 where
   pub opened : b ≡ front ++ (hole ++ (rows ++ back))
   pub front_long : length front ≡ 4 + w * i
   pub rows_long : length front + length rows ≡ 4 + w * n
-  pub lost-long : length lost ≡ w * j
-  pub hole-long : length hole ≡ w * j
+  pub lost_long : length lost ≡ w * j
+  pub hole_long : length hole ≡ w * j
 
 -- a part whose rows have gone j rows on, with a row in the last place of the gap that they leave; as many bytes at its end are gone
 unfoldable pub opened_wide : ℕ → ℕ → List ℕ → List ℕ → List ℕ

@@ -10,7 +10,7 @@ use Rattle.register.specs.State.{state_of, used}
 -- what a flow allows: a case's row, an event's row, and of a case's key the events together
 pub record Rules : Type 0 where
   pub case_row : Row ℕ → Bool
-  pub event-row : Row ℕ → Bool
+  pub event_row : Row ℕ → Bool
   pub together : ℕ → Map ℕ → Bool
 
 -- V5: "Keys ascend strictly"
@@ -26,7 +26,7 @@ module _ (l : Layout) where
   abbrev pub valid : Rules → ℕ → State ℕ ℕ → Bool
   valid rules n s =
       leb (length s.cases + length s.events) (room l n)
-      && ((all rules.case_row s.cases && all rules.event-row s.events)
+      && ((all rules.case_row s.cases && all rules.event_row s.events)
       && ((ascending s.cases && ascending s.events)
       && (all (λ e. has (case_named l e.key) s.cases) s.events
       && all (λ c. rules.together c.key (events_of c.key s.events)) s.cases)))

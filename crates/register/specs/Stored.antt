@@ -9,10 +9,10 @@ use Rattle.register.specs.State.{key_by, encode}
 -- a row has bytes, and both keys lie in it, the case's at the front of the event's
 pub record Laid (l : Layout) : Type 0 where
   pub some_bytes : 1 ≤ l.bytes
-  pub case-first : l.case_key ≤ l.event_key
+  pub case_first : l.case_key ≤ l.event_key
   pub in_row : l.event_key ≤ 8 * l.bytes
   -- the spare bits lie behind the case's key, and the bits before them tell how many they are: no key is the beginning of another
-  pub spare-few : (q : ℕ) → l.spare q ≤ l.event_key - l.case_key
+  pub spare_few : (q : ℕ) → l.spare q ≤ l.event_key - l.case_key
   pub told : (p q : ℕ) → q / 2 ^ l.spare p ≡ p / 2 ^ l.spare p → l.spare q ≡ l.spare p
 
 -- R2: "all cases and then all events": the two groups of rows
@@ -62,7 +62,7 @@ pub record Stored (l : Layout) (reg : List ℕ) (s : State ℕ ℕ) : Type 0 whe
   pub good : Good s
   pub few : length s.cases + length s.events ≤ room l (length reg)
   pub cases_fit : Fits cases l s.cases
-  pub events-fit : Fits events l s.events
+  pub events_fit : Fits events l s.events
   pub long : 4 ≤ length reg
 
 -- the state with other rows in a group

@@ -9,7 +9,7 @@ use lib.ListN.{length, replicate, take, drop, get_or, take-append-drop, length-d
 use lib.Pow.{shr_mono, shr-shr, pow_pos}
 use lib.Seq.{take-suc, take-take, length-take-le}
 use Rattle.rows.specs.Packing.{Field, bits, each, packs, width, Fit, num, field_at, digits, unpacks, values, widths, total, fields, first_bits}
-use Rattle.rows.proofs.Packing.{packs-append, packs-lt, packs-high, unpacks-packs, packs-unpacks}
+use Rattle.rows.proofs.Packing.{packs_append, packs_lt, packs_high, unpacks-packs, packs-unpacks}
 
 pub each_append : (w : ℕ) (cs bs : List ℕ) → each w (cs ++ bs) ≡ each w cs ++ each w bs
 each_append w [] bs = refl
@@ -41,15 +41,15 @@ pub fit_same : (w n v : ℕ) → v < 2 ^ w → Fit (each w (replicate n v))
 fit_same w zero v h = tt
 fit_same w (suc n) v h = (h, fit_same w n v h)
 
-pub fit-drop : (w : ℕ) (k : ℕ) (vs : List ℕ) → Fit (each w vs) → Fit (each w (drop k vs))
-fit-drop w zero vs f = f
-fit-drop w (suc k) [] f = tt
-fit-drop w (suc k) (v ∷ vs) f = fit-drop w k vs f.1
+pub fit_drop : (w : ℕ) (k : ℕ) (vs : List ℕ) → Fit (each w vs) → Fit (each w (drop k vs))
+fit_drop w zero vs f = f
+fit_drop w (suc k) [] f = tt
+fit_drop w (suc k) (v ∷ vs) f = fit_drop w k vs f.1
 
-pub fit-take : (w : ℕ) (k : ℕ) (vs : List ℕ) → Fit (each w vs) → Fit (each w (take k vs))
-fit-take w zero vs f = tt
-fit-take w (suc k) [] f = tt
-fit-take w (suc k) (v ∷ vs) f = (f.0, fit-take w k vs f.1)
+pub fit_take : (w : ℕ) (k : ℕ) (vs : List ℕ) → Fit (each w vs) → Fit (each w (take k vs))
+fit_take w zero vs f = tt
+fit_take w (suc k) [] f = tt
+fit_take w (suc k) (v ∷ vs) f = (f.0, fit_take w k vs f.1)
 
 -- one more of a run, and the room for it
 pub each_take : (w : ℕ) (vs : List ℕ) (i : ℕ) → i < length vs → each w (take (i + 1) vs) ≡ each w (take i vs) ++ (bits w (get_or vs i 0) ∷ [])
@@ -65,17 +65,17 @@ pub run_length : (w k n : ℕ) → length (unpacks (replicate k w) n) ≡ k
 run_length w zero n = refl
 run_length w (suc k) n = ap suc (run_length w k n)
 
-pub run-fit : (w k n : ℕ) → Fit (each w (unpacks (replicate k w) n))
-run-fit w zero n = tt
-run-fit w (suc k) n = (mod-lt _ (pow_pos w), run-fit w k n)
+pub run_fit : (w k n : ℕ) → Fit (each w (unpacks (replicate k w) n))
+run_fit w zero n = tt
+run_fit w (suc k) n = (mod-lt _ (pow_pos w), run_fit w k n)
 
-pub run-fields : (w k n : ℕ) → each w (unpacks (replicate k w) n) ≡ fields (replicate k w) (unpacks (replicate k w) n)
-run-fields w zero n = refl
-run-fields w (suc k) n = ap (λ (l : List Field). bits w (field_at (total (replicate k w)) w n) ∷ l) (run-fields w k n)
+pub run_fields : (w k n : ℕ) → each w (unpacks (replicate k w) n) ≡ fields (replicate k w) (unpacks (replicate k w) n)
+run_fields w zero n = refl
+run_fields w (suc k) n = ap (λ (l : List Field). bits w (field_at (total (replicate k w)) w n) ∷ l) (run_fields w k n)
 
-pub run-total : (w k : ℕ) → total (replicate k w) ≡ w * k
-run-total w zero = sym (mul-zero w)
-run-total w (suc k) = ap (λ (z : ℕ). w + z) (run-total w k) ∙ add_comm w (w * k) ∙ sym (mul-suc w k)
+pub run_total : (w k : ℕ) → total (replicate k w) ≡ w * k
+run_total w zero = sym (mul-zero w)
+run_total w (suc k) = ap (λ (z : ℕ). w + z) (run_total w k) ∙ add_comm w (w * k) ∙ sym (mul-suc w k)
 
 -- ---- bytes
 
@@ -85,64 +85,64 @@ digits-num bs h =
     ap (λ (ws : List ℕ). unpacks ws (num bs)) (sym (each-widths 8 bs)) ∙ unpacks-packs (each 8 bs) 0 h ∙ each-values 8 bs
 
 -- bytes whose number is n are the bytes of n
-pub bytes-are : (bs : List ℕ) (k n : ℕ) → Fit (each 8 bs) → length bs ≡ k → num bs ≡ n → bs ≡ digits k n
-bytes-are bs k n f l e = sym (digits-num bs f) ∙ ap₂ digits l e
+pub bytes_are : (bs : List ℕ) (k n : ℕ) → Fit (each 8 bs) → length bs ≡ k → num bs ≡ n → bs ≡ digits k n
+bytes_are bs k n f l e = sym (digits-num bs f) ∙ ap₂ digits l e
 
 pub digits-length : (k n : ℕ) → length (digits k n) ≡ k
 digits-length k n = run_length 8 k n
 
-pub digits-fit : (k n : ℕ) → Fit (each 8 (digits k n))
-digits-fit k n = run-fit 8 k n
+pub digits_fit : (k n : ℕ) → Fit (each 8 (digits k n))
+digits_fit k n = run_fit 8 k n
 
 pub num-digits : (k n : ℕ) → n < 2 ^ (8 * k) → num (digits k n) ≡ n
 num-digits k n h =
-    ap (λ (l : List Field). packs l 0) (run-fields 8 k n)
+    ap (λ (l : List Field). packs l 0) (run_fields 8 k n)
     ∙ packs-unpacks (replicate k 8) n
-    ∙ ap (λ (w : ℕ). n % 2 ^ w) (run-total 8 k) ∙ mod-eq_of_lt h
+    ∙ ap (λ (w : ℕ). n % 2 ^ w) (run_total 8 k) ∙ mod-eq_of_lt h
 
 -- n bytes make a number of 8 * n bits
-pub num-lt : (bs : List ℕ) → Fit (each 8 bs) → num bs < 2 ^ (8 * length bs)
-num-lt bs f = rw (each_width 8 bs) at (packs-lt (each 8 bs) f)
+pub num_lt : (bs : List ℕ) → Fit (each 8 bs) → num bs < 2 ^ (8 * length bs)
+num_lt bs f = rw (each_width 8 bs) at (packs_lt (each 8 bs) f)
 
 -- one more byte
-pub num-snoc : (cs : List ℕ) (b : ℕ) → num (cs ++ (b ∷ [])) ≡ num cs * 256 + b
+pub num_snoc : (cs : List ℕ) (b : ℕ) → num (cs ++ (b ∷ [])) ≡ num cs * 256 + b
 unfolding packs
-num-snoc cs b = ap (λ (l : List Field). packs l 0) (each_append 8 cs (b ∷ [])) ∙ packs-append (each 8 cs) (each 8 (b ∷ [])) 0
+num_snoc cs b = ap (λ (l : List Field). packs l 0) (each_append 8 cs (b ∷ [])) ∙ packs_append (each 8 cs) (each 8 (b ∷ [])) 0
 
 pub num-take : (bs : List ℕ) (i : ℕ) → i < length bs → num (take (i + 1) bs) ≡ num (take i bs) * 256 + get_or bs i 0
-num-take bs i h = rw (add-one i, take-suc bs i 0 h) (num-snoc (take i bs) (get_or bs i 0))
+num-take bs i h = rw (add-one i, take-suc bs i 0 h) (num_snoc (take i bs) (get_or bs i 0))
 
 -- the first k bytes are the number's high part
 pub prefix : (bs : List ℕ) (k : ℕ) → Fit (each 8 bs) → num bs / 2 ^ (8 * (length bs - k)) ≡ num (take k bs)
 prefix bs k f =
     ap₂ (λ (n e : ℕ). n / 2 ^ e)
-    (ap num (sym (take-append-drop k bs)) ∙ ap (λ (l : List Field). packs l 0) (each_append 8 (take k bs) (drop k bs)) ∙ packs-append (each 8 (take k bs)) (each 8 (drop k bs)) 0)
+    (ap num (sym (take-append-drop k bs)) ∙ ap (λ (l : List Field). packs l 0) (each_append 8 (take k bs) (drop k bs)) ∙ packs_append (each 8 (take k bs)) (each 8 (drop k bs)) 0)
     (ap (λ (n : ℕ). 8 * n) (sym (length-drop k bs)) ∙ sym (each_width 8 (drop k bs)))
-    ∙ packs-high (each 8 (drop k bs)) (num (take k bs)) (fit-drop 8 k bs f)
+    ∙ packs_high (each 8 (drop k bs)) (num (take k bs)) (fit_drop 8 k bs f)
 
 -- the first bytes of the first bytes
-pub prefix-take : (bs : List ℕ) (n k : ℕ) → Fit (each 8 bs) → n ≤ length bs → k ≤ n → num (take n bs) / 2 ^ (8 * (n - k)) ≡ num (take k bs)
-prefix-take bs n k f h l =
-    ap (λ (z : ℕ). num (take n bs) / 2 ^ (8 * (z - k))) (sym (length-take-le n bs h)) ∙ prefix (take n bs) k (fit-take 8 n bs f) ∙ ap num (take-take k n bs l)
+pub prefix_take : (bs : List ℕ) (n k : ℕ) → Fit (each 8 bs) → n ≤ length bs → k ≤ n → num (take n bs) / 2 ^ (8 * (n - k)) ≡ num (take k bs)
+prefix_take bs n k f h l =
+    ap (λ (z : ℕ). num (take n bs) / 2 ^ (8 * (z - k))) (sym (length-take-le n bs h)) ∙ prefix (take n bs) k (fit_take 8 n bs f) ∙ ap num (take-take k n bs l)
 
 -- ---- order
 
 -- of two numbers the one with the greater high part is greater
-pub lt-of-high : (m n k : ℕ) → m / 2 ^ k < n / 2 ^ k → m < n
-lt-of-high m n k h = lt_of_not-le (λ le. not-le_of_lt h (shr_mono k le))
+pub lt_of_high : (m n k : ℕ) → m / 2 ^ k < n / 2 ^ k → m < n
+lt_of_high m n k h = lt_of_not-le (λ le. not-le_of_lt h (shr_mono k le))
 
 -- the first byte that differs decides
-pub first-diff : (a b : List ℕ) (n i : ℕ) → Fit (each 8 a) → Fit (each 8 b) → n ≤ length a → n ≤ length b → i < n
+pub first_diff : (a b : List ℕ) (n i : ℕ) → Fit (each 8 a) → Fit (each 8 b) → n ≤ length a → n ≤ length b → i < n
     → num (take i a) ≡ num (take i b) → get_or a i 0 < get_or b i 0 → num (take n a) < num (take n b)
-first-diff a b n i f g h k l e d =
+first_diff a b n i f g h k l e d =
     let l' : i + 1 ≤ n = omega arith in
-    lt-of-high (num (take n a)) (num (take n b)) (8 * (n - (i + 1)))
-    (rw (prefix-take a n (i + 1) f h l', prefix-take b n (i + 1) g k l') (omega (arith, num-take a i (omega arith), num-take b i (omega arith))))
+    lt_of_high (num (take n a)) (num (take n b)) (8 * (n - (i + 1)))
+    (rw (prefix_take a n (i + 1) f h l', prefix_take b n (i + 1) g k l') (omega (arith, num-take a i (omega arith), num-take b i (omega arith))))
 
 -- the first k bits: whole bytes, and the rest
-pub first-split : (bs : List ℕ) (whole rest : ℕ) → Fit (each 8 bs) → 8 * whole + rest ≤ 8 * length bs
+pub first_split : (bs : List ℕ) (whole rest : ℕ) → Fit (each 8 bs) → 8 * whole + rest ≤ 8 * length bs
     → first_bits (8 * whole + rest) bs ≡ num (take whole bs) * 2 ^ rest + field_at (8 * length bs - (8 * whole + rest)) rest (num bs)
-first-split bs whole rest f h =
+first_split bs whole rest f h =
     let k = 8 * length bs - (8 * whole + rest) in
     let e : 8 * length bs - (8 * whole + rest) + rest ≡ 8 * (length bs - whole) = omega arith in
     sym (div-add-mod' (num bs / 2 ^ k) (2 ^ rest))

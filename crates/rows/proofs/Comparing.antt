@@ -9,8 +9,8 @@ use lib.Pow.{pow_pos}
 use Rattle.rows.specs.Packing.{num, each, Fit, field_at, first_bits}
 use Rattle.rows.specs.Ordering.{order_of}
 use Rattle.rows.specs.declared.reader.Order.{Order}
-use Rattle.rows.proofs.Bytes.{first-split}
-use Rattle.rows.proofs.Ordering.{then_by, order-then}
+use Rattle.rows.proofs.Bytes.{first_split}
+use Rattle.rows.proofs.Ordering.{then_by, order_then}
 
 -- the bits of the last byte that the first k bits reach into
 abbrev pub rest : ℕ → List ℕ → ℕ
@@ -20,14 +20,14 @@ rest k a = field_at (8 * length a - (8 * (k / 8) + k % 8)) (k % 8) (num a)
 split_at : (a : List ℕ) (k : ℕ) → Fit (each 8 a) → k ≤ 8 * length a → first_bits k a ≡ num (take (k / 8) a) * 2 ^ (k % 8) + rest k a
 split_at a k f h =
     let e : k ≡ 8 * (k / 8) + k % 8 = omega arith in
-    ap (λ (z : ℕ). first_bits z a) e ∙ first-split a (k / 8) (k % 8) f (omega arith)
+    ap (λ (z : ℕ). first_bits z a) e ∙ first_split a (k / 8) (k % 8) f (omega arith)
 
 pub by_bits : (a b : List ℕ) (k : ℕ) → Fit (each 8 a) → Fit (each 8 b) → length b ≡ length a → k ≤ 8 * length a
     → order_of (first_bits k a) (first_bits k b) ≡ then_by (order_of (num (take (k / 8) a)) (num (take (k / 8) b))) (order_of (rest k a) (rest k b))
 by_bits a b k f g l h =
     let h' : k ≤ 8 * length b = omega arith in
     ap₂ order_of (split_at a k f h) (split_at b k g h')
-    ∙ order-then _ _ _ _ (2 ^ (k % 8)) (mod-lt _ (pow_pos (k % 8))) (mod-lt _ (pow_pos (k % 8)))
+    ∙ order_then _ _ _ _ (2 ^ (k % 8)) (mod-lt _ (pow_pos (k % 8))) (mod-lt _ (pow_pos (k % 8)))
 
 -- by what comparing the bytes said
 pub by_bytes : (a b : List ℕ) (k : ℕ) → Fit (each 8 a) → Fit (each 8 b) → length b ≡ length a → k ≤ 8 * length a

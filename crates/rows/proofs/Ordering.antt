@@ -11,40 +11,40 @@ use Rattle.rows.specs.declared.reader.Order.{Order}
 use Rattle.rows.specs.declared.reader.Order.TheVariants.{Less, Same, More}
 use Rattle.rows.specs.Ordering.{order_of}
 
-pub order-less : (m n : ℕ) → m < n → order_of m n ≡ Less
+pub order_less : (m n : ℕ) → m < n → order_of m n ≡ Less
 unfolding order_of
-order-less m n h = rw (lt-ltb m n h)
+order_less m n h = rw (lt-ltb m n h)
 
-pub order-more : (m n : ℕ) → n < m → order_of m n ≡ More
+pub order_more : (m n : ℕ) → n < m → order_of m n ≡ More
 unfolding order_of
-order-more m n h = rw (le-ltb m n (le_of_lt h), lt-ltb n m h)
+order_more m n h = rw (le-ltb m n (le_of_lt h), lt-ltb n m h)
 
 pub order_same : (m n : ℕ) → m ≡ n → order_of m n ≡ Same
 unfolding order_of
 order_same m n e = rw (le-ltb m n (omega arith), le-ltb n m (omega arith))
 
 -- back from the order to the numbers
-pub less-order : (m n : ℕ) → order_of m n ≡ Less → m < n
-less-order m n e = go (tri m n)
+pub less_order : (m n : ℕ) → order_of m n ≡ Less → m < n
+less_order m n e = go (tri m n)
   where
     go : Tri m n → m < n
     go (below l _ _) = l
     go (equal l _ _) = let p = order_same m n l in let z : ◌≡◌ {A = ℕ} 0 1 = cc in omega arith
-    go (above l _ _) = let p = order-more m n l in let z : ◌≡◌ {A = ℕ} 0 1 = cc in omega arith
+    go (above l _ _) = let p = order_more m n l in let z : ◌≡◌ {A = ℕ} 0 1 = cc in omega arith
 
-pub same-order : (m n : ℕ) → order_of m n ≡ Same → m ≡ n
-same-order m n e = go (tri m n)
+pub same_order : (m n : ℕ) → order_of m n ≡ Same → m ≡ n
+same_order m n e = go (tri m n)
   where
     go : Tri m n → m ≡ n
-    go (below l _ _) = let p = order-less m n l in let z : ◌≡◌ {A = ℕ} 0 1 = cc in omega arith
+    go (below l _ _) = let p = order_less m n l in let z : ◌≡◌ {A = ℕ} 0 1 = cc in omega arith
     go (equal l _ _) = l
-    go (above l _ _) = let p = order-more m n l in let z : ◌≡◌ {A = ℕ} 0 1 = cc in omega arith
+    go (above l _ _) = let p = order_more m n l in let z : ◌≡◌ {A = ℕ} 0 1 = cc in omega arith
 
-pub more-order : (m n : ℕ) → order_of m n ≡ More → n < m
-more-order m n e = go (tri m n)
+pub more_order : (m n : ℕ) → order_of m n ≡ More → n < m
+more_order m n e = go (tri m n)
   where
     go : Tri m n → n < m
-    go (below l _ _) = let p = order-less m n l in let z : ◌≡◌ {A = ℕ} 0 1 = cc in omega arith
+    go (below l _ _) = let p = order_less m n l in let z : ◌≡◌ {A = ℕ} 0 1 = cc in omega arith
     go (equal l _ _) = let p = order_same m n l in let z : ◌≡◌ {A = ℕ} 0 1 = cc in omega arith
     go (above l _ _) = l
 
@@ -55,15 +55,15 @@ then_by Same o = o
 then_by More o = More
 
 -- numbers of two digits: the high one decides, then the low one
-pub order-then : (p q x y c : ℕ) → x < c → y < c → order_of (p * c + x) (q * c + y) ≡ then_by (order_of p q) (order_of x y)
-order-then p q x y c h k = go (tri p q)
+pub order_then : (p q x y c : ℕ) → x < c → y < c → order_of (p * c + x) (q * c + y) ≡ then_by (order_of p q) (order_of x y)
+order_then p q x y c h k = go (tri p q)
   where
     low : p ≡ q → Tri x y → order_of (p * c + x) (q * c + y) ≡ order_of x y
-    low e (below l _ _) = order-less _ _ (rw e (omega arith)) ∙ sym (order-less x y l)
+    low e (below l _ _) = order_less _ _ (rw e (omega arith)) ∙ sym (order_less x y l)
     low e (equal l _ _) = order_same _ _ (rw (e, l)) ∙ sym (order_same x y l)
-    low e (above l _ _) = order-more _ _ (rw e (omega arith)) ∙ sym (order-more x y l)
+    low e (above l _ _) = order_more _ _ (rw e (omega arith)) ∙ sym (order_more x y l)
 
     go : Tri p q → order_of (p * c + x) (q * c + y) ≡ then_by (order_of p q) (order_of x y)
-    go (below l _ _) = order-less _ _ (lt_of_lt_of_le (digits_lt l h) (le-add_right (q * c) y)) ∙ sym (ap (λ (o : Order). then_by o (order_of x y)) (order-less p q l))
+    go (below l _ _) = order_less _ _ (lt_of_lt_of_le (digits_lt l h) (le-add_right (q * c) y)) ∙ sym (ap (λ (o : Order). then_by o (order_of x y)) (order_less p q l))
     go (equal e _ _) = low e (tri x y) ∙ sym (ap (λ (o : Order). then_by o (order_of x y)) (order_same p q e))
-    go (above l _ _) = order-more _ _ (lt_of_lt_of_le (digits_lt l k) (le-add_right (p * c) x)) ∙ sym (ap (λ (o : Order). then_by o (order_of x y)) (order-more p q l))
+    go (above l _ _) = order_more _ _ (lt_of_lt_of_le (digits_lt l k) (le-add_right (p * c) x)) ∙ sym (ap (λ (o : Order). then_by o (order_of x y)) (order_more p q l))

@@ -11,10 +11,10 @@ use Rattle.rows.proofs.Packing.{window}
 use Rattle.rows.proofs.Bytes.{prefix}
 
 -- the bytes from `first` to `end` are r; of their bits x stand above the field and `below` below it
-pub read-window : (row : List ℕ) (first end x w below r : ℕ) → Fit (each 8 row) → end ≤ length row
+pub read_window : (row : List ℕ) (first end x w below r : ℕ) → Fit (each 8 row) → end ≤ length row
     → 8 * (end - first) ≡ x + w + below → num (take end row) ≡ num (take first row) * 2 ^ (8 * (end - first)) + r
     → r / 2 ^ below % 2 ^ w ≡ field_at (8 * (length row - end) + below) w (num row)
-read-window row first end x w below r f h k e =
+read_window row first end x w below r f h k e =
     sym (
     ap (λ (z : ℕ). z % 2 ^ w) (sym (shr-shr (num row) (8 * (length row - end)) below))
     ∙ ap (λ (z : ℕ). z / 2 ^ below % 2 ^ w) (prefix row end f ∙ e ∙ ap (λ (z : ℕ). num (take first row) * 2 ^ z + r) k)
@@ -32,6 +32,6 @@ got row at w r f h e =
     let k : 8 * (end - first) ≡ at % 8 + w + below = omega arith in
     let place : 8 * (length row - end) + below ≡ 8 * length row - (at + w) = omega arith in
     record {
-      value = read-window row first end (at % 8) w below r f (omega arith) k e ∙ ap (λ (z : ℕ). field_at z w (num row)) place;
+      value = read_window row first end (at % 8) w below r f (omega arith) k e ∙ ap (λ (z : ℕ). field_at z w (num row)) place;
       small = mod-lt _ (pow_pos w);
     }

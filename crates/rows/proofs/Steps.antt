@@ -11,7 +11,7 @@ use lib.Pow.{pow-add, pow_mono, shl_exact, split}
 use lib.Seq.{take-suc-set}
 use Rattle.rows.specs.Packing.{num}
 use Rattle.rows.proofs.Packing.{regroup}
-use Rattle.rows.proofs.Bytes.{num-snoc}
+use Rattle.rows.proofs.Bytes.{num_snoc}
 
 -- `1 << k` is the power
 pub one_shl : (size k : ℕ) → k < size → 1 * 2 ^ k % 2 ^ size ≡ 2 ^ k
@@ -25,18 +25,18 @@ pub more : (n a v h w : ℕ) → n * 2 ^ (h + w) + (a * 2 ^ w + v) ≡ (n * 2 ^ 
 more n a v h w = ap (λ (z : ℕ). n * z + (a * 2 ^ w + v)) (pow-add 2 h w) ∙ sym (regroup n (2 ^ h) (2 ^ w) a v)
 
 -- `(a << w) + v`, where a has h bits, v has w, and the word has room
-pub shl-add : (size a v h w : ℕ) → a < 2 ^ h → h + w ≤ size → a * 2 ^ w % 2 ^ size + v ≡ a * 2 ^ w + v
-shl-add size a v h w p r = ap (λ (z : ℕ). z + v) (shl_exact h w size p r)
+pub shl_add : (size a v h w : ℕ) → a < 2 ^ h → h + w ≤ size → a * 2 ^ w % 2 ^ size + v ≡ a * 2 ^ w + v
+shl_add size a v h w p r = ap (λ (z : ℕ). z + v) (shl_exact h w size p r)
 
-pub shl-add-lt : (size a v h w : ℕ) → a < 2 ^ h → v < 2 ^ w → h + w ≤ size → a * 2 ^ w % 2 ^ size + v < 2 ^ (h + w)
-shl-add-lt size a v h w p q r = rw (shl-add size a v h w p r) (more_lt a v h w p q)
+pub shl_add_lt : (size a v h w : ℕ) → a < 2 ^ h → v < 2 ^ w → h + w ≤ size → a * 2 ^ w % 2 ^ size + v < 2 ^ (h + w)
+shl_add_lt size a v h w p q r = rw (shl_add size a v h w p r) (more_lt a v h w p q)
 
 pub within : (x k m : ℕ) → x < 2 ^ k → k ≤ m → x < 2 ^ m
 within x k m p q = lt_of_lt_of_le p (pow_mono q)
 
 -- a byte stored after the first bytes
 pub stored : (out : List ℕ) (at b : ℕ) → at < length out → num (take (at + 1) (set out at b)) ≡ num (take at out) * 256 + b
-stored out at b h = rw (add-one at, take-suc-set out at b h) (num-snoc (take at out) b)
+stored out at b h = rw (add-one at, take-suc-set out at b h) (num_snoc (take at out) b)
 
 -- the top 8 of k + 8 bits move into the bytes
 pub flushed : (n acc k have : ℕ) → 8 + k ≡ have → (n * 256 + acc / 2 ^ k) * 2 ^ k + acc % 2 ^ k ≡ n * 2 ^ have + acc
@@ -45,9 +45,9 @@ flushed n acc k have e =
     ∙ ap₂ (λ (x y : ℕ). n * x + y) (sym (pow-add 2 8 k) ∙ ap (λ (z : ℕ). 2 ^ z) e) (split acc k)
 
 -- a zero byte below
-pub more-zero : (n k : ℕ) → n * 2 ^ k * 256 + 0 ≡ n * 2 ^ (k + 8)
-more-zero n k = add-zero (n * 2 ^ k * 256) ∙ mul_assoc n (2 ^ k) 256 ∙ ap (λ (z : ℕ). n * z) (sym (pow-add 2 k 8))
+pub more_zero : (n k : ℕ) → n * 2 ^ k * 256 + 0 ≡ n * 2 ^ (k + 8)
+more_zero n k = add-zero (n * 2 ^ k * 256) ∙ mul_assoc n (2 ^ k) 256 ∙ ap (λ (z : ℕ). n * z) (sym (pow-add 2 k 8))
 
 -- a field of w bits shifted in below y, of h bits, which the word x holds
 pub joined : (size x y v h w : ℕ) → x ≡ y → y < 2 ^ h → v < 2 ^ w → h + w ≤ size → (x * 2 ^ w % 2 ^ size + v ≡ y * 2 ^ w + v) × (y * 2 ^ w + v < 2 ^ (h + w))
-joined size x y v h w e p q r = (ap (λ (z : ℕ). z * 2 ^ w % 2 ^ size + v) e ∙ shl-add size y v h w p r, more_lt y v h w p q)
+joined size x y v h w e p q r = (ap (λ (z : ℕ). z * 2 ^ w % 2 ^ size + v) e ∙ shl_add size y v h w p r, more_lt y v h w p q)

@@ -10,7 +10,7 @@ use lib.Pow.{pow-add}
 use Rattle.rows.specs.Packing.{Field, bits, packs, width, num, row_number}
 use Rattle.rows.specs.Writer.{so_far, count, Tidy, Wrote, start}
 use Rattle.rows.specs.declared.writer.Bits.{Bits}
-use Rattle.rows.proofs.Packing.{packs-append, width-append}
+use Rattle.rows.proofs.Packing.{packs_append, width_append}
 
 pub wrote_none : (a : List ℕ) (s : Bits) → Tidy s → Wrote a a s s []
 unfolding packs
@@ -32,8 +32,8 @@ wrote_then {a} {b} {c} {s} {r} {q} {xs} {ys} g h =
     let on-again : r.at ≤ q.at = omega (arith, h.bits, h.tidy.few) in
     record {
       tidy = h.tidy;
-      bits = omega (arith, width-append xs ys);
-      holds = h.holds ∙ ap (packs ys) g.holds ∙ sym (packs-append xs ys (so_far a s));
+      bits = omega (arith, width_append xs ys);
+      holds = h.holds ∙ ap (packs ys) g.holds ∙ sym (packs_append xs ys (so_far a s));
       same = h.same ∙ g.same;
       before = fewer s.at r.at b c on h.before ∙ g.before;
       behind = h.behind ∙ later r.at q.at a b on-again g.behind;
@@ -54,10 +54,10 @@ unfolding packs
 padded n a b c s t h room w e =
     let pad = (8 - s.have) % 8 in
     let few = h.few in
-    let at-end : count t % 8 ≡ 0 = omega (arith, w.bits) in
+    let at_end_lem : count t % 8 ≡ 0 = omega (arith, w.bits) in
     let k : (8 - s.have) % 8 + 8 * (n - t.at) ≡ 8 * n - count s = omega (arith, w.bits, w.tidy.few) in
     e
-    ∙ ap (λ (z : ℕ). z * 2 ^ (8 * (n - t.at))) (sym (even b t w.tidy at-end) ∙ w.holds ∙ add-zero (so_far a s * 2 ^ pad))
+    ∙ ap (λ (z : ℕ). z * 2 ^ (8 * (n - t.at))) (sym (even b t w.tidy at_end_lem) ∙ w.holds ∙ add-zero (so_far a s * 2 ^ pad))
     ∙ mul_assoc (so_far a s) (2 ^ pad) (2 ^ (8 * (n - t.at)))
     ∙ ap (λ (z : ℕ). so_far a s * z) (sym (pow-add 2 pad (8 * (n - t.at))) ∙ ap (λ (z : ℕ). 2 ^ z) k)
 

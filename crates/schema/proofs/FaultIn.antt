@@ -46,20 +46,20 @@ of_node (group h ns) t within = go (attrs_fit [] h.attrs t.pairs) refl (within n
 of_node (another h) t within = inl refl
 
 -- WHAT A FAULT IN A GROUP IS
-pub fault-is : (i : Inside) (ns : Nodes) (k z : ℕ) → GroupFault ns k z i
+pub fault_is : (i : Inside) (ns : Nodes) (k z : ℕ) → GroupFault ns k z i
 unfolding fault_in orderly UnderIn
-fault-is end ns k z = go (enough ns k)
+fault_is end ns k z = go (enough ns k)
   where
     go : (b : Bool) → Fault (λ m c. ⊥) b z (cond b 0 z)
     go true = clean refl
     go false = own refl refl
-fault-is (says t i) ns k z = go (all is_ws t) (fault-is i ns k z)
+fault_is (says t i) ns k z = go (all is_ws t) (fault_is i ns k z)
   where
     go : (b : Bool) → GroupFault ns k z i → Fault (λ m c. UnderIn m c ns k i) (b && orderly ns k i) z (cond b (fault_in ns k z i) z)
     go true q = q
     go false q = own refl refl
-fault-is (note i) ns k z = fault-is i ns k z
-fault-is (elem y n ps j i) ns k z = go (seek n ns k) (λ m. of_node m (mk y n ps j) (λ ms. fault-is j ms 0 y)) (λ ms q. fault-is i ms q z)
+fault_is (note i) ns k z = fault_is i ns k z
+fault_is (elem y n ps j i) ns k z = go (seek n ns k) (λ m. of_node m (mk y n ps j) (λ ms. fault_is j ms 0 y)) (λ ms q. fault_is i ms q z)
   where
     Stands : Seek → Node → Tree → Type 0
     Stands s m c = child_under m c (mk y n ps j) (λ ms. UnderIn m c ms 0 j) (λ ms q. UnderIn m c ms q i) s

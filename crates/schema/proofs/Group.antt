@@ -17,38 +17,38 @@ use Rattle.schema.specs.CountedElements.{count_of}
 use Rattle.schema.specs.Table.{name_at, node_at}
 use Rattle.schema.specs.declared.steps.Step.TheVariants as step
 use Rattle.schema.specs.View.{nodes_from, view_spot, Passes, white, comment, SaysStep}
-use Rattle.schema.proofs.Heads.{nodes-turn, spot-named}
+use Rattle.schema.proofs.Heads.{nodes_turn, spot_named}
 
 -- a child's own fault comes before those that follow it
-child-is : (nd : Node) (ns : Nodes) (c z : ℕ) (t : Tree) (i : Inside)
+child_is : (nd : Node) (ns : Nodes) (c z : ℕ) (t : Tree) (i : Inside)
     → child_fault (λ ms. fault_in ms 0 t.from t.inside) (λ ms c. fault_in ms c z i) z t.from t.pairs t.inside (here nd ns c)
     ≡ first_fault (fault_of nd t) (fault_in (nd ▸ ns) (suc c) z i)
-child-is (leaf h x) ns c z t i = refl
-child-is (group h ms) ns c z t i = refl
-child-is (another h) ns c z t i = refl
+child_is (leaf h x) ns c z t i = refl
+child_is (group h ms) ns c z t i = refl
+child_is (another h) ns c z t i = refl
 
-first-fault : (w f : ℕ) → 0 < w → first_fault w f ≡ w
-first-fault zero f h = absurd (omega arith)
-first-fault (suc w) f h = refl
+first_fault_lem : (w f : ℕ) → 0 < w → first_fault w f ≡ w
+first_fault_lem zero f h = absurd (omega arith)
+first_fault_lem (suc w) f h = refl
 
 module _ (ns : Nodes) (k z : ℕ) (t : Tree) (i : Inside) where
-  kid-here : {nd : Node} {ms : Nodes} {c : ℕ} → here nd ms c ≡ seek t.named ns k → fault_in ns k z (kid_on t i) ≡ first_fault (fault_of nd t) (fault_in (nd ▸ ms) (suc c) z i)
+  kid_here : {nd : Node} {ms : Nodes} {c : ℕ} → here nd ms c ≡ seek t.named ns k → fault_in ns k z (kid_on t i) ≡ first_fault (fault_of nd t) (fault_in (nd ▸ ms) (suc c) z i)
   unfolding fault_in
-  kid-here {nd} {ms} {c} e = rw (← e) (child-is nd ms c z t i)
+  kid_here {nd} {ms} {c} e = rw (← e) (child_is nd ms c z t i)
 
 -- the faults that are the group's
 module _ (ns : Nodes) (k : ℕ) {i : Inside} where
-  pub wrong-end : i ≡ end → enough ns k ≡ false → (z : ℕ) → fault_in ns k z i ≡ z
+  pub wrong_end : i ≡ end → enough ns k ≡ false → (z : ℕ) → fault_in ns k z i ≡ z
   unfolding fault_in
-  wrong-end e h z = rw (e, h)
+  wrong_end e h z = rw (e, h)
 
-  pub wrong-text : {t : List ℕ} {j : Inside} → i ≡ says t j → all is_ws t ≡ false → (z : ℕ) → fault_in ns k z i ≡ z
+  pub wrong_text : {t : List ℕ} {j : Inside} → i ≡ says t j → all is_ws t ≡ false → (z : ℕ) → fault_in ns k z i ≡ z
   unfolding fault_in
-  wrong-text e h z = rw (e, h)
+  wrong_text e h z = rw (e, h)
 
-  pub wrong-child : {t : Tree} {j : Inside} → i ≡ kid_on t j → nowhere ≡ seek t.named ns k → (z : ℕ) → fault_in ns k z i ≡ z
+  pub wrong_child : {t : Tree} {j : Inside} → i ≡ kid_on t j → nowhere ≡ seek t.named ns k → (z : ℕ) → fault_in ns k z i ≡ z
   unfolding fault_in
-  wrong-child e h z = rw (e, ← h)
+  wrong_child e h z = rw (e, ← h)
 
 -- what g makes of it does not depend on texts and comments
 pub record Quiet {R : Type 0} (g : Inside → R) : Type 0 where
@@ -63,47 +63,47 @@ pub record Walk {R : Type 0} (d : ℕ) (n m : List ℕ) (fault : ℕ) (told : R)
   pub tells : g left ≡ told
 
 module _ {R : Type 0} {d : ℕ} {n m : List ℕ} {fault : ℕ} {told : R} {ns : Nodes} {k z : ℕ} {g : Inside → R} {l : List ℕ} (o : Walk d n m fault told ns k z g l) where
-  pub walk-past : o.left ≡ end → enough ns k ≡ true → (fault ≡ 0) × (g end ≡ told)
+  pub walk_past : o.left ≡ end → enough ns k ≡ true → (fault ≡ 0) × (g end ≡ told)
   unfolding fault_in
-  walk-past e h = (sym o.faulty ∙ rw (e, h), ap g (sym e) ∙ o.tells)
+  walk_past e h = (sym o.faulty ∙ rw (e, h), ap g (sym e) ∙ o.tells)
 
-  pub walk-wrong : ((z : ℕ) → fault_in ns k z o.left ≡ z) → fault ≡ z
-  walk-wrong h = sym o.faulty ∙ h z
+  pub walk_wrong : ((z : ℕ) → fault_in ns k z o.left ≡ z) → fault ≡ z
+  walk_wrong h = sym o.faulty ∙ h z
 
-  pub walk-on : Quiet g → {y : List ℕ} (j : Inside) → Passes o.left j → content (element d) n y ≡ read j m → Walk d n m fault told ns k z g y
+  pub walk_on : Quiet g → {y : List ℕ} (j : Inside) → Passes o.left j → content (element d) n y ≡ read j m → Walk d n m fault told ns k z g y
   unfolding fault_in
-  walk-on q j (white t e h) r = record { left = j; reads = r; faulty = sym (rw (e, h)) ∙ o.faulty; tells = sym (q.texts t j) ∙ ap g (sym e) ∙ o.tells }
-  walk-on q j (comment e) r = record { left = j; reads = r; faulty = sym (rw e) ∙ o.faulty; tells = sym (q.notes j) ∙ ap g (sym e) ∙ o.tells }
+  walk_on q j (white t e h) r = record { left = j; reads = r; faulty = sym (rw (e, h)) ∙ o.faulty; tells = sym (q.texts t j) ∙ ap g (sym e) ∙ o.tells }
+  walk_on q j (comment e) r = record { left = j; reads = r; faulty = sym (rw e) ∙ o.faulty; tells = sym (q.notes j) ∙ ap g (sym e) ∙ o.tells }
 
 -- a child, by the rows of a table
 module _ {R : Type 0} (table pool ranges s : List ℕ) (d at first n item : ℕ) {name m : List ℕ} {fault : ℕ} {told : R} {k z : ℕ} {g : Inside → R}
     (o : Walk d name m fault told (nodes_from table pool ranges d first n item) k z g (drop at s)) (j c : ℕ)
     (x : SaysStep s at d name (nodes_from table pool ranges d first n item) k (view_spot table pool ranges d first n) o.left m (step.Child j c)) (h : j < n) where
-  child-named : x.0.named ≡ name_at table pool [] (first + j)
-  child-named = spot-named table pool ranges d (first + j) (nodes_from table pool ranges d first n item) k x.6
+  child_named : x.0.named ≡ name_at table pool [] (first + j)
+  child_named = spot_named table pool ranges d (first + j) (nodes_from table pool ranges d first n item) k x.6
 
-  fault-is : fault ≡ first_fault (fault_of (node_at table pool ranges d (first + j)) x.0) (fault_in (nodes_from table pool ranges d first n j) (c + 1) z x.1)
-  fault-is =
+  fault_is : fault ≡ first_fault (fault_of (node_at table pool ranges d (first + j)) x.0) (fault_in (nodes_from table pool ranges d first n j) (c + 1) z x.1)
+  fault_is =
       sym o.faulty
       ∙ ap (fault_in (nodes_from table pool ranges d first n item) k z) x.3
-      ∙ kid-here (nodes_from table pool ranges d first n item) k z x.0 x.1 x.6
-      ∙ rw (nodes-turn table pool ranges d first n j h, add-one c)
+      ∙ kid_here (nodes_from table pool ranges d first n item) k z x.0 x.1 x.6
+      ∙ rw (nodes_turn table pool ranges d first n j h, add-one c)
 
-  pub walk-fault : {w : ℕ} → (x.0.named ≡ name_at table pool [] (first + j) → (fault_of (node_at table pool ranges d (first + j)) x.0 ≡ w) × (0 < w)) → (fault ≡ w) × (0 < w)
-  walk-fault {w} u =
-      let v = u child-named in
-      (fault-is ∙ rw v.0 (first-fault w (fault_in (nodes_from table pool ranges d first n j) (c + 1) z x.1) v.1), v.1)
+  pub walk_fault : {w : ℕ} → (x.0.named ≡ name_at table pool [] (first + j) → (fault_of (node_at table pool ranges d (first + j)) x.0 ≡ w) × (0 < w)) → (fault ≡ w) × (0 < w)
+  walk_fault {w} u =
+      let v = u child_named in
+      (fault_is ∙ rw v.0 (first_fault_lem w (fault_in (nodes_from table pool ranges d first n j) (c + 1) z x.1) v.1), v.1)
 
   -- after one without fault: g' makes of what follows what g makes of it with the child
-  pub walk-child : (g' : Inside → R) {held : ℕ} {q : List ℕ}
+  pub walk_child : (g' : Inside → R) {held : ℕ} {q : List ℕ}
       → (x.0.named ≡ name_at table pool [] (first + j) → (fault_of (node_at table pool ranges d (first + j)) x.0 ≡ 0) × (held ≡ count_of (node_at table pool ranges d (first + j)) x.0) × (q ≡ x.2))
       → (held ≡ count_of (node_at table pool ranges d (first + j)) x.0 → g (kid_on x.0 x.1) ≡ g' x.1)
       → Walk d name m fault told (nodes_from table pool ranges d first n j) (c + 1) z g' q
-  walk-child g' u e =
-      let v = u child-named in
+  walk_child g' u e =
+      let v = u child_named in
       record {
         left = x.1;
         reads = ap (content (element d) name) v.2 ∙ x.5;
-        faulty = sym (fault-is ∙ rw v.0);
+        faulty = sym (fault_is ∙ rw v.0);
         tells = sym (e v.1) ∙ ap g (sym x.3) ∙ o.tells;
       }

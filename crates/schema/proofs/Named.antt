@@ -7,10 +7,10 @@ use Rattle.markup.specs.Elements.{Tree}
 use Rattle.reading.specs.Everywhere.{Every}
 use Rattle.schema.specs.Shape.{named_in}
 
-pub named-known : (p : Tree → Type 0) (x : List ℕ) (ts : List Tree) → Every p ts → Every p (named_in x ts)
+pub named_known : (p : Tree → Type 0) (x : List ℕ) (ts : List Tree) → Every p ts → Every p (named_in x ts)
 unfolding named_in
-named-known p x [] h = tt
-named-known p x (t ∷ ts) h = go (same x t.named) (named-known p x ts h.1)
+named_known p x [] h = tt
+named_known p x (t ∷ ts) h = go (same x t.named) (named_known p x ts h.1)
   where
     go : (b : Bool) → Every p (named_in x ts) → Every p (cond b (t ∷ named_in x ts) (named_in x ts))
     go true r = (h.0, r)

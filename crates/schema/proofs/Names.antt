@@ -5,7 +5,7 @@ use mathlib.Core.List.{List}
 use native.Mathlib.Omega.{arith}
 use lib.ListN.{take, drop}
 
-pub name-part : (pool : List ℕ) {a b m n : ℕ} → a ≡ b → m ≡ n → take ((a + m) - a) (drop a pool) ≡ take n (drop b pool)
-name-part pool {a} {b} {m} {n} e f =
+pub name_part : (pool : List ℕ) {a b m n : ℕ} → a ≡ b → m ≡ n → take ((a + m) - a) (drop a pool) ≡ take n (drop b pool)
+name_part pool {a} {b} {m} {n} e f =
     let g : (a + m) - a ≡ n = omega arith in
     rw (g, e)

@@ -24,55 +24,55 @@ module _ (table pool ranges : List ℕ) (first n : ℕ) where
   abbrev pub attrs_from : ℕ → List Attr
   attrs_from k = attrs_at table pool ranges (first + k) (n - k)
 
-  pub names-start : names_at table pool ranges first n ≡ names_from 0
-  names-start = rw (add-zero first, sub-zero n)
+  pub names_start : names_at table pool ranges first n ≡ names_from 0
+  names_start = rw (add-zero first, sub-zero n)
 
-  pub attrs-start : attrs_at table pool ranges first n ≡ attrs_from 0
-  attrs-start = rw (add-zero first, sub-zero n)
+  pub attrs_start : attrs_at table pool ranges first n ≡ attrs_from 0
+  attrs_start = rw (add-zero first, sub-zero n)
 
   module _ (f : List ℕ → Bool) (k : ℕ) where
-    pub names-end : n ≤ k → any f (names_from k) ≡ false
+    pub names_end : n ≤ k → any f (names_from k) ≡ false
     unfolding names_at any
-    names-end h = rw (none_left n k h)
+    names_end h = rw (none_left n k h)
 
-    names-turn : k < n → any f (names_from k) ≡ (f (name_at table pool ranges (first + k)) || any f (names_from (k + 1)))
+    names_turn : k < n → any f (names_from k) ≡ (f (name_at table pool ranges (first + k)) || any f (names_from (k + 1)))
     unfolding names_at any
-    names-turn h =
+    names_turn h =
         let e : suc (first + k) ≡ first + (k + 1) = omega arith in
         rw (one_left n k h, e)
 
-    pub names-hit : k < n → true ≡ f (name_at table pool ranges (first + k)) → true ≡ any f (names_from k)
-    names-hit h e = rw (names-turn h, ← e)
+    pub names_hit : k < n → true ≡ f (name_at table pool ranges (first + k)) → true ≡ any f (names_from k)
+    names_hit h e = rw (names_turn h, ← e)
 
-    pub names-pass : k < n → false ≡ f (name_at table pool ranges (first + k)) → any f (names_from k) ≡ any f (names_from (k + 1))
-    names-pass h e = rw (names-turn h, ← e)
+    pub names_pass : k < n → false ≡ f (name_at table pool ranges (first + k)) → any f (names_from k) ≡ any f (names_from (k + 1))
+    names_pass h e = rw (names_turn h, ← e)
 
   module _ (f : Attr → Bool) (k : ℕ) where
-    pub attrs-end : n ≤ k → all f (attrs_from k) ≡ true
+    pub attrs_end : n ≤ k → all f (attrs_from k) ≡ true
     unfolding attrs_at all
-    attrs-end h = rw (none_left n k h)
+    attrs_end h = rw (none_left n k h)
 
-    attrs-turn : k < n → all f (attrs_from k) ≡ (f (attr_at table pool ranges (first + k)) && all f (attrs_from (k + 1)))
+    attrs_turn : k < n → all f (attrs_from k) ≡ (f (attr_at table pool ranges (first + k)) && all f (attrs_from (k + 1)))
     unfolding attrs_at all
-    attrs-turn h =
+    attrs_turn h =
         let e : suc (first + k) ≡ first + (k + 1) = omega arith in
         rw (one_left n k h, e)
 
-    pub attrs-no : k < n → f (attr_at table pool ranges (first + k)) ≡ false → false ≡ all f (attrs_from k)
-    attrs-no h e = rw (attrs-turn h, e)
+    pub attrs_no : k < n → f (attr_at table pool ranges (first + k)) ≡ false → false ≡ all f (attrs_from k)
+    attrs_no h e = rw (attrs_turn h, e)
 
-    pub attrs-pass : k < n → f (attr_at table pool ranges (first + k)) ≡ true → all f (attrs_from k) ≡ all f (attrs_from (k + 1))
-    attrs-pass h e = rw (attrs-turn h, e)
+    pub attrs_pass : k < n → f (attr_at table pool ranges (first + k)) ≡ true → all f (attrs_from k) ≡ all f (attrs_from (k + 1))
+    attrs_pass h e = rw (attrs_turn h, e)
 
 -- one more attribute before those that follow
 module _ (q : Pair → Bool) (p : Pair) (ps : List Pair) where
-  pub pairs-pass : q p ≡ true → all q (p ∷ ps) ≡ all q ps
+  pub pairs_pass : q p ≡ true → all q (p ∷ ps) ≡ all q ps
   unfolding all
-  pairs-pass e = rw e
+  pairs_pass e = rw e
 
-  pub pairs-no : q p ≡ false → false ≡ all q (p ∷ ps)
+  pub pairs_no : q p ≡ false → false ≡ all q (p ∷ ps)
   unfolding all
-  pairs-no e = rw e
+  pairs_no e = rw e
 
 -- one of the names takes the attribute's
 abbrev pub all_taken : Bool → List (List ℕ) → Pair → Bool
@@ -90,50 +90,50 @@ not-not : (a : Bool) → not (not a) ≡ a
 not-not true = refl
 not-not false = refl
 
-pub attr-start : (table pool ranges : List ℕ) (row : ℕ) (ps : List Pair) {x : ℕ} → x ≡ cell table pool ranges row least_cell
+pub attr_start : (table pool ranges : List ℕ) (row : ℕ) (ps : List Pair) {x : ℕ} → x ≡ cell table pool ranges row least_cell
     → attr_after (attr_at table pool ranges row) (eqb x 0) ps ≡ attr_fits ps (attr_at table pool ranges row)
-attr-start table pool ranges row ps {x} e = rw (← e, not-not (eqb x 0))
+attr_start table pool ranges row ps {x} e = rw (← e, not-not (eqb x 0))
 
-pub attr-end : (a : Attr) (seen : Bool) → attr_after a seen [] ≡ seen
+pub attr_end : (a : Attr) (seen : Bool) → attr_after a seen [] ≡ seen
 unfolding any all
-attr-end a true = refl
-attr-end a false = refl
+attr_end a true = refl
+attr_end a false = refl
 
 module _ (a : Attr) (seen : Bool) (p : Pair) (ps : List Pair) where
-  pub attr-next : {v b : Bool} → v ≡ (not (is_named a.named p) || fits_text a.texts p.val) → v ≡ true → b ≡ is_named a.named p → attr_after a seen (p ∷ ps) ≡ attr_after a (seen || b) ps
+  pub attr_next : {v b : Bool} → v ≡ (not (is_named a.named p) || fits_text a.texts p.val) → v ≡ true → b ≡ is_named a.named p → attr_after a seen (p ∷ ps) ≡ attr_after a (seen || b) ps
   unfolding any all
-  attr-next {v} {b} e f g =
+  attr_next {v} {b} e f g =
       let i = sym e ∙ f in
       rw (i, ← g, or_assoc seen b (any (is_named a.named) ps))
 
-  pub attr-no : {v : Bool} → v ≡ (not (is_named a.named p) || fits_text a.texts p.val) → v ≡ false → false ≡ attr_after a seen (p ∷ ps)
+  pub attr_no : {v : Bool} → v ≡ (not (is_named a.named p) || fits_text a.texts p.val) → v ≡ false → false ≡ attr_after a seen (p ∷ ps)
   unfolding any all
-  attr-no e f =
+  attr_no e f =
       let i = sym e ∙ f in
       rw i (sym (and-false (seen || (is_named a.named p || any (is_named a.named) ps))))
 
-pub value-is : (named key x : List ℕ) (u : Bool) (w r : Bool) → u ≡ same named key → u ≡ true → r ≡ w → r ≡ (not (same named key) || w)
-value-is named key x u w r e f g = let i : same named key ≡ true = sym e ∙ f in rw (i, g)
+pub value_is : (named key x : List ℕ) (u : Bool) (w r : Bool) → u ≡ same named key → u ≡ true → r ≡ w → r ≡ (not (same named key) || w)
+value_is named key x u w r e f g = let i : same named key ≡ true = sym e ∙ f in rw (i, g)
 
-pub value-other : (named key : List ℕ) (u w : Bool) → u ≡ same named key → u ≡ false → true ≡ (not (same named key) || w)
-value-other named key u w e f = let i : same named key ≡ false = sym e ∙ f in rw i
+pub value_other : (named key : List ℕ) (u w : Bool) → u ≡ same named key → u ≡ false → true ≡ (not (same named key) || w)
+value_other named key u w e f = let i : same named key ≡ false = sym e ∙ f in rw i
 
 -- the names of the attributes' rows are the rows' names
-names-attrs : (table pool ranges key : List ℕ) (first n : ℕ)
+names_attrs : (table pool ranges key : List ℕ) (first n : ℕ)
     → any (λ x. takes false x key) (names_at table pool ranges first n) ≡ any (λ (a : Attr). same a.named key) (attrs_at table pool ranges first n)
 unfolding names_at attrs_at any
-names-attrs table pool ranges key first zero = refl
-names-attrs table pool ranges key first (suc n) =
-    ap (λ (b : Bool). same (name_at table pool ranges first) key || b) (names-attrs table pool ranges key (suc first) n)
+names_attrs table pool ranges key first zero = refl
+names_attrs table pool ranges key first (suc n) =
+    ap (λ (b : Bool). same (name_at table pool ranges first) key || b) (names_attrs table pool ranges key (suc first) n)
 
 all_same : (f g : Pair → Bool) (ps : List Pair) → ((p : Pair) → f p ≡ g p) → all f ps ≡ all g ps
 unfolding all
 all_same f g [] h = refl
 all_same f g (p ∷ ps) h = rw (h p, all_same f g ps h)
 
-or-none : (a : Bool) → a ≡ (a || false)
-or-none true = refl
-or-none false = refl
+or_none : (a : Bool) → a ≡ (a || false)
+or_none true = refl
+or_none false = refl
 
 module _ (table pool ranges : List ℕ) (first n : ℕ) (ps : List Pair) where
   known_is : all (λ p. any (λ x. takes false x p.key) (names_at table pool ranges first n)) ps
@@ -142,17 +142,17 @@ module _ (table pool ranges : List ℕ) (first n : ℕ) (ps : List Pair) where
   known_is =
       all_same (λ p. any (λ x. takes false x p.key) (names_at table pool ranges first n))
       (λ p. any (λ (a : Attr). is_named a.named p) (attrs_at table pool ranges first n) || any (λ f. begins f p.key) []) ps
-      (λ p. names-attrs table pool ranges p.key first n ∙ or-none (any (λ (a : Attr). is_named a.named p) (attrs_at table pool ranges first n)))
+      (λ p. names_attrs table pool ranges p.key first n ∙ or_none (any (λ (a : Attr). is_named a.named p) (attrs_at table pool ranges first n)))
 
-  pub attrs-yes : {v r : Bool} → v ≡ all (attr_fits ps) (attrs_at table pool ranges first n) → v ≡ true
+  pub attrs_yes : {v r : Bool} → v ≡ all (attr_fits ps) (attrs_at table pool ranges first n) → v ≡ true
       → r ≡ all (λ p. any (λ x. takes false x p.key) (names_at table pool ranges first n)) ps → r ≡ attrs_fit [] (attrs_at table pool ranges first n) ps
-  attrs-yes e f g =
+  attrs_yes e f g =
       let i = sym e ∙ f in
       rw i (g ∙ known_is)
 
-  pub attrs-bad : {v : Bool} → v ≡ all (attr_fits ps) (attrs_at table pool ranges first n) → v ≡ false → false ≡ attrs_fit [] (attrs_at table pool ranges first n) ps
-  attrs-bad e f = let i = sym e ∙ f in rw i
+  pub attrs_bad : {v : Bool} → v ≡ all (attr_fits ps) (attrs_at table pool ranges first n) → v ≡ false → false ≡ attrs_fit [] (attrs_at table pool ranges first n) ps
+  attrs_bad e f = let i = sym e ∙ f in rw i
 
-  pub attrs-root : all (λ p. any (λ x. takes true x p.key) (names_at table pool ranges first n)) ps ≡ attrs_fit (names_at table pool ranges first n) [] ps
+  pub attrs_root : all (λ p. any (λ x. takes true x p.key) (names_at table pool ranges first n)) ps ≡ attrs_fit (names_at table pool ranges first n) [] ps
   unfolding all any
-  attrs-root = refl
+  attrs_root = refl

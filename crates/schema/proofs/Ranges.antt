@@ -15,9 +15,9 @@ use Rattle.codes.specs.CodesAndCharacters.{Range, in_ranges}
 use Rattle.schema.specs.Table.{ranges_at}
 use Rattle.schema.specs.View.{Near}
 
-pub near-test : (a b x y : ℕ) → b < 65536 → Near x y → (leb a x && leb x b) ≡ (leb a y && leb y b)
-near-test a b x y h (inl e) = rw e
-near-test a b x y h (inr e) =
+pub near_test : (a b x y : ℕ) → b < 65536 → Near x y → (leb a x && leb x b) ≡ (leb a y && leb y b)
+near_test a b x y h (inl e) = rw e
+near_test a b x y h (inr e) =
     let p : leb x b ≡ false = lt-leb x b (omega arith) in
     let q : leb y b ≡ false = lt-leb y b (omega arith) in
     rw (p, q, and-false (leb a x), and-false (leb a y))
@@ -34,22 +34,22 @@ module _ (t p ranges : List ℕ) (first n : ℕ) where
   abbrev pub ranges_from : ℕ → List Range
   ranges_from k = ranges_at t p ranges (first + k) (n - k)
 
-  pub ranges-start : ranges_at t p ranges first n ≡ ranges_from 0
-  ranges-start = rw (add-zero first, sub-zero n)
+  pub ranges_start : ranges_at t p ranges first n ≡ ranges_from 0
+  ranges_start = rw (add-zero first, sub-zero n)
 
-  pub ranges-end : (k y : ℕ) → n ≤ k → in_ranges (ranges_from k) y ≡ false
+  pub ranges_end : (k y : ℕ) → n ≤ k → in_ranges (ranges_from k) y ≡ false
   unfolding ranges_at any
-  ranges-end k y h = rw (none_left n k h)
+  ranges_end k y h = rw (none_left n k h)
 
   module _ (k x y : ℕ) {a b : ℕ} (h : k < n) (u : a ≡ get_or ranges (2 * (first + k)) 0) (v : b ≡ get_or ranges (2 * (first + k) + 1) 0) (small : b < 65536) (near : Near x y) where
     turn : in_ranges (ranges_from k) y ≡ ((leb a x && leb x b) || in_ranges (ranges_from (k + 1)) y)
     unfolding ranges_at any
     turn =
         let e : suc (first + k) ≡ first + (k + 1) = omega arith in
-        rw (one_left n k h, ← u, ← v, e, near-test a b x y small near)
+        rw (one_left n k h, ← u, ← v, e, near_test a b x y small near)
 
-    pub ranges-hit : (leb a x && leb x b) ≡ true → true ≡ in_ranges (ranges_from k) y
-    ranges-hit e = rw (turn, e)
+    pub ranges_hit : (leb a x && leb x b) ≡ true → true ≡ in_ranges (ranges_from k) y
+    ranges_hit e = rw (turn, e)
 
-    pub ranges-pass : (leb a x && leb x b) ≡ false → in_ranges (ranges_from k) y ≡ in_ranges (ranges_from (k + 1)) y
-    ranges-pass e = rw (turn, e)
+    pub ranges_pass : (leb a x && leb x b) ≡ false → in_ranges (ranges_from k) y ≡ in_ranges (ranges_from (k + 1)) y
+    ranges_pass e = rw (turn, e)

@@ -15,10 +15,10 @@ use Rattle.markup.specs.Tags.{Pair, Attributes, attributes, differ, Tag, tag_of,
 use Rattle.markup.specs.Elements.{Inside, Tree, content, element, mk}
 use Rattle.markup.specs.Elements.Inside.{end}
 use Rattle.markup.specs.View.{part}
-use Rattle.reading.proofs.Cut.{never, then_is, cond-is, read-in}
-use Rattle.reading.proofs.Leaves.{name-is}
+use Rattle.reading.proofs.Cut.{never, then_is, cond_is, read_in}
+use Rattle.reading.proofs.Leaves.{name_is}
 use Rattle.reading.proofs.Steps.{built}
-use Rattle.reading.proofs.Shrink.{element-shrinks}
+use Rattle.reading.proofs.Shrink.{element_shrinks}
 
 -- from the name on: the attributes and what they end with, and what stands between the tags
 pub record Tagged (d : ℕ) (s : List ℕ) (at : ℕ) (t : Tree) (m : List ℕ) : Type 0 where
@@ -41,14 +41,14 @@ byte-drop c (b ∷ l) {u} {m} e = go (eqb b c) e
     go false e = never cc
 
 -- the parts of a start tag
-tag-parts : (l : List ℕ) (g : Tag) (y : List ℕ) → tag l ≡ read g y
+tag_parts : (l : List ℕ) (g : Tag) (y : List ℕ) → tag l ≡ read g y
     → (a : Attributes) × (after : List ℕ) × (name (drop 1 l) ≡ read g.named after) × (attributes after ≡ read a y) × (a.pairs ≡ g.pairs) × (a.shut ≡ g.shut)
 unfolding tag
-tag-parts l g y e =
+tag_parts l g y e =
     let p = then_is (byte (code "<") l) (λ _ m. then (name m) (λ n m. then (attributes m) (tag_of n))) e in
     let q = then_is (name p.1) (λ n m. then (attributes m) (tag_of n)) p.3 in
     let r = then_is (attributes q.1) (tag_of q.0) q.3 in
-    let v = read-in (cond-is (differ r.0.pairs) r.3).1 in
+    let v = read_in (cond_is (differ r.0.pairs) r.3).1 in
     let n : q.0 ≡ g.named = ap (λ (t : Tag). t.named) v.0 in (
       r.0,
       q.1,
@@ -58,16 +58,16 @@ tag-parts l g y e =
       ap (λ (t : Tag). t.shut) v.0,
     )
 
-holds-to : (d : ℕ) (y : List ℕ) {u v : Bool} {a b : List ℕ} {r : Read Inside} → u ≡ v → a ≡ b → cond v (read end y) (content (element d) b y) ≡ r → cond u (read end y) (content (element d) a y) ≡ r
-holds-to d y e f h = rw (e, f) h
+holds_to : (d : ℕ) (y : List ℕ) {u v : Bool} {a b : List ℕ} {r : Read Inside} → u ≡ v → a ≡ b → cond v (read end y) (content (element d) b y) ≡ r → cond u (read end y) (content (element d) a y) ≡ r
+holds_to d y e f h = rw (e, f) h
 
-mk-to : {z w : ℕ} {a b : List ℕ} {ps qs : List Pair} (i : Inside) → z ≡ w → a ≡ b → ps ≡ qs → mk z a ps i ≡ mk w b qs i
-mk-to i e f g = rw (e, f, g)
+mk_to : {z w : ℕ} {a b : List ℕ} {ps qs : List Pair} (i : Inside) → z ≡ w → a ≡ b → ps ≡ qs → mk z a ps i ≡ mk w b qs i
+mk_to i e f g = rw (e, f, g)
 
-tagged-suc : (d : ℕ) (s : List ℕ) (at : ℕ) (t : Tree) (m : List ℕ) → element (suc d) (drop at s) ≡ read t m → Tagged d s at t m
-tagged-suc d s at t m e =
+tagged_suc : (d : ℕ) (s : List ℕ) (at : ℕ) (t : Tree) (m : List ℕ) → element (suc d) (drop at s) ≡ read t m → Tagged d s at t m
+tagged_suc d s at t m e =
     let b = built d (drop at s) t m e in
-    let p = tag-parts (drop at s) b.start b.rest b.tags in
+    let p = tag_parts (drop at s) b.start b.rest b.tags in
     let n : t.named ≡ b.start.named = ap (λ (t : Tree). t.named) b.is in
     record {
       attrs = p.0;
@@ -76,8 +76,8 @@ tagged-suc d s at t m e =
       inside = b.inside;
       named = ap name (sym (drop-drop 1 at s)) ∙ p.2 ∙ ap (λ (z : List ℕ). read z p.1) (sym n);
       pairs = p.3;
-      holds = holds-to d b.rest p.5 n b.holds;
-      is = b.is ∙ mk-to b.inside (length-drop at s) (sym n) (sym p.4);
+      holds = holds_to d b.rest p.5 n b.holds;
+      is = b.is ∙ mk_to b.inside (length-drop at s) (sym n) (sym p.4);
     }
 
 module _ (d : ℕ) (s : List ℕ) (at : ℕ) (t : Tree) (m : List ℕ) (e : element d (drop at s) ≡ read t m) where
@@ -87,29 +87,29 @@ module _ (d : ℕ) (s : List ℕ) (at : ℕ) (t : Tree) (m : List ℕ) (e : elem
     where
       go : (d : ℕ) → element d (drop at s) ≡ read t m → Tagged (d - 1) s at t m
       go zero e = never cc
-      go (suc d) e = rw (sub-one (suc d)) (tagged-suc d s at t m e)
+      go (suc d) e = rw (sub-one (suc d)) (tagged_suc d s at t m e)
 
-  pub has-levels : d ≡ 0 → ⊥
+  pub has_levels : d ≡ 0 → ⊥
   unfolding element
-  has-levels h = go d e h
+  has_levels h = go d e h
     where
       go : (d : ℕ) → element d (drop at s) ≡ read t m → d ≡ 0 → ⊥
       go zero e h = never cc
       go (suc d) e h = omega arith
 
-  pub not-past : length s ≤ at → ⊥
-  not-past h = omega (arith, element-shrinks d (drop at s) e, length-drop at s)
+  pub not_past : length s ≤ at → ⊥
+  not_past h = omega (arith, element_shrinks d (drop at s) e, length-drop at s)
 
-  pub head-named : {n y : List ℕ} → read n y ≡ name (drop (at + 1) s) → t.named ≡ n
-  head-named h = sym (read-in (h ∙ tagged.named)).0
+  pub head_named : {n y : List ℕ} → read n y ≡ name (drop (at + 1) s) → t.named ≡ n
+  head_named h = sym (read_in (h ∙ tagged.named)).0
 
-  pub head-refused : refused ≡ name (drop (at + 1) s) → ⊥
-  head-refused h = let i = h ∙ tagged.named in never cc
+  pub head_refused : refused ≡ name (drop (at + 1) s) → ⊥
+  head_refused h = let i = h ∙ tagged.named in never cc
 
   -- a name that is known is read by its length
-  pub head-known : {n : List ℕ} → t.named ≡ n → read (part s (at + 1) (at + 1 + length n)) (drop (at + 1 + length n) s) ≡ name (drop (at + 1) s)
-  head-known {n} h =
-      let p = (name-is (drop (at + 1) s) t.named tagged.after tagged.named).2 in
+  pub head_known : {n : List ℕ} → t.named ≡ n → read (part s (at + 1) (at + 1 + length n)) (drop (at + 1 + length n) s) ≡ name (drop (at + 1) s)
+  head_known {n} h =
+      let p = (name_is (drop (at + 1) s) t.named tagged.after tagged.named).2 in
       let w : drop (at + 1) s ≡ n ++ tagged.after = p ∙ ap (λ (z : List ℕ). z ++ tagged.after) h in
       let i : (at + 1 + length n) - (at + 1) ≡ length n = omega arith in
       let f : part s (at + 1) (at + 1 + length n) ≡ t.named = rw (i, w) (take_at n tagged.after (length n) refl ∙ sym h) in

@@ -15,7 +15,7 @@ use Rattle.markup.specs.Tags.{attributes}
 use Rattle.markup.specs.Elements.{Inside, Tree, content, element, depth, kids}
 use Rattle.markup.specs.Elements.Inside.{end}
 use Rattle.markup.specs.View.{ending_of, OfPairs}
-use Rattle.reading.proofs.Cut.{read-in}
+use Rattle.reading.proofs.Cut.{read_in}
 use Rattle.reading.specs.Many.{below_root}
 use Rattle.schema.specs.Schema.{particle_of, Schema}
 use Rattle.schema.specs.Shape.{attrs_fit, enough, first_fault, fault_in, fault_of, named_in, Shape, faulty, first_bad, records_of, shape_of}
@@ -24,95 +24,95 @@ use Rattle.schema.specs.Table.{number_cell, first_cell, many_cell, cell, name_at
 use Rattle.schema.specs.declared.file.Seen.{Seen}
 use Rattle.schema.specs.declared.file.Seen.TheVariants as seen
 use Rattle.schema.specs.View.{nodes_from, held_after, ok_seen, held_inside}
-use Rattle.schema.proofs.Heads.{head-is, nodes-start}
+use Rattle.schema.proofs.Heads.{head_is, nodes_start}
 use Rattle.schema.proofs.Group.{Quiet}
 use Rattle.schema.proofs.Tagged.{Tagged, tagged}
-use Rattle.schema.proofs.Faults.{ends_with, ends-refused}
+use Rattle.schema.proofs.Faults.{ends_with, ends_refused}
 
 -- ---- the records
 
 -- the first record with too many, after one more
-over-next : (o n f : ℕ) (b : Bool) → first_fault (first_fault o (cond b (suc n) 0)) f ≡ first_fault o (cond b (suc n) f)
-over-next zero n f true = refl
-over-next zero n f false = refl
-over-next (suc o) n f b = refl
+over_next : (o n f : ℕ) (b : Bool) → first_fault (first_fault o (cond b (suc n) 0)) f ≡ first_fault o (cond b (suc n) f)
+over_next zero n f true = refl
+over_next zero n f false = refl
+over_next (suc o) n f b = refl
 
 module _ (o n : ℕ) {most m c : ℕ} (e : most ≡ m) (f : o ≡ 0) where
-  pub over-new : most < c → n ≡ first_fault o (cond (ltb m c) n 0)
-  over-new h = rw (f, ← e, lt-ltb most c h)
+  pub over_new : most < c → n ≡ first_fault o (cond (ltb m c) n 0)
+  over_new h = rw (f, ← e, lt-ltb most c h)
 
   pub over_none : c ≤ most → o ≡ first_fault o (cond (ltb m c) n 0)
   over_none h = rw (f, ← e, le-ltb most c h)
 
-pub over-old : (o x : ℕ) → (o ≡ 0 → ⊥) → o ≡ first_fault o x
-over-old zero x h = absurd (h refl)
-over-old (suc o) x h = refl
+pub over_old : (o x : ℕ) → (o ≡ 0 → ⊥) → o ≡ first_fault o x
+over_old zero x h = absurd (h refl)
+over_old (suc o) x h = refl
 
 module _ (sc : Schema) (t : Tree) (ts : List Tree) where
-  known-other : (n o : ℕ) → same (particle_of sc.each).named t.named ≡ false → held_after sc (seen.Good n o) ts ≡ held_after sc (seen.Good n o) (t ∷ ts)
+  known_other : (n o : ℕ) → same (particle_of sc.each).named t.named ≡ false → held_after sc (seen.Good n o) ts ≡ held_after sc (seen.Good n o) (t ∷ ts)
   unfolding named_in
-  known-other n o e = rw e
+  known_other n o e = rw e
 
   module _ (n o : ℕ) (e : same (particle_of sc.each).named t.named ≡ true) where
-    known-bad : {z : ℕ} → fault_of sc.each t ≡ z → 0 < z → held_after sc (seen.Bad (n + 1) z) ts ≡ held_after sc (seen.Good n o) (t ∷ ts)
+    known_bad : {z : ℕ} → fault_of sc.each t ≡ z → 0 < z → held_after sc (seen.Bad (n + 1) z) ts ≡ held_after sc (seen.Good n o) (t ∷ ts)
     unfolding first_bad named_in
-    known-bad {z} f h = rw (e, f, ne_eqb z 0 (λ q. omega arith), add-one n)
+    known_bad {z} f h = rw (e, f, ne_eqb z 0 (λ q. omega arith), add-one n)
 
-    known-good : {c r : ℕ} → fault_of sc.each t ≡ 0 → c ≡ count_of sc.each t → r ≡ first_fault o (cond (ltb sc.most c) (n + 1) 0)
+    known_good : {c r : ℕ} → fault_of sc.each t ≡ 0 → c ≡ count_of sc.each t → r ≡ first_fault o (cond (ltb sc.most c) (n + 1) 0)
         → held_after sc (seen.Good (n + 1) r) ts ≡ held_after sc (seen.Good n o) (t ∷ ts)
     unfolding first_bad first_over named_in
-    known-good {c} f g h =
+    known_good {c} f g h =
         rw (e, f, ← g, h, add-one n)
-        (ap (held_by (first_bad sc.each (suc n) (named_in (particle_of sc.each).named ts))) (over-next o n (first_over sc.each sc.most (suc n) (named_in (particle_of sc.each).named ts)) (ltb sc.most c)))
+        (ap (held_by (first_bad sc.each (suc n) (named_in (particle_of sc.each).named ts))) (over_next o n (first_over sc.each sc.most (suc n) (named_in (particle_of sc.each).named ts)) (ltb sc.most c)))
 
 -- a child, as the code reads it by the record's row
 module _ (table pool ranges : List ℕ) {each : ℕ} (a : each ≡ cell table pool ranges 0 number_cell) (t : Tree) {b : Bool} (h : b ≡ same (name_at table pool ranges each) t.named) where
-  named-is : {v : Bool} → b ≡ v → same (particle_of (schema_at table pool ranges below_root).each).named t.named ≡ v
+  named_is : {v : Bool} → b ≡ v → same (particle_of (schema_at table pool ranges below_root).each).named t.named ≡ v
   unfolding head_at
-  named-is g = rw (head-is table pool ranges below_root (cell table pool ranges 0 number_cell), ← a) (sym h ∙ g)
+  named_is g = rw (head_is table pool ranges below_root (cell table pool ranges 0 number_cell), ← a) (sym h ∙ g)
 
   module _ {k : Seen} {n o : ℕ} (i : k ≡ seen.Good n o) where
-    pub take-other : b ≡ false → (ts : List Tree) → held_after (schema_at table pool ranges below_root) (seen.Good n o) ts ≡ held_after (schema_at table pool ranges below_root) k (t ∷ ts)
-    take-other g ts = rw i (known-other (schema_at table pool ranges below_root) t ts n o (named-is g))
+    pub take_other : b ≡ false → (ts : List Tree) → held_after (schema_at table pool ranges below_root) (seen.Good n o) ts ≡ held_after (schema_at table pool ranges below_root) k (t ∷ ts)
+    take_other g ts = rw i (known_other (schema_at table pool ranges below_root) t ts n o (named_is g))
 
-    pub take-bad : {z : ℕ} → b ≡ true → (fault_of (node_at table pool ranges below_root each) t ≡ z) × (0 < z) → (ts : List Tree) → held_after (schema_at table pool ranges below_root) (seen.Bad (n + 1) z) ts ≡ held_after (schema_at table pool ranges below_root) k (t ∷ ts)
-    take-bad g u ts = rw i (known-bad (schema_at table pool ranges below_root) t ts n o (named-is g) (rw (← a) u.0) u.1)
+    pub take_bad : {z : ℕ} → b ≡ true → (fault_of (node_at table pool ranges below_root each) t ≡ z) × (0 < z) → (ts : List Tree) → held_after (schema_at table pool ranges below_root) (seen.Bad (n + 1) z) ts ≡ held_after (schema_at table pool ranges below_root) k (t ∷ ts)
+    take_bad g u ts = rw i (known_bad (schema_at table pool ranges below_root) t ts n o (named_is g) (rw (← a) u.0) u.1)
 
-    pub take-good : {c r : ℕ} → b ≡ true → fault_of (node_at table pool ranges below_root each) t ≡ 0 → c ≡ count_of (node_at table pool ranges below_root each) t → r ≡ first_fault o (cond (ltb (schema_at table pool ranges below_root).most c) (n + 1) 0)
+    pub take_good : {c r : ℕ} → b ≡ true → fault_of (node_at table pool ranges below_root each) t ≡ 0 → c ≡ count_of (node_at table pool ranges below_root each) t → r ≡ first_fault o (cond (ltb (schema_at table pool ranges below_root).most c) (n + 1) 0)
         → (ts : List Tree) → held_after (schema_at table pool ranges below_root) (seen.Good (n + 1) r) ts ≡ held_after (schema_at table pool ranges below_root) k (t ∷ ts)
-    take-good g u v w ts = rw i (known-good (schema_at table pool ranges below_root) t ts n o (named-is g) (rw (← a) u) (rw (← a) v) w)
+    take_good g u v w ts = rw i (known_good (schema_at table pool ranges below_root) t ts n o (named_is g) (rw (← a) u) (rw (← a) v) w)
 
 pub take_none : (sc : Schema) (k : Seen) {i z : ℕ} → k ≡ seen.Bad i z → (t : Tree) (ts : List Tree) → held_after sc k ts ≡ held_after sc k (t ∷ ts)
 take_none sc k e t ts = rw e
 
-pub further-on : (k : Seen) {a b : ℕ} → a ≤ b → ok_seen a k → ok_seen b k
-further-on (seen.Good n o) h e = omega arith
-further-on (seen.Bad i z) h e = omega arith
+pub further_on : (k : Seen) {a b : ℕ} → a ≤ b → ok_seen a k → ok_seen b k
+further_on (seen.Good n o) h e = omega arith
+further_on (seen.Bad i z) h e = omega arith
 
 -- after all of them
 module _ (sc : Schema) {k : Seen} {n o : ℕ} where
-  pub answer-good : k ≡ seen.Good n o → o ≡ 0 → good n ≡ held_after sc k []
+  pub answer_good : k ≡ seen.Good n o → o ≡ 0 → good n ≡ held_after sc k []
   unfolding first_bad first_over named_in
-  answer-good e f = rw (e, f)
+  answer_good e f = rw (e, f)
 
-  pub answer-over : k ≡ seen.Good n o → (o ≡ 0 → ⊥) → over o ≡ held_after sc k []
+  pub answer_over : k ≡ seen.Good n o → (o ≡ 0 → ⊥) → over o ≡ held_after sc k []
   unfolding first_bad first_over named_in
-  answer-over e f = rw (e, ← over-old o 0 f, ne_eqb o 0 f)
+  answer_over e f = rw (e, ← over_old o 0 f, ne_eqb o 0 f)
 
-  pub answer-bad : k ≡ seen.Bad n o → bad n o ≡ held_after sc k []
-  answer-bad e = rw e
+  pub answer_bad : k ≡ seen.Bad n o → bad n o ≡ held_after sc k []
+  answer_bad e = rw e
 
 -- ---- what stands in the root
 
-pub held-quiet : (sc : Schema) (k : Seen) → Quiet (λ i. held_after sc k (kids i))
-held-quiet sc k = record { texts = λ t i. refl; notes = λ i. refl }
+pub held_quiet : (sc : Schema) (k : Seen) → Quiet (λ i. held_after sc k (kids i))
+held_quiet sc k = record { texts = λ t i. refl; notes = λ i. refl }
 
 module _ (sc : Schema) (z : ℕ) (i : Inside) where
-  pub inside-bad : {w : ℕ} → fault_in sc.nodes 0 z i ≡ w → 0 < w → bad 0 z ≡ held_inside sc z i
-  inside-bad {w} e h = sym (rw (e, ne_eqb w 0 (λ q. omega arith)))
+  pub inside_bad : {w : ℕ} → fault_in sc.nodes 0 z i ≡ w → 0 < w → bad 0 z ≡ held_inside sc z i
+  inside_bad {w} e h = sym (rw (e, ne_eqb w 0 (λ q. omega arith)))
 
-  pub inside-good : {h : Held} → fault_in sc.nodes 0 z i ≡ 0 → h ≡ held_after sc (seen.Good 0 0) (kids i) → h ≡ held_inside sc z i
-  inside-good e q = q ∙ sym (rw e)
+  pub inside_good : {h : Held} → fault_in sc.nodes 0 z i ≡ 0 → h ≡ held_after sc (seen.Good 0 0) (kids i) → h ≡ held_inside sc z i
+  inside_good e q = q ∙ sym (rw e)
 
 -- ---- the root
 
@@ -131,60 +131,60 @@ module _ (table pool ranges s : List ℕ) (at : ℕ) (t : Tree) (m : List ℕ) (
   held = held_inside schema (length s - at)
 
   same_name : t.named ≡ n
-  same_name = sym (read-in (u ∙ parts.named)).0
+  same_name = sym (read_in (u ∙ parts.named)).0
 
-  attrs-are : attributes after ≡ read parts.attrs parts.rest
-  attrs-are = ap attributes (read-in (u ∙ parts.named)).1 ∙ parts.pairs
+  attrs_are : attributes after ≡ read parts.attrs parts.rest
+  attrs_are = ap attributes (read_in (u ∙ parts.named)).1 ∙ parts.pairs
 
-  three-tests : (a b c : Bool) (x : Shape) (z k : ℕ) → held_by (cond (a && (b && c)) x (faulty 0 z)) k ≡ cond a (cond b (cond c (held_by x k) (bad 0 z)) (bad 0 z)) (bad 0 z)
-  three-tests true true true x z k = refl
-  three-tests true true false x z k = refl
-  three-tests true false c x z k = refl
-  three-tests false b c x z k = refl
+  three_tests : (a b c : Bool) (x : Shape) (z k : ℕ) → held_by (cond (a && (b && c)) x (faulty 0 z)) k ≡ cond a (cond b (cond c (held_by x k) (bad 0 z)) (bad 0 z)) (bad 0 z)
+  three_tests true true true x z k = refl
+  three_tests true true false x z k = refl
+  three_tests true false c x z k = refl
+  three_tests false b c x z k = refl
 
   root_is : held_of schema t ≡ cond (same (name_at table pool ranges 0) n) (cond (attrs_fit schema.free [] parts.attrs.pairs) (held parts.inside) outer) outer
   unfolding held_of shape_of
   root_is =
-      three-tests (same (name_at table pool ranges 0) t.named) (attrs_fit schema.free [] t.pairs) (eqb (fault_in schema.nodes 0 t.from t.inside) 0)
+      three_tests (same (name_at table pool ranges 0) t.named) (attrs_fit schema.free [] t.pairs) (eqb (fault_in schema.nodes 0 t.from t.inside) 0)
       (first_bad schema.each 0 (records_of schema t)) t.from (first_over schema.each schema.most 0 (records_of schema t))
       ∙ ap (λ (r : Tree). cond (same (name_at table pool ranges 0) t.named) (cond (attrs_fit schema.free [] r.pairs) (held_inside schema r.from r.inside) (bad 0 r.from)) (bad 0 r.from)) parts.is
       ∙ ap (λ (x : List ℕ). cond (same (name_at table pool ranges 0) x) (cond (attrs_fit schema.free [] parts.attrs.pairs) (held parts.inside) outer) outer) same_name
 
   module _ (b : Bool) (f : b ≡ same (name_at table pool ranges 0) n) where
-    pub root-other : b ≡ false → outer ≡ held_of schema t
-    root-other g = let i = sym f ∙ g in sym (root_is ∙ rw i)
+    pub root_other : b ≡ false → outer ≡ held_of schema t
+    root_other g = let i = sym f ∙ g in sym (root_is ∙ rw i)
 
     module _ (g : b ≡ true) (c : Bool) (h : OfPairs (attrs_fit schema.free []) after c) where
       tag_is : held_of schema t ≡ cond c (held parts.inside) outer
-      tag_is = let i = sym f ∙ g in let j = h parts.attrs parts.rest attrs-are in root_is ∙ rw (i, j)
+      tag_is = let i = sym f ∙ g in let j = h parts.attrs parts.rest attrs_are in root_is ∙ rw (i, j)
 
-      pub root-unfit : c ≡ false → outer ≡ held_of schema t
-      root-unfit q = sym (tag_is ∙ rw q)
+      pub root_unfit : c ≡ false → outer ≡ held_of schema t
+      root_unfit q = sym (tag_is ∙ rw q)
 
-      pub root-refused : refused ≡ ending_of (attributes after) → ⊥
-      root-refused w = ends-refused after parts.attrs parts.rest attrs-are w
+      pub root_refused : refused ≡ ending_of (attributes after) → ⊥
+      root_refused w = ends_refused after parts.attrs parts.rest attrs_are w
 
       module _ (q : c ≡ true) {y : List ℕ} where
         module _ (w : read true y ≡ ending_of (attributes after)) {first k : ℕ} (r : first ≡ cell table pool ranges 0 first_cell) (z : k ≡ cell table pool ranges 0 many_cell) {p : Bool} (j : p ≡ enough (nodes_from table pool ranges below_root first k 0) 0) where
-          shut-is : held_of schema t ≡ held end
-          shut-is =
-              let v = ends_with after parts.attrs parts.rest attrs-are true w in
-              let x = read-in (rw v.0 at parts.holds) in
+          shut_is : held_of schema t ≡ held end
+          shut_is =
+              let v = ends_with after parts.attrs parts.rest attrs_are true w in
+              let x = read_in (rw v.0 at parts.holds) in
               tag_is ∙ rw q (ap held (sym x.0))
 
-          short-is : fault_in schema.nodes 0 (length s - at) end ≡ cond p 0 (length s - at)
+          short_is : fault_in schema.nodes 0 (length s - at) end ≡ cond p 0 (length s - at)
           unfolding fault_in
-          short-is = rw (nodes-start table pool ranges below_root 0 r z, j)
+          short_is = rw (nodes_start table pool ranges below_root 0 r z, j)
 
-          pub root-empty : p ≡ true → good 0 ≡ held_of schema t
+          pub root_empty : p ≡ true → good 0 ≡ held_of schema t
           unfolding first_bad first_over named_in
-          root-empty o = inside-good schema (length s - at) end (short-is ∙ rw o) refl ∙ sym shut-is
+          root_empty o = inside_good schema (length s - at) end (short_is ∙ rw o) refl ∙ sym shut_is
 
-          pub root-short : 0 < length s - at → p ≡ false → outer ≡ held_of schema t
-          root-short some o = inside-bad schema (length s - at) end (short-is ∙ rw o) some ∙ sym shut-is
+          pub root_short : 0 < length s - at → p ≡ false → outer ≡ held_of schema t
+          root_short some o = inside_bad schema (length s - at) end (short_is ∙ rw o) some ∙ sym shut_is
 
-        pub root-open : read false y ≡ ending_of (attributes after) → (i : Inside) × (content (element below_root) n y ≡ read i m) × (held i ≡ held_of schema t)
-        root-open w =
-            let v = ends_with after parts.attrs parts.rest attrs-are false w in
+        pub root_open : read false y ≡ ending_of (attributes after) → (i : Inside) × (content (element below_root) n y ≡ read i m) × (held i ≡ held_of schema t)
+        root_open w =
+            let v = ends_with after parts.attrs parts.rest attrs_are false w in
             let x = rw v.0 at parts.holds in
             (parts.inside, ap (λ (z : List ℕ). content (element below_root) z y) (sym same_name) ∙ ap (content (element below_root) t.named) v.1 ∙ x, sym (tag_is ∙ rw q))

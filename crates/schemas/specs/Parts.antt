@@ -27,11 +27,11 @@ maybe n t = leaf (times 0 1 n []) t
 abbrev pub all_of : string.String → List Attr → Nodes → Node
 all_of n attrs ns = group (times 1 1 n attrs) ns
 
-abbrev pub maybe-all-of : string.String → List Attr → Nodes → Node
-maybe-all-of n attrs ns = group (times 0 1 n attrs) ns
+abbrev pub maybe_all_of : string.String → List Attr → Nodes → Node
+maybe_all_of n attrs ns = group (times 0 1 n attrs) ns
 
-abbrev pub any-number-of : string.String → List Attr → Nodes → Node
-any-number-of n attrs ns = group (times 0 0 n attrs) ns
+abbrev pub any_number_of : string.String → List Attr → Nodes → Node
+any_number_of n attrs ns = group (times 0 0 n attrs) ns
 
 -- S23: "no other element counts", and F7: "more than 128 events" are too many
 abbrev pub event : Node → Node
@@ -62,7 +62,7 @@ alimentazione = all_of "Alimentazione" [] (one "Assistita" bisogno ▸ one "Ente
 
 abbrev pub trattamenti_riab : Node
 trattamenti_riab =
-    maybe-all-of "TrattamentiRiab" [] (maybe "Neurologico" bisogno ▸ maybe "Ortopedico" bisogno ▸ maybe "DiMantenimento" bisogno ▸ none)
+    maybe_all_of "TrattamentiRiab" [] (maybe "Neurologico" bisogno ▸ maybe "Ortopedico" bisogno ▸ maybe "DiMantenimento" bisogno ▸ none)
 
 abbrev pub disturbi : Nodes
 disturbi = maybe "Cognitivi" disturbo ▸ maybe "Comportamentali" disturbo ▸ none

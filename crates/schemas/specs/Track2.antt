@@ -11,35 +11,35 @@ presa_in_carico = Parts.all_of "PresaInCarico" (Parts.required "data" date ∷ [
 
 abbrev pub valutazione : Node
 valutazione =
-    Parts.maybe-all-of "Valutazione" []
-    (Parts.valued (Parts.maybe-all-of "Disturbi" [] Parts.disturbi) "TerSottocutIntraMuscInfus")
+    Parts.maybe_all_of "Valutazione" []
+    (Parts.valued (Parts.maybe_all_of "Disturbi" [] Parts.disturbi) "TerSottocutIntraMuscInfus")
 
 abbrev pub rivalutazione : Node
 rivalutazione =
     Parts.event
-    (Parts.any-number-of "Rivalutazione"
+    (Parts.any_number_of "Rivalutazione"
     (Parts.required "data" date ∷ Parts.required "motivo" FieldTexts.motivo_rivalutazione ∷ Parts.required "confermaPrecedente" FieldTexts.conferma_precedente ∷ [])
     (valutazione ▸ none))
 
 abbrev pub erogazione : Node
 erogazione =
     Parts.event
-    (Parts.any-number-of "Erogazione" (Parts.required "data" date ∷ Parts.optional "numAccessi" FieldTexts.num_accessi ∷ [])
+    (Parts.any_number_of "Erogazione" (Parts.required "data" date ∷ Parts.optional "numAccessi" FieldTexts.num_accessi ∷ [])
     (Parts.one "TipoOperatore" FieldTexts.tipo_operatore ▸
-    Parts.any-number-of "Prestazioni" []
+    Parts.any_number_of "Prestazioni" []
     (Parts.one "TipoPrestazione" FieldTexts.tipo_prestazione ▸ Parts.one "numPrestazione" FieldTexts.quantita_prestazione ▸ none) ▸
     none))
 
 abbrev pub sospensione : Node
 sospensione =
     Parts.event
-    (Parts.any-number-of "Sospensione" (Parts.required "dataInizio" date ∷ Parts.optional "dataFine" date ∷ [])
+    (Parts.any_number_of "Sospensione" (Parts.required "dataInizio" date ∷ Parts.optional "dataFine" date ∷ [])
     (Parts.one "Motivazione" FieldTexts.motivazione_sospensione ▸ none))
 
 abbrev pub conclusione : Node
 conclusione =
     Parts.event
-    (Parts.maybe-all-of "Conclusione" (Parts.required "dataAD" date ∷ []) (Parts.one "Motivazione" FieldTexts.motivazione_conclusione ▸ none))
+    (Parts.maybe_all_of "Conclusione" (Parts.required "dataAD" date ∷ []) (Parts.one "Motivazione" FieldTexts.motivazione_conclusione ▸ none))
 
 -- S4: "PresaInCarico, any number of Rivalutazione, of Erogazione and of Sospensione, and at most one Conclusione"
 abbrev pub eventi : Nodes

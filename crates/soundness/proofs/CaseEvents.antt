@@ -8,11 +8,11 @@ use lib.Dec.{eqb, ltb, leb}
 use borrow.Author.Tests.{eqb-true, eq-eqb, ne_eqb, leb-true, le-leb}
 use Rattle.laws.specs.Lists.{all}
 use Rattle.laws.proofs.Truth.{and_left, and_right}
-use Rattle.laws.proofs.Every.{Every, all_told, all_tell, same_truth, and-tell}
+use Rattle.laws.proofs.Every.{Every, all_told, all_tell, same_truth, and_tell}
 use Rattle.days.specs.DayNumbers.{day_count}
 use Rattle.model.specs.Map.{Row, Map, Asc}
 use Rattle.register.specs.Sound.{ascending}
-use Rattle.register.proofs.Ascending.{asc-told, asc-tell}
+use Rattle.register.proofs.Ascending.{asc_told, asc_tell}
 use Rattle.home_care.specs.Row.{never, kind_of, date_of, end_of, event_key_of, event_number_in_wide, event_in, own_bits}
 use Rattle.home_care.specs.Anomalies.{share_day}
 use Rattle.home_care.specs.Allowed.{event_allowed, end_allowed, event_row_allowed_wide}
@@ -23,16 +23,16 @@ use Rattle.soundness.proofs.Neighbours.{neighbours}
 
 -- ---- the tests of one event
 
-pub fits-is : (taken least prev latest e date end kind last key : ℕ) (shared : Bool) → date ≡ date_of e → end ≡ end_of e → kind ≡ kind_of e → last ≡ kind_of prev → shared ≡ share_day prev e → key ≡ event_key_of e →
+pub fits_is : (taken least prev latest e date end kind last key : ℕ) (shared : Bool) → date ≡ date_of e → end ≡ end_of e → kind ≡ kind_of e → last ≡ kind_of prev → shared ≡ share_day prev e → key ≡ event_key_of e →
     leb least key && (leb taken date && (not (eqb kind 2 && ltb end date) && (not shared && (not (eqb last 3 && eqb kind 3) && not (eqb kind 3 && ltb date latest))))) ≡ leb least (event_key_of e) && fits taken prev latest e
-fits-is taken least prev latest e date end kind last key shared d n k l s g = rw (d, n, k, l, s, g)
+fits_is taken least prev latest e date end kind last key shared d n k l s g = rw (d, n, k, l, s, g)
 
 module _ (latest e end date day : ℕ) (n : end ≡ end_of e) (d : date ≡ date_of e) (y : day ≡ max latest date) where
-  pub later-none : end ≡ never → day ≡ max latest (late e)
-  later-none h = rw (eq-eqb (end_of e) never (sym n ∙ h)) (omega arith)
+  pub later_none : end ≡ never → day ≡ max latest (late e)
+  later_none h = rw (eq-eqb (end_of e) never (sym n ∙ h)) (omega arith)
 
-  pub later-some : (r : ℕ) → (end ≡ never → ⊥) → r ≡ max day end → r ≡ max latest (late e)
-  later-some r h g = rw (ne_eqb (end_of e) never (λ k. h (n ∙ k))) (omega arith)
+  pub later_some : (r : ℕ) → (end ≡ never → ⊥) → r ≡ max day end → r ≡ max latest (late e)
+  later_some r h g = rw (ne_eqb (end_of e) never (λ k. h (n ∙ k))) (omega arith)
 
 -- a conclusion has no end
 ended : (e : ℕ) → event_allowed (event_in e) ≡ true → kind_of e ≡ 3 → end_of e ≡ never
@@ -59,29 +59,29 @@ module _ (w : ℕ) where
     up : Rising b (map (event_number_in_wide w) us)
     fit : passes t p m (map (event_number_in_wide w) us) ≡ true
 
-  follow-told : (t b p m : ℕ) (us : Map ℕ) → follow t b p m us ≡ true → Passed t b p m us
+  follow_told : (t b p m : ℕ) (us : Map ℕ) → follow t b p m us ≡ true → Passed t b p m us
   unfolding follow Rising passes
-  follow-told t b p m [] h = record { rows = tt; up = tt; fit = refl }
-  follow-told t b p m (x ∷ us) h =
+  follow_told t b p m [] h = record { rows = tt; up = tt; fit = refl }
+  follow_told t b p m (x ∷ us) h =
       let e = event_number_in_wide w x in
       let a = and_left (event_row_allowed_wide w x && (leb b (event_key_of e) && fits t p m e)) _ h in
       let c = and_right (event_row_allowed_wide w x) (leb b (event_key_of e) && fits t p m e) a in
-      let r = follow-told t (suc (event_key_of e)) e (max m (late e)) us (and_right (event_row_allowed_wide w x && (leb b (event_key_of e) && fits t p m e)) _ h) in
+      let r = follow_told t (suc (event_key_of e)) e (max m (late e)) us (and_right (event_row_allowed_wide w x && (leb b (event_key_of e) && fits t p m e)) _ h) in
       record {
         rows = (and_left (event_row_allowed_wide w x) _ a, r.rows);
         up = (leb-true b (event_key_of e) (and_left (leb b (event_key_of e)) _ c), r.up);
-        fit = and-tell (fits t p m e) _ (and_right (leb b (event_key_of e)) _ c) r.fit;
+        fit = and_tell (fits t p m e) _ (and_right (leb b (event_key_of e)) _ c) r.fit;
       }
 
-  follow-tell : (t b p m : ℕ) (us : Map ℕ) → Passed t b p m us → follow t b p m us ≡ true
+  follow_tell : (t b p m : ℕ) (us : Map ℕ) → Passed t b p m us → follow t b p m us ≡ true
   unfolding follow Rising passes
-  follow-tell t b p m [] h = refl
-  follow-tell t b p m (x ∷ us) h =
+  follow_tell t b p m [] h = refl
+  follow_tell t b p m (x ∷ us) h =
       let e = event_number_in_wide w x in
       let f = h.fit in
-      and-tell (event_row_allowed_wide w x && (leb b (event_key_of e) && fits t p m e)) _
-      (and-tell (event_row_allowed_wide w x) _ h.rows.0 (and-tell (leb b (event_key_of e)) _ (le-leb b (event_key_of e) h.up.0) (and_left (fits t p m e) _ f)))
-      (follow-tell t (suc (event_key_of e)) e (max m (late e)) us (record { rows = h.rows.1; up = h.up.1; fit = and_right (fits t p m e) _ f }))
+      and_tell (event_row_allowed_wide w x && (leb b (event_key_of e) && fits t p m e)) _
+      (and_tell (event_row_allowed_wide w x) _ h.rows.0 (and_tell (leb b (event_key_of e)) _ (le-leb b (event_key_of e) h.up.0) (and_left (fits t p m e) _ f)))
+      (follow_tell t (suc (event_key_of e)) e (max m (late e)) us (record { rows = h.rows.1; up = h.up.1; fit = and_right (fits t p m e) _ f }))
 
   -- of an event's row: its key is that of the case c and the event's own
   abbrev pub Mine : ℕ → Row ℕ → Type 0
@@ -117,15 +117,15 @@ module _ (w : ℕ) where
       (omega arith, subst (λ (z : ℕ). Asc z m) e (climbing c (suc (event_key_of (event_number_in_wide w r))) m h.1 g.1))
 
   -- neighbours suffice for a case's rows
-  pub follow-is : (c t : ℕ) (us : Map ℕ) → Every (Mine c) us → follow t 0 0 0 us ≡ (all (event_row_allowed_wide w) us && (ascending us && events_free t (map (event_number_in_wide w) us)))
-  follow-is c t us g =
+  pub follow_is : (c t : ℕ) (us : Map ℕ) → Every (Mine c) us → follow t 0 0 0 us ≡ (all (event_row_allowed_wide w) us && (ascending us && events_free t (map (event_number_in_wide w) us)))
+  follow_is c t us g =
       same_truth (follow t 0 0 0 us) (all (event_row_allowed_wide w) us && (ascending us && events_free t (map (event_number_in_wide w) us)))
       (λ h.
-      let f = follow-told t 0 0 0 us h in
-      and-tell (all (event_row_allowed_wide w) us) _ (all_tell (event_row_allowed_wide w) us f.rows)
-      (and-tell (ascending us) _ (asc-tell (c * 2 ^ own_bits + 0) us (climbing c 0 us f.up g)) (neighbours t (map (event_number_in_wide w) us) f.up (sane us f.rows) ∙ f.fit)))
+      let f = follow_told t 0 0 0 us h in
+      and_tell (all (event_row_allowed_wide w) us) _ (all_tell (event_row_allowed_wide w) us f.rows)
+      (and_tell (ascending us) _ (asc_tell (c * 2 ^ own_bits + 0) us (climbing c 0 us f.up g)) (neighbours t (map (event_number_in_wide w) us) f.up (sane us f.rows) ∙ f.fit)))
       (λ h.
       let a = all_told (event_row_allowed_wide w) us (and_left (all (event_row_allowed_wide w) us) _ h) in
       let v = and_right (all (event_row_allowed_wide w) us) (ascending us && events_free t (map (event_number_in_wide w) us)) h in
-      let r = rising c 0 us (begins c us (asc-told us (and_left (ascending us) _ v)) g) g in
-      follow-tell t 0 0 0 us (record { rows = a; up = r; fit = sym (neighbours t (map (event_number_in_wide w) us) r (sane us a)) ∙ and_right (ascending us) _ v }))
+      let r = rising c 0 us (begins c us (asc_told us (and_left (ascending us) _ v)) g) g in
+      follow_tell t 0 0 0 us (record { rows = a; up = r; fit = sym (neighbours t (map (event_number_in_wide w) us) r (sane us a)) ∙ and_right (ascending us) _ v }))

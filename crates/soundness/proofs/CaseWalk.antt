@@ -11,7 +11,7 @@ use lib.Pow.{shr-shr}
 use borrow.Author.Tests.{ltb-true}
 use Rattle.laws.proofs.Order.{Tri, below, equal, above, tri}
 use Rattle.laws.proofs.Truth.{and_left, and_right}
-use Rattle.laws.proofs.Every.{Every, every-both}
+use Rattle.laws.proofs.Every.{Every, every_both}
 use Rattle.model.specs.Map.{Row, Map}
 use Rattle.rows.specs.Packing.{num, field_at}
 use Rattle.register.specs.Layout.{case_named, case_rest, event_rest, row_in}
@@ -19,19 +19,19 @@ use Rattle.register.specs.State.{events_from}
 use Rattle.register.specs.Search.{key_at, probe_key}
 use Rattle.register.specs.Stored.{events, split_of}
 use Rattle.register.proofs.MixedKeys.{by_front}
-use Rattle.register.proofs.Walks.{from_next, from-none, from-every}
+use Rattle.register.proofs.Walks.{from_next, from_none, from_every}
 use Rattle.home_care.specs.Row.{home_care, taken_in, event_number_in_wide, event_key_of, key_bits, day_bits, own_bits}
 use Rattle.home_care.specs.Fits.{RowWidth, as_event}
 use Rattle.home_care.specs.Allowed.{event_row_allowed_wide}
-use Rattle.home_care.proofs.Laid.{laid-wide}
+use Rattle.home_care.proofs.Laid.{laid_wide}
 use Rattle.home_care.proofs.EventKeys.{cut_parts}
 use Rattle.home_care.proofs.RowFields.{taken_at, taken_is}
 use Rattle.soundness.specs.Walk.{run_of, case_at, ran}
 use Rattle.soundness.specs.declared.one_case.Run.{Run}
 use Rattle.soundness.specs.declared.one_case.Run.TheVariants.{End, Bad}
 use Rattle.soundness.proofs.EventFacts.{fits, late}
-use Rattle.soundness.proofs.CaseRuns.{run-own, run-part}
-use Rattle.soundness.proofs.CaseEvents.{Mine, follow, follow-is}
+use Rattle.soundness.proofs.CaseRuns.{run_own, run_part}
+use Rattle.soundness.proofs.CaseEvents.{Mine, follow, follow_is}
 
 module _ (w : ℕ) where
   -- the row that the code cuts out
@@ -69,33 +69,33 @@ module _ (w : ℕ) where
         let c = case_at w reg i in
         let m = events_from (home_care w) reg j (rows - j) in
         let g : Every (Mine w c) (run j) =
-        every-both (run j) (λ r o s. s ∙ ap (λ (k : ℕ). k * 2 ^ own_bits + event_key_of (event_number_in_wide w r)) o) (run-own (case_named (home_care w)) c m)
-        (run-part (case_named (home_care w)) Keyed c m (from-every event_row Keyed j (rows - j) (λ k x y. cut_parts w wide (row_in (home_care w) reg k)))) in
-        ap (λ (z : Bool). cond z (End (j + length (run j))) Bad) (sym (ap (λ (d : ℕ). follow w d 0 0 0 (run j)) e ∙ follow-is w c (taken_in c) (run j) g))
+        every_both (run j) (λ r o s. s ∙ ap (λ (k : ℕ). k * 2 ^ own_bits + event_key_of (event_number_in_wide w r)) o) (run_own (case_named (home_care w)) c m)
+        (run_part (case_named (home_care w)) Keyed c m (from_every event_row Keyed j (rows - j) (λ k x y. cut_parts w wide (row_in (home_care w) reg k)))) in
+        ap (λ (z : Bool). cond z (End (j + length (run j))) Bad) (sym (ap (λ (d : ℕ). follow w d 0 0 0 (run j)) e ∙ follow_is w c (taken_in c) (run j) g))
 
     module _ (wide : RowWidth w) (case : List ℕ) (k : ℕ) (stand : Bool) (own : num case ≡ row_in (home_care w) reg i) (told : stand ≡ ltb k rows && eqb (key_at w key_bits reg k) (probe_key w key_bits case)) where
-      case-key : key_at w key_bits reg k ≡ case_named (home_care w) (event_row k).key
+      case_key : key_at w key_bits reg k ≡ case_named (home_care w) (event_row k).key
       unfolding key_at row_in
-      case-key =
+      case_key =
           let e : 8 * w - key_bits ≡ event_rest (home_care w) + own_bits = omega arith in
           let q = row_in (home_care w) reg k / 2 ^ event_rest (home_care w) in
           ap (λ (z : ℕ). row_in (home_care w) reg k / 2 ^ z) e ∙ sym (shr-shr (row_in (home_care w) reg k) (event_rest (home_care w)) own_bits)
-          ∙ sym (by_front ((home_care w).spare q) own_bits q ((laid-wide w wide).spare-few q))
+          ∙ sym (by_front ((home_care w).spare q) own_bits q ((laid_wide w wide).spare_few q))
 
       probe : probe_key w key_bits case ≡ case_at w reg i
       unfolding probe_key
       probe = ap (λ (n : ℕ). n / 2 ^ case_rest (home_care w)) own
 
       test : stand ≡ ltb k rows && eqb (case_named (home_care w) (event_row k).key) (case_at w reg i)
-      test = told ∙ ap₂ (λ (x y : ℕ). ltb k rows && eqb x y) case-key probe
+      test = told ∙ ap₂ (λ (x y : ℕ). ltb k rows && eqb x y) case_key probe
 
-      pub stands-within : stand ≡ true → k < rows
-      stands-within s = ltb-true k rows (and_left (ltb k rows) _ (sym test ∙ s))
+      pub stands_within : stand ≡ true → k < rows
+      stands_within s = ltb-true k rows (and_left (ltb k rows) _ (sym test ∙ s))
 
       run_more : stand ≡ true → run k ≡ event_row k ∷ run (k + 1)
       unfolding run_of
       run_more s =
-          ap (run_of (case_named (home_care w)) (case_at w reg i)) (from_next event_row k rows (stands-within s))
+          ap (run_of (case_named (home_care w)) (case_at w reg i)) (from_next event_row k rows (stands_within s))
           ∙ rw (and_right (ltb k rows) (eqb (case_named (home_care w) (event_row k).key) (case_at w reg i)) (sym test ∙ s))
 
       run_none : stand ≡ false → run k ≡ []
@@ -106,26 +106,26 @@ module _ (w : ℕ) where
           go (below l e _) =
               let o : eqb (case_named (home_care w) (event_row k).key) (case_at w reg i) ≡ false = rw e at (sym test ∙ s) in
               ap (run_of (case_named (home_care w)) (case_at w reg i)) (from_next event_row k rows l) ∙ rw o
-          go (equal l _ _) = ap (run_of (case_named (home_care w)) (case_at w reg i)) (from-none event_row k rows (omega arith))
-          go (above l _ _) = ap (run_of (case_named (home_care w)) (case_at w reg i)) (from-none event_row k rows (omega arith))
+          go (equal l _ _) = ap (run_of (case_named (home_care w)) (case_at w reg i)) (from_none event_row k rows (omega arith))
+          go (above l _ _) = ap (run_of (case_named (home_care w)) (case_at w reg i)) (from_none event_row k rows (omega arith))
 
       module _ (t b p m : ℕ) (inv : Onward t b p m k) where
         pub walk_end : stand ≡ false → End k ≡ answer
         unfolding follow
         walk_end s = let z : k + 0 ≡ k = omega arith in sym (inv ∙ rw (run_none s, z))
 
-        module _ (row : List ℕ) (e : ℕ) (row-good fit : Bool) (s : stand ≡ true) (here : num row ≡ row_in (home_care w) reg k) (long : length row ≡ w)
-            (read : e ≡ event_number_in_wide (length row) (as_event row)) (allowed : row-good ≡ event_row_allowed_wide (length row) (as_event row)) (f : fit ≡ leb b (event_key_of e) && fits t p m e) where
-          step : answer ≡ cond ((row-good && fit) && follow w t (suc (event_key_of e)) e (max m (late e)) (run (k + 1))) (End (k + 1 + length (run (k + 1)))) Bad
+        module _ (row : List ℕ) (e : ℕ) (row_good fit : Bool) (s : stand ≡ true) (here : num row ≡ row_in (home_care w) reg k) (long : length row ≡ w)
+            (read : e ≡ event_number_in_wide (length row) (as_event row)) (allowed : row_good ≡ event_row_allowed_wide (length row) (as_event row)) (f : fit ≡ leb b (event_key_of e) && fits t p m e) where
+          step : answer ≡ cond ((row_good && fit) && follow w t (suc (event_key_of e)) e (max m (late e)) (run (k + 1))) (End (k + 1 + length (run (k + 1)))) Bad
           unfolding follow
           step =
               let q : e ≡ event_number_in_wide w (event_row k) = read ∙ ap₂ (λ (v n : ℕ). event_number_in_wide v (split_of events (home_care v) n)) long here in
-              let a : row-good ≡ event_row_allowed_wide w (event_row k) = allowed ∙ ap₂ (λ (v n : ℕ). event_row_allowed_wide v (split_of events (home_care v) n)) long here in
+              let a : row_good ≡ event_row_allowed_wide w (event_row k) = allowed ∙ ap₂ (λ (v n : ℕ). event_row_allowed_wide v (split_of events (home_care v) n)) long here in
               let z : k + suc (length (run (k + 1))) ≡ k + 1 + length (run (k + 1)) = omega arith in
               inv ∙ rw (run_more s, ← a, ← q, ← f, z)
 
-          pub walk-bad : row-good && fit ≡ false → Bad ≡ answer
-          walk-bad g = sym (step ∙ rw g)
+          pub walk_bad : row_good && fit ≡ false → Bad ≡ answer
+          walk_bad g = sym (step ∙ rw g)
 
-          pub walk-on : (b' p' m' : ℕ) → b' ≡ event_key_of e + 1 → p' ≡ e → m' ≡ max m (late e) → row-good && fit ≡ true → Onward t b' p' m' (k + 1)
-          walk-on b' p' m' x y z g = step ∙ rw (g, x ∙ add-one (event_key_of e), y, z)
+          pub walk_on : (b' p' m' : ℕ) → b' ≡ event_key_of e + 1 → p' ≡ e → m' ≡ max m (late e) → row_good && fit ≡ true → Onward t b' p' m' (k + 1)
+          walk_on b' p' m' x y z g = step ∙ rw (g, x ∙ add-one (event_key_of e), y, z)

@@ -7,18 +7,18 @@ use native.Mathlib.Omega.{arith}
 use lib.Dec.{eqb, ltb, leb}
 use borrow.Author.Tests.{ltb-true, ltb-false, leb-true, leb-false, eqb-true, eqb-false, lt-ltb, le-ltb, le-leb, lt-leb, eq-eqb, ne_eqb, not-true}
 use Rattle.laws.proofs.Truth.{and_left, and_right}
-use Rattle.laws.proofs.Every.{Every, same_truth, and-tell, not-tell, nand-told, both_false}
+use Rattle.laws.proofs.Every.{Every, same_truth, and_tell, not_tell, nand_told, both_false}
 use Rattle.home_care.specs.Row.{never, day_bits, kind_bits, event_bits, kind_of, date_of, end_of, event_key_of}
 use Rattle.home_care.specs.Anomalies.{is_suspension, is_conclusion, share_day, after_conclusion}
-use Rattle.home_care.proofs.EventKeys.{dated, own-rise}
+use Rattle.home_care.proofs.EventKeys.{dated, own_rise}
 
 -- the last day that an event names
 abbrev pub late : ℕ → ℕ
 late e = max (date_of e) (cond (eqb (end_of e) never) 0 (end_of e))
 
 -- 28 by that day
-pub after-late : (c e : ℕ) → after_conclusion c e ≡ (is_conclusion c && ltb (date_of c) (late e))
-after-late c e = go (eqb (end_of e) never) refl
+pub after_late : (c e : ℕ) → after_conclusion c e ≡ (is_conclusion c && ltb (date_of c) (late e))
+after_late c e = go (eqb (end_of e) never) refl
   where
     day : (d a : ℕ) → ltb d a || false ≡ ltb d (max a 0)
     day d a = same_truth _ _ (λ h. lt-ltb d (max a 0) (either (ltb d a) refl h)) (λ h. rw (lt-ltb d a (omega (arith, ltb-true d (max a 0) h))))
@@ -84,49 +84,49 @@ pub record Next (p m e : ℕ) : Type 0 where
 -- ---- tests and facts
 
 -- kinds, and days within a kind, do not fall as keys rise
-pub dates-rise : (a b : ℕ) → event_key_of a < event_key_of b → dated a ≤ dated b
-dates-rise a b h = let k = own-rise a b (event_bits - (kind_bits + day_bits)) h in omega arith
+pub dates_rise : (a b : ℕ) → event_key_of a < event_key_of b → dated a ≤ dated b
+dates_rise a b h = let k = own_rise a b (event_bits - (kind_bits + day_bits)) h in omega arith
 
-pub share-told : (a b : ℕ) → event_key_of a < event_key_of b → (kind_of b ≡ 2 → date_of b ≤ end_of b) → share_day a b ≡ false → kind_of a ≡ 2 → kind_of b ≡ 2 → end_of a < date_of b
-share-told a b o h s p q =
+pub share_told : (a b : ℕ) → event_key_of a < event_key_of b → (kind_of b ≡ 2 → date_of b ≤ end_of b) → share_day a b ≡ false → kind_of a ≡ 2 → kind_of b ≡ 2 → end_of a < date_of b
+share_told a b o h s p q =
     let g = h q in
-    let d = dates-rise a b o in
+    let d = dates_rise a b o in
     let f : leb (date_of b) (end_of a) ≡ false =
-    nand-told (leb (date_of a) (end_of b)) (leb (date_of b) (end_of a)) (not-tell _ (rw (eq-eqb (kind_of a) 2 p, eq-eqb (kind_of b) 2 q) at s)) (le-leb (date_of a) (end_of b) (omega arith)) in
+    nand_told (leb (date_of a) (end_of b)) (leb (date_of b) (end_of a)) (not_tell _ (rw (eq-eqb (kind_of a) 2 p, eq-eqb (kind_of b) 2 q) at s)) (le-leb (date_of a) (end_of b) (omega arith)) in
     leb-false (date_of b) (end_of a) f
 
-pub share-tell : (a b : ℕ) → (kind_of a ≡ 2 → kind_of b ≡ 2 → end_of a < date_of b) → share_day a b ≡ false
-share-tell a b h =
+pub share_tell : (a b : ℕ) → (kind_of a ≡ 2 → kind_of b ≡ 2 → end_of a < date_of b) → share_day a b ≡ false
+share_tell a b h =
     both_false (is_suspension a && is_suspension b) _ (λ s.
     both_false (leb (date_of a) (end_of b)) (leb (date_of b) (end_of a)) (λ g.
     lt-leb (date_of b) (end_of a) (h (eqb-true (kind_of a) 2 (and_left _ (is_suspension b) s)) (eqb-true (kind_of b) 2 (and_right (is_suspension a) _ s)))))
 
-pub ends-told : (e : ℕ) → is_suspension e && ltb (end_of e) (date_of e) ≡ false → kind_of e ≡ 2 → date_of e ≤ end_of e
-ends-told e h k = ltb-false (end_of e) (date_of e) (nand-told (is_suspension e) _ (not-tell _ h) (eq-eqb (kind_of e) 2 k))
+pub ends_told : (e : ℕ) → is_suspension e && ltb (end_of e) (date_of e) ≡ false → kind_of e ≡ 2 → date_of e ≤ end_of e
+ends_told e h k = ltb-false (end_of e) (date_of e) (nand_told (is_suspension e) _ (not_tell _ h) (eq-eqb (kind_of e) 2 k))
 
-pub ends-tell : (e : ℕ) → (kind_of e ≡ 2 → date_of e ≤ end_of e) → is_suspension e && ltb (end_of e) (date_of e) ≡ false
-ends-tell e h = both_false (is_suspension e) _ (λ k. le-ltb (end_of e) (date_of e) (h (eqb-true (kind_of e) 2 k)))
+pub ends_tell : (e : ℕ) → (kind_of e ≡ 2 → date_of e ≤ end_of e) → is_suspension e && ltb (end_of e) (date_of e) ≡ false
+ends_tell e h = both_false (is_suspension e) _ (λ k. le-ltb (end_of e) (date_of e) (h (eqb-true (kind_of e) 2 k)))
 
-pub single-told : (a b : ℕ) → is_conclusion a && is_conclusion b ≡ false → kind_of a ≡ 3 → kind_of b ≡ 3 → ⊥
-single-told a b h p q =
-    eqb-false (kind_of b) 3 (nand-told (is_conclusion a) (is_conclusion b) (not-tell _ h) (eq-eqb (kind_of a) 3 p)) q
+pub single_told : (a b : ℕ) → is_conclusion a && is_conclusion b ≡ false → kind_of a ≡ 3 → kind_of b ≡ 3 → ⊥
+single_told a b h p q =
+    eqb-false (kind_of b) 3 (nand_told (is_conclusion a) (is_conclusion b) (not_tell _ h) (eq-eqb (kind_of a) 3 p)) q
 
-pub single-tell : (a b : ℕ) → (kind_of a ≡ 3 → kind_of b ≡ 3 → ⊥) → is_conclusion a && is_conclusion b ≡ false
-single-tell a b h = both_false (is_conclusion a) (is_conclusion b) (λ k. ne_eqb (kind_of b) 3 (h (eqb-true (kind_of a) 3 k)))
+pub single_tell : (a b : ℕ) → (kind_of a ≡ 3 → kind_of b ≡ 3 → ⊥) → is_conclusion a && is_conclusion b ≡ false
+single_tell a b h = both_false (is_conclusion a) (is_conclusion b) (λ k. ne_eqb (kind_of b) 3 (h (eqb-true (kind_of a) 3 k)))
 
-pub last-told : (c m : ℕ) → is_conclusion c && ltb (date_of c) m ≡ false → kind_of c ≡ 3 → m ≤ date_of c
-last-told c m h k = ltb-false (date_of c) m (nand-told (is_conclusion c) _ (not-tell _ h) (eq-eqb (kind_of c) 3 k))
+pub last_told : (c m : ℕ) → is_conclusion c && ltb (date_of c) m ≡ false → kind_of c ≡ 3 → m ≤ date_of c
+last_told c m h k = ltb-false (date_of c) m (nand_told (is_conclusion c) _ (not_tell _ h) (eq-eqb (kind_of c) 3 k))
 
-pub last-tell : (c m : ℕ) → (kind_of c ≡ 3 → m ≤ date_of c) → is_conclusion c && ltb (date_of c) m ≡ false
-last-tell c m h = both_false (is_conclusion c) _ (λ k. le-ltb (date_of c) m (h (eqb-true (kind_of c) 3 k)))
+pub last_tell : (c m : ℕ) → (kind_of c ≡ 3 → m ≤ date_of c) → is_conclusion c && ltb (date_of c) m ≡ false
+last_tell c m h = both_false (is_conclusion c) _ (λ k. le-ltb (date_of c) m (h (eqb-true (kind_of c) 3 k)))
 
 -- ---- one step
 
-pub fits-alone : (t p m e : ℕ) → fits t p m e ≡ true → Alone t e
-fits-alone t p m e h =
+pub fits_alone : (t p m e : ℕ) → fits t p m e ≡ true → Alone t e
+fits_alone t p m e h =
     record {
       dated = leb-true t (date_of e) (and_left (leb t (date_of e)) _ h);
-      ends = ends-told e (not-true _ (and_left (not (is_suspension e && ltb (end_of e) (date_of e))) _ (and_right (leb t (date_of e)) _ h)));
+      ends = ends_told e (not-true _ (and_left (not (is_suspension e && ltb (end_of e) (date_of e))) _ (and_right (leb t (date_of e)) _ h)));
     }
 
 pub fits_next : (t p m e : ℕ) → event_key_of p < event_key_of e → fits t p m e ≡ true → Next p m e
@@ -135,23 +135,23 @@ fits_next t p m e o h =
     let b = and_right (not (is_suspension e && ltb (end_of e) (date_of e))) _ a in
     let d = and_right (not (share_day p e)) _ b in
     record {
-      days = share-told p e o (fits-alone t p m e h).ends (not-true _ (and_left (not (share_day p e)) _ b));
-      single = single-told p e (not-true _ (and_left (not (is_conclusion p && is_conclusion e)) _ d));
-      last = last-told e m (not-true _ (and_right (not (is_conclusion p && is_conclusion e)) _ d));
+      days = share_told p e o (fits_alone t p m e h).ends (not-true _ (and_left (not (share_day p e)) _ b));
+      single = single_told p e (not-true _ (and_left (not (is_conclusion p && is_conclusion e)) _ d));
+      last = last_told e m (not-true _ (and_right (not (is_conclusion p && is_conclusion e)) _ d));
     }
 
-pub fits-tell : (t p m e : ℕ) → Alone t e → Next p m e → fits t p m e ≡ true
-fits-tell t p m e a n =
-    and-tell (leb t (date_of e)) _ (le-leb t (date_of e) a.dated)
-    (and-tell (not (is_suspension e && ltb (end_of e) (date_of e))) _ (not-tell _ (ends-tell e a.ends))
-    (and-tell (not (share_day p e)) _ (not-tell _ (share-tell p e n.days))
-    (and-tell (not (is_conclusion p && is_conclusion e)) _ (not-tell _ (single-tell p e n.single)) (not-tell _ (last-tell e m n.last)))))
+pub fits_tell : (t p m e : ℕ) → Alone t e → Next p m e → fits t p m e ≡ true
+fits_tell t p m e a n =
+    and_tell (leb t (date_of e)) _ (le-leb t (date_of e) a.dated)
+    (and_tell (not (is_suspension e && ltb (end_of e) (date_of e))) _ (not_tell _ (ends_tell e a.ends))
+    (and_tell (not (share_day p e)) _ (not_tell _ (share_tell p e n.days))
+    (and_tell (not (is_conclusion p && is_conclusion e)) _ (not_tell _ (single_tell p e n.single)) (not_tell _ (last_tell e m n.last)))))
 
 -- the second after the first, where one stands between them
 pub across : (t p m e f : ℕ) → event_key_of p < event_key_of e → Sane e → Alone t e → Next p m e → event_key_of e < event_key_of f → Next e (max m (late e)) f → Next p m f
 across t p m e f o s a n q g =
-    let d = dates-rise p e o in
-    let i = dates-rise e f q in
+    let d = dates_rise p e o in
+    let i = dates_rise e f q in
     record {
       days = λ x y.
           let k : kind_of e ≡ 2 = omega arith in

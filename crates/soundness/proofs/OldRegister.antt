@@ -24,9 +24,9 @@ use Rattle.home_care.specs.Row.{Key, Case, Event, old_bytes, never, home_care, c
 use Rattle.home_care.specs.Fits.{key_with, case_with, event_with, EventFits}
 use Rattle.home_care.specs.Record.{padded}
 use Rattle.home_care.specs.Allowed.{event_allowed, tail_allowed_wide, event_row_allowed_wide}
-use Rattle.home_care.proofs.OldRows.{old_number, old-lt, EndsDeclared, old-refused}
+use Rattle.home_care.proofs.OldRows.{old_number, old_lt, EndsDeclared, old_refused}
 use Rattle.soundness.specs.Sound.{is_sound_wide}
-use Rattle.soundness.proofs.Deciding.{wide-told}
+use Rattle.soundness.proofs.Deciding.{wide_told}
 
 -- what holds of rows holds of each
 from_all : (q : Row ℕ → Bool) (f : ℕ → Row ℕ) (i k : ℕ) → all q (from f i k) ≡ true → (j : ℕ) → i ≤ j → j < i + k → q (f j) ≡ true
@@ -43,27 +43,27 @@ module _ (w : ℕ) (reg : List ℕ) (i c : ℕ) (e : Event) (f : EventFits e) (h
   row = split_of events (home_care w) (row_in (home_care w) reg i)
 
   -- an event's row of a sound register is allowed
-  row-allowed : is_sound_wide w reg ≡ true → event_row_allowed_wide w row ≡ true
-  row-allowed h =
-      from_all (event_row_allowed_wide w) (λ j. split_of events (home_care w) (row_in (home_care w) reg j)) (cases_held reg) (events_held reg) (wide-told w reg h).event-rows i low high
+  row_allowed : is_sound_wide w reg ≡ true → event_row_allowed_wide w row ≡ true
+  row_allowed h =
+      from_all (event_row_allowed_wide w) (λ j. split_of events (home_care w) (row_in (home_care w) reg j)) (cases_held reg) (events_held reg) (wide_told w reg h).event_rows_lem i low high
 
-  number-here : event_number_in_wide w row ≡ old_number e
-  number-here =
+  number_here : event_number_in_wide w row ≡ old_number e
+  number_here =
       ap (field_at (tail_bits_wide w) event_bits) (number_of events (home_care w) (row_in (home_care w) reg i) ∙ here)
       ∙ ap (λ (n : ℕ). n % 2 ^ event_bits) (shl-shr (c * 2 ^ event_bits + old_number e) (tail_bits_wide w))
-      ∙ last (old_number e) (old-lt e f)
+      ∙ last (old_number e) (old_lt e f)
     where
       last : (n : ℕ) → n < 2 ^ event_bits → (c * 2 ^ event_bits + n) % 2 ^ event_bits ≡ n
       last n h = omega arith
 
-  pub old-unsound : EndsDeclared e.end → is_sound_wide w reg ≡ false
-  old-unsound ends = go (is_sound_wide w reg) refl
+  pub old_unsound : EndsDeclared e.end → is_sound_wide w reg ≡ false
+  old_unsound ends = go (is_sound_wide w reg) refl
     where
       go : (b : Bool) → is_sound_wide w reg ≡ b → is_sound_wide w reg ≡ false
       go true h =
           let n : ℕ = event_number_in_wide w row in
-          let a : event_allowed (event_in n) ≡ true = and_left (event_allowed (event_in n)) (tail_allowed_wide w n (tail_in_wide w row)) (row-allowed h) in
-          absurd (true≢false (sym a ∙ ap (λ (k : ℕ). event_allowed (event_in k)) number-here ∙ old-refused e f ends))
+          let a : event_allowed (event_in n) ≡ true = and_left (event_allowed (event_in n)) (tail_allowed_wide w n (tail_in_wide w row)) (row_allowed h) in
+          absurd (true≢false (sym a ∙ ap (λ (k : ℕ). event_allowed (event_in k)) number_here ∙ old_refused e f ends))
       go false h = h
 
 -- ---- two such registers, in rows of 91 bytes, each of a case and one event: a visit of 2018-05-02 by operator 2, with 3 accesses, and a suspension from 05-03 to 05-05
@@ -86,23 +86,23 @@ holding n =
     digits 2 1 ++ (digits 2 1 ++ (digits old_bytes ((key_number key * 2 ^ case_bits + case_number case) * 2 ^ case_zeros_wide old_bytes)
     ++ digits old_bytes ((key_number key * 2 ^ event_bits + n) * 2 ^ tail_bits_wide old_bytes)))
 
-visit-fits : EventFits visit
+visit_fits : EventFits visit
 unfolding first_of
-visit-fits = record { kind = omega arith; date = omega arith; code = omega arith; end = omega arith; accesses = omega arith; conferma = omega arith }
+visit_fits = record { kind = omega arith; date = omega arith; code = omega arith; end = omega arith; accesses = omega arith; conferma = omega arith }
 
-stop-fits : EventFits stop
+stop_fits : EventFits stop
 unfolding first_of
-stop-fits = record { kind = omega arith; date = omega arith; code = omega arith; end = omega arith; accesses = omega arith; conferma = omega arith }
+stop_fits = record { kind = omega arith; date = omega arith; code = omega arith; end = omega arith; accesses = omega arith; conferma = omega arith }
 
-pub visit-unsound : is_sound_wide old_bytes (holding (old_number visit)) ≡ false
+pub visit_unsound : is_sound_wide old_bytes (holding (old_number visit)) ≡ false
 unfolding row_in packs first_of
-visit-unsound = old-unsound old_bytes (holding (old_number visit)) 1 (key_number key) visit visit-fits refl (omega arith) (omega arith) (inl refl)
+visit_unsound = old_unsound old_bytes (holding (old_number visit)) 1 (key_number key) visit visit_fits refl (omega arith) (omega arith) (inl refl)
 
-pub stop-unsound : is_sound_wide old_bytes (holding (old_number stop)) ≡ false
+pub stop_unsound : is_sound_wide old_bytes (holding (old_number stop)) ≡ false
 unfolding row_in packs first_of
-stop-unsound = old-unsound old_bytes (holding (old_number stop)) 1 (key_number key) stop stop-fits refl (omega arith) (omega arith) (inr (omega arith, omega arith))
+stop_unsound = old_unsound old_bytes (holding (old_number stop)) 1 (key_number key) stop stop_fits refl (omega arith) (omega arith) (inr (omega arith, omega arith))
 
 -- packed in the order of now, each is sound in such rows: nothing else is wrong with them
-pub now-sound : (is_sound_wide old_bytes (holding (event_number visit)) ≡ true) × (is_sound_wide old_bytes (holding (event_number stop)) ≡ true)
+pub now_sound : (is_sound_wide old_bytes (holding (event_number visit)) ≡ true) × (is_sound_wide old_bytes (holding (event_number stop)) ≡ true)
 unfolding all any same some_pair row_in from packs first_of years_to ascending find keep
-now-sound = (refl, refl)
+now_sound = (refl, refl)

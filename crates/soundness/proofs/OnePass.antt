@@ -22,8 +22,8 @@ use Rattle.register.specs.Stored.{events, split_of}
 use Rattle.register.specs.Search.{key_at, probe_key}
 use Rattle.register.specs.Sound.{ascending, valid}
 use Rattle.register.proofs.From.{from-length, from_cut}
-use Rattle.register.proofs.Walks.{from_next, from-none, row-good, row-bad, rows-done, climb-on, climb-not, climb-done, key_here, key-there}
-use Rattle.register.proofs.Ascending.{asc-told}
+use Rattle.register.proofs.Walks.{from_next, from_none, row_good, row_bad, rows_done, climb_on, climb_not, climb_done, key_here, key_there}
+use Rattle.register.proofs.Ascending.{asc_told}
 use Rattle.home_care.specs.Row.{home_care, key_bits}
 use Rattle.home_care.specs.Fits.{as_case}
 use Rattle.home_care.specs.Allowed.{case_row_allowed_wide}
@@ -31,7 +31,7 @@ use Rattle.soundness.specs.Sound.{home_care_rules}
 use Rattle.soundness.specs.Walk.{run_of, good_run, case_at, ran}
 use Rattle.soundness.specs.declared.one_case.Run.{Run}
 use Rattle.soundness.specs.declared.one_case.Run.TheVariants.{End, Bad}
-use Rattle.soundness.proofs.CaseRuns.{rest_of, run-rest, grouped, grouped-is}
+use Rattle.soundness.proofs.CaseRuns.{rest_of, run_rest, grouped, grouped_is}
 
 -- ---- the answers of a run
 
@@ -43,9 +43,9 @@ refused : (b : Bool) (n : ℕ) → cond b (End n) Bad ≡ Bad → b ≡ false
 refused true n h = let z : ◌≡◌ {A = ℕ} 0 1 = cc in absurd (omega arith)
 refused false n h = refl
 
-and-under : (c x y : Bool) → (c ≡ true → x ≡ y) → c && x ≡ c && y
-and-under true x y h = h refl
-and-under false x y h = refl
+and_under : (c x y : Bool) → (c ≡ true → x ≡ y) → c && x ≡ c && y
+and_under true x y h = h refl
+and_under false x y h = refl
 
 shuffle : (a b c d e : Bool) → (a && b) && ((c && d) && e) ≡ a && (c && (b && (d && e)))
 shuffle true b true d e = refl
@@ -63,15 +63,15 @@ module _ (w : ℕ) where
     allowed : good ≡ case_row_allowed_wide w (split (case_rest (home_care w)) (row_in (home_care w) reg i))
     allowed = told ∙ ap₂ (λ (v n : ℕ). case_row_allowed_wide v (split (case_rest (home_care v)) n)) long own
 
-    pub case-out : good ≡ false → false ≡ case_fits reg i
-    case-out e = rw (sym allowed ∙ e)
+    pub case_out : good ≡ false → false ≡ case_fits reg i
+    case_out e = rw (sym allowed ∙ e)
 
-    pub case-first : good ≡ true → i ≡ 0 → true ≡ case_fits reg i
-    case-first e z = rw (sym allowed ∙ e, eq-eqb i 0 z)
+    pub case_first : good ≡ true → i ≡ 0 → true ≡ case_fits reg i
+    case_first e z = rw (sym allowed ∙ e, eq-eqb i 0 z)
 
-    pub case-next : (up : Bool) → good ≡ true → (i ≡ 0 → ⊥) → up ≡ ltb (key_at w key_bits reg (i - 1)) (probe_key w key_bits row + 0) → up ≡ case_fits reg i
+    pub case_next : (up : Bool) → good ≡ true → (i ≡ 0 → ⊥) → up ≡ ltb (key_at w key_bits reg (i - 1)) (probe_key w key_bits row + 0) → up ≡ case_fits reg i
     unfolding key_at probe_key row_in
-    case-next up e z h =
+    case_next up e z h =
         let n : num row / 2 ^ case_rest (home_care w) + 0 ≡ case_at w reg i = ap (λ (k : ℕ). k / 2 ^ case_rest (home_care w) + 0) own ∙ add-zero (case_at w reg i) in
         h ∙ rw (sym allowed ∙ e, ne_eqb i 0 z, n)
 
@@ -101,8 +101,8 @@ module _ (w : ℕ) where
       pub up : ascending cs ≡ ascending (cases_from (home_care w) reg (i - 1) (cases - (i - 1)))
       pub runs : walked cs (es cases) ≡ walked (cases_from (home_care w) reg i (cases - i)) (es j)
 
-    pub rest-start : Rest 0 cases
-    rest-start =
+    pub rest_start : Rest 0 cases
+    rest_start =
         let e : cases ≡ cases - 0 = omega arith in
         record {
           allow = ap (λ (k : ℕ). all (case_row_allowed_wide w) (cases_from (home_care w) reg 0 k)) e;
@@ -112,41 +112,41 @@ module _ (w : ℕ) where
 
     module _ (n : ℕ) (room-left : rows ≤ room (home_care w) n) (order : cases ≤ rows) where
       -- what the pass decides
-      valid-is : valid (home_care w) (home_care_rules w) n state ≡ (all (case_row_allowed_wide w) cs && (ascending cs && walked cs (es cases)))
-      valid-is =
+      valid_is : valid (home_care w) (home_care_rules w) n state ≡ (all (case_row_allowed_wide w) cs && (ascending cs && walked cs (es cases)))
+      valid_is =
           let f : cases + (rows - cases) ≤ room (home_care w) n = omega arith in
           rw (from-length case_row 0 cases, from-length event_row cases (rows - cases), le-leb (cases + (rows - cases)) (room (home_care w) n) f)
           (shuffle (all (case_row_allowed_wide w) cs) _ (ascending cs) _ _
-          ∙ ap (λ (b : Bool). all (case_row_allowed_wide w) cs && b) (and-under (ascending cs) _ _ (λ u. sym (grouped-is (case_named (home_care w)) (λ j k h. omega arith) (home_care_rules w) 0 cs (es cases) (asc-told cs u)))))
+          ∙ ap (λ (b : Bool). all (case_row_allowed_wide w) cs && b) (and_under (ascending cs) _ _ (λ u. sym (grouped_is (case_named (home_care w)) (λ j k h. omega arith) (home_care_rules w) 0 cs (es cases) (asc_told cs u)))))
 
       module _ (i j : ℕ) (rest : Rest i j) where
         module _ (h : i < cases) where
           -- the test of the keys as the code makes it
-          above-last : (i ≡ 0 → ⊥) → ltb (case_at w reg (i - 1)) (case_at w reg i) ≡ ltb (key_at w key_bits reg (i - 1)) (probe_key w key_bits (take (4 + w * (i - 1 + 1) + w - (4 + w * (i - 1 + 1))) (drop (4 + w * (i - 1 + 1)) reg)) + 0)
-          above-last z =
+          above_last : (i ≡ 0 → ⊥) → ltb (case_at w reg (i - 1)) (case_at w reg i) ≡ ltb (key_at w key_bits reg (i - 1)) (probe_key w key_bits (take (4 + w * (i - 1 + 1) + w - (4 + w * (i - 1 + 1))) (drop (4 + w * (i - 1 + 1)) reg)) + 0)
+          above_last z =
               let e : i ≡ i - 1 + 1 = omega (arith, z) in
               let d : case_at w reg (i - 1 + 1) ≡ case_at w reg (i - 1 + 1) + 0 = omega arith in
               ap (λ (k : ℕ). ltb (case_at w reg (i - 1)) (case_at w reg k)) e
-              ∙ ap₂ ltb (sym (key_here (home_care w) w key_bits reg refl (i - 1))) (d ∙ ap (λ (k : ℕ). k + 0) (sym (key-there (home_care w) w key_bits reg refl (i - 1 + 1) (4 + w * (i - 1 + 1)) refl)))
+              ∙ ap₂ ltb (sym (key_here (home_care w) w key_bits reg refl (i - 1))) (d ∙ ap (λ (k : ℕ). k + 0) (sym (key_there (home_care w) w key_bits reg refl (i - 1 + 1) (4 + w * (i - 1 + 1)) refl)))
 
-          pub case-not : (good : Bool) → good ≡ case_fits reg i → good ≡ false → false ≡ valid (home_care w) (home_care_rules w) n state
-          case-not good told e = go (case_row_allowed_wide w (case_row i)) refl (tri i 0)
+          pub case_not : (good : Bool) → good ≡ case_fits reg i → good ≡ false → false ≡ valid (home_care w) (home_care_rules w) n state
+          case_not good told e = go (case_row_allowed_wide w (case_row i)) refl (tri i 0)
             where
               go : (b : Bool) → case_row_allowed_wide w (case_row i) ≡ b → Tri i 0 → false ≡ valid (home_care w) (home_care_rules w) n state
-              go false a t = sym (valid-is ∙ rw (sym (row-bad case_row (case_row_allowed_wide w) _ _ i cases rest.allow h refl a)))
+              go false a t = sym (valid_is ∙ rw (sym (row_bad case_row (case_row_allowed_wide w) _ _ i cases rest.allow h refl a)))
               go true a (below l _ _) = absurd (omega arith)
               go true a (equal l _ f) = let z : true ≡ false = sym (rw (a, f) at told) ∙ e in absurd (true≢false z)
               go true a (above l _ f) =
                   let u : ltb (case_at w reg (i - 1)) (case_at w reg i) ≡ false = sym (rw (a, f) at told) ∙ e in
-                  let d = climb-not (home_care w) w key_bits reg refl _ _ (i - 1) cases rest.up (omega arith) (above-last (λ z. omega arith)) u in
-                  sym (valid-is ∙ rw (sym d) (and-false (all (case_row_allowed_wide w) cs)))
+                  let d = climb_not (home_care w) w key_bits reg refl _ _ (i - 1) cases rest.up (omega arith) (above_last (λ z. omega arith)) u in
+                  sym (valid_is ∙ rw (sym d) (and-false (all (case_row_allowed_wide w) cs)))
 
           -- the case at i passes
-          allow-on : case_fits reg i ≡ true → all (case_row_allowed_wide w) cs ≡ all (case_row_allowed_wide w) (cases_from (home_care w) reg (i + 1) (cases - (i + 1)))
-          allow-on e = row-good case_row (case_row_allowed_wide w) _ _ i cases rest.allow h refl (and_left (case_row_allowed_wide w (case_row i)) _ e)
+          allow_on : case_fits reg i ≡ true → all (case_row_allowed_wide w) cs ≡ all (case_row_allowed_wide w) (cases_from (home_care w) reg (i + 1) (cases - (i + 1)))
+          allow_on e = row_good case_row (case_row_allowed_wide w) _ _ i cases rest.allow h refl (and_left (case_row_allowed_wide w (case_row i)) _ e)
 
-          up-on : case_fits reg i ≡ true → ascending cs ≡ ascending (cases_from (home_care w) reg (i + 1 - 1) (cases - (i + 1 - 1)))
-          up-on e = go (tri i 0)
+          up_on : case_fits reg i ≡ true → ascending cs ≡ ascending (cases_from (home_care w) reg (i + 1 - 1) (cases - (i + 1 - 1)))
+          up_on e = go (tri i 0)
             where
               go : Tri i 0 → ascending cs ≡ ascending (cases_from (home_care w) reg (i + 1 - 1) (cases - (i + 1 - 1)))
               go (below l _ _) = absurd (omega arith)
@@ -154,26 +154,26 @@ module _ (w : ℕ) where
               go (above l _ f) =
                   let k : i - 1 + 1 ≡ i + 1 - 1 = omega arith in
                   let u : ltb (case_at w reg (i - 1)) (case_at w reg i) ≡ true = rw f at (and_right (case_row_allowed_wide w (case_row i)) _ e) in
-                  climb-on (home_care w) w key_bits reg refl _ _ (i - 1) cases rest.up (omega arith) (above-last (λ z. omega arith)) u
+                  climb_on (home_care w) w key_bits reg refl _ _ (i - 1) cases rest.up (omega arith) (above_last (λ z. omega arith)) u
                   ∙ ap (λ (k : ℕ). ascending (cases_from (home_care w) reg k (cases - k))) k
 
           -- and its events
           abbrev run : Map ℕ
           run = run_of (case_named (home_care w)) (case_at w reg i) (es j)
 
-          one-case : walked cs (es cases) ≡ (good_run (home_care_rules w) (case_at w reg i) run && walked (cases_from (home_care w) reg (i + 1) (cases - (i + 1))) (rest_of (case_named (home_care w)) (case_at w reg i) (es j)))
+          one_case_lem : walked cs (es cases) ≡ (good_run (home_care_rules w) (case_at w reg i) run && walked (cases_from (home_care w) reg (i + 1) (cases - (i + 1))) (rest_of (case_named (home_care w)) (case_at w reg i) (es j)))
           unfolding grouped
-          one-case = rest.runs ∙ ap (λ (l : Map ℕ). walked l (es j)) (from_next case_row i cases h)
+          one_case_lem = rest.runs ∙ ap (λ (l : Map ℕ). walked l (es j)) (from_next case_row i cases h)
 
-          pub run-bad : (r : Run) → r ≡ ran w (case_at w reg i) j (es j) → r ≡ Bad → false ≡ valid (home_care w) (home_care_rules w) n state
-          run-bad r told e =
+          pub run_bad : (r : Run) → r ≡ ran w (case_at w reg i) j (es j) → r ≡ Bad → false ≡ valid (home_care w) (home_care_rules w) n state
+          run_bad r told e =
               let g = refused (good_run (home_care_rules w) (case_at w reg i) run) (j + length run) (sym told ∙ e) in
-              sym (valid-is ∙ rw (one-case, g, and-false (ascending cs)) (and-false (all (case_row_allowed_wide w) cs)))
+              sym (valid_is ∙ rw (one_case_lem, g, and-false (ascending cs)) (and-false (all (case_row_allowed_wide w) cs)))
 
           run_short : j ≤ rows → length run ≤ rows - j
           run_short l =
               let e : length run + length (rest_of (case_named (home_care w)) (case_at w reg i) (es j)) ≡ rows - j =
-              sym (length-append run (rest_of (case_named (home_care w)) (case_at w reg i) (es j))) ∙ ap length (run-rest (case_named (home_care w)) (case_at w reg i) (es j)) ∙ from-length event_row j (rows - j) in
+              sym (length-append run (rest_of (case_named (home_care w)) (case_at w reg i) (es j))) ∙ ap length (run_rest (case_named (home_care w)) (case_at w reg i) (es j)) ∙ from-length event_row j (rows - j) in
               omega arith
 
           rest_from : j ≤ rows → rest_of (case_named (home_care w)) (case_at w reg i) (es j) ≡ es (j + length run)
@@ -181,7 +181,7 @@ module _ (w : ℕ) where
               let s = run_short l in
               let k : length (from event_row j (j + length run - j)) ≡ length run = from-length event_row j (j + length run - j) ∙ (let z : j + length run - j ≡ length run = omega arith in z) in
               sym (drop_at run (rest_of (case_named (home_care w)) (case_at w reg i) (es j)) (length run) refl)
-              ∙ ap (drop (length run)) (run-rest (case_named (home_care w)) (case_at w reg i) (es j) ∙ from_cut event_row j (j + length run) rows (omega arith) (omega arith))
+              ∙ ap (drop (length run)) (run_rest (case_named (home_care w)) (case_at w reg i) (es j) ∙ from_cut event_row j (j + length run) rows (omega arith) (omega arith))
               ∙ drop_at (from event_row j (j + length run - j)) (es (j + length run)) (length run) k
 
           -- a good run ends within the rows, and the rest goes on from there
@@ -193,21 +193,21 @@ module _ (w : ℕ) where
                 omega arith,
                 omega arith,
                 record {
-                  allow = allow-on (sym fit ∙ f);
-                  up = up-on (sym fit ∙ f);
-                  runs = one-case ∙ rw (g.0, rest_from l, b);
+                  allow = allow_on (sym fit ∙ f);
+                  up = up_on (sym fit ∙ f);
+                  runs = one_case_lem ∙ rw (g.0, rest_from l, b);
                 },
               )
 
         -- all cases are past: no event is left
-        pub pass-done : cases ≤ i → j ≤ rows → eqb j rows ≡ valid (home_care w) (home_care_rules w) n state
+        pub pass_done : cases ≤ i → j ≤ rows → eqb j rows ≡ valid (home_care w) (home_care_rules w) n state
         unfolding grouped
-        pass-done h l =
-            let a = rows-done case_row (case_row_allowed_wide w) _ true i cases rest.allow h in
-            let u = climb-done (home_care w) w key_bits reg refl _ true (i - 1) cases rest.up (omega arith) in
-            sym (valid-is ∙ rw (sym a, sym u, rest.runs, from-none case_row i cases h) (go (tri j rows)))
+        pass_done h l =
+            let a = rows_done case_row (case_row_allowed_wide w) _ true i cases rest.allow h in
+            let u = climb_done (home_care w) w key_bits reg refl _ true (i - 1) cases rest.up (omega arith) in
+            sym (valid_is ∙ rw (sym a, sym u, rest.runs, from_none case_row i cases h) (go (tri j rows)))
           where
             go : Tri j rows → walked [] (es j) ≡ eqb j rows
             go (below b _ e) = ap (walked []) (from_next event_row j rows b) ∙ sym e
-            go (equal b _ e) = ap (walked []) (from-none event_row j rows (omega arith)) ∙ sym e
+            go (equal b _ e) = ap (walked []) (from_none event_row j rows (omega arith)) ∙ sym e
             go (above b _ e) = absurd (omega arith)

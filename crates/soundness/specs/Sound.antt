@@ -14,7 +14,7 @@ abbrev pub home_care_rules : ℕ → Rules
 home_care_rules w =
     record {
       case_row = case_row_allowed_wide w;
-      event-row = event_row_allowed_wide w;
+      event_row = event_row_allowed_wide w;
       together = λ c m. events_free (taken_in c) (map (event_number_in_wide w) m);
     }
 

@@ -16,7 +16,7 @@ run_of own c (x ∷ m) = cond (eqb (own x.key) c) (x ∷ run_of own c m) []
 
 -- a case's events: every row allowed, keys ascending, free together
 abbrev pub good_run : Rules → ℕ → Map ℕ → Bool
-good_run rules c m = all rules.event-row m && (ascending m && rules.together c m)
+good_run rules c m = all rules.event_row m && (ascending m && rules.together c m)
 
 -- the key of the case in row i, of w bytes
 abbrev pub case_at : ℕ → List ℕ → ℕ → ℕ

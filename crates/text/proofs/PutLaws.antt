@@ -13,16 +13,16 @@ use borrow.Author.Tests.{leb-true, leb-false}
 use Rattle.text.specs.Put.{written, Put, Starts}
 
 -- past the end nothing is written
-written-past : (at : ℕ) (t out : List ℕ) → length out ≤ at → written at t out ≡ out
+written_past : (at : ℕ) (t out : List ℕ) → length out ≤ at → written at t out ≡ out
 unfolding written
-written-past at [] out h = refl
-written-past at (b ∷ t) out h = rw (set_out out at b h) (written-past (at + 1) t out (omega arith))
+written_past at [] out h = refl
+written_past at (b ∷ t) out h = rw (set_out out at b h) (written_past (at + 1) t out (omega arith))
 
-written-append : (at : ℕ) (s t out : List ℕ) → written at (s ++ t) out ≡ written (at + length s) t (written at s out)
+written_append : (at : ℕ) (s t out : List ℕ) → written at (s ++ t) out ≡ written (at + length s) t (written at s out)
 unfolding written
-written-append at [] t out = rw (add-zero at)
-written-append at (b ∷ s) t out =
-    written-append (at + 1) s t (set out at b)
+written_append at [] t out = rw (add-zero at)
+written_append at (b ∷ s) t out =
+    written_append (at + 1) s t (set out at b)
     ∙ ap (λ (n : ℕ). written n t (written (at + 1) s (set out at b))) (omega arith)
 
 -- the place that is answered serves as well as the one after the whole text
@@ -33,12 +33,12 @@ written_from at m n t out e = go (leb (at + n) (length out)) refl
     go true h = let l = leb-true (at + n) (length out) h in ap (λ (k : ℕ). written k t out) (omega arith)
     go false h =
         let l = leb-false (at + n) (length out) h in
-        written-past m t out (omega arith) ∙ sym (written-past (at + n) t out (omega arith))
+        written_past m t out (omega arith) ∙ sym (written_past (at + n) t out (omega arith))
 
 -- nothing put
-pub put-none : (at : ℕ) (out : List ℕ) → Put at [] out out at
+pub put_none : (at : ℕ) (out : List ℕ) → Put at [] out out at
 unfolding written
-put-none at out = record { bytes = refl; long = refl; place = omega arith }
+put_none at out = record { bytes = refl; long = refl; place = omega arith }
 
 -- a text, and then another after it
 pub put_on : {at m r : ℕ} {s t x y z : List ℕ} → Put at s x y m → Put m t y z r → Put at (s ++ t) x z r
@@ -48,7 +48,7 @@ put_on {at} {m} {r} {s} {t} {x} {y} {z} p q =
           q.bytes
           ∙ written_from at m (length s) t y (p.place ∙ ap (λ (k : ℕ). at + min (length s) (k - at)) (sym p.long))
           ∙ ap (λ (o : List ℕ). written (at + length s) t o) p.bytes
-          ∙ sym (written-append at s t x);
+          ∙ sym (written_append at s t x);
       long = q.long ∙ p.long;
       place = rw (length-append s t) (omega arith);
     }
@@ -64,24 +64,24 @@ pub put_all : {at r : ℕ} {t x y : List ℕ} → Put at t x y r → at + length
 put_all {at} {r} {t} {x} {y} p h = (p.bytes ∙ written-sets at t x ∙ sets-eq t x at h, omega (arith, p.place))
 
 -- and so it does from the first byte on
-pub put-starts : {r : ℕ} {t x y : List ℕ} → Put 0 t x y r → length t ≤ length x → Starts t x y r
-put-starts {r} {t} {x} {y} p h =
+pub put_starts : {r : ℕ} {t x y : List ℕ} → Put 0 t x y r → length t ≤ length x → Starts t x y r
+put_starts {r} {t} {x} {y} p h =
     let w = put_all p (omega arith) in
     let e : 0 + length t ≡ r = omega (arith, w.1) in
     record { bytes = w.0 ∙ ap (λ (n : ℕ). t ++ drop n x) e; count = omega (arith, w.1); inside = omega (arith, w.1, p.long) }
 
 -- one byte, where there is room for it; and anything where there is none
-pub put-inside : (at b : ℕ) (out : List ℕ) → at < length out → Put at (b ∷ []) out (set out at b) (at + 1)
+pub put_inside : (at b : ℕ) (out : List ℕ) → at < length out → Put at (b ∷ []) out (set out at b) (at + 1)
 unfolding written
-put-inside at b out h = record { bytes = refl; long = length-set out at b; place = omega arith }
+put_inside at b out h = record { bytes = refl; long = length-set out at b; place = omega arith }
 
-pub put-past : (at : ℕ) (t out : List ℕ) → length out ≤ at → Put at t out out at
-put-past at t out h = record { bytes = sym (written-past at t out h); long = refl; place = omega arith }
+pub put_past : (at : ℕ) (t out : List ℕ) → length out ≤ at → Put at t out out at
+put_past at t out h = record { bytes = sym (written_past at t out h); long = refl; place = omega arith }
 
 -- a text put byte after byte
 module _ {at m : ℕ} {x y : List ℕ} (t : List ℕ) (i : ℕ) (p : Put at (take i t) x y m) where
   pub put_next : {r : ℕ} {z : List ℕ} → i < length t → Put m (get_or t i 0 ∷ []) y z r → Put at (take (i + 1) t) x z r
   put_next h q = rw (add-one, take-suc t i 0) (put_on p q)
 
-  pub put-done : length t ≤ i → Put at t x y m
-  put-done h = rw (take_all i t h) at p
+  pub put_done : length t ≤ i → Put at t x y m
+  put_done h = rw (take_all i t h) at p

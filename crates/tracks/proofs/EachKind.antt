@@ -10,13 +10,13 @@ use Rattle.reading.specs.Everywhere.{Every}
 use Rattle.reading.proofs.Places.{every_map}
 use Rattle.schema.specs.Schema.{Particle, group, Nodes}
 use Rattle.nodes.proofs.Taken.{Meets, Taken}
-use Rattle.nodes.proofs.Present.{node_of, only, absent, owed, by-node, MayLack, lacks, child-maybe, child-none, first-missing}
+use Rattle.nodes.proofs.Present.{node_of, only, absent, owed, by_node, MayLack, lacks, child_maybe, child_none, first_missing}
 use Rattle.nodes.proofs.Fields.{attr_named}
 use Rattle.schemas.specs.Track2
 use Rattle.tracks.specs.EventElements
 use Rattle.tracks.specs.EventElements.{Wording, wordings, wording_in}
 use Rattle.tracks.specs.Typed.{Each}
-use Rattle.tracks.proofs.Worded.{Field, in-child, in-attribute, Tells}
+use Rattle.tracks.proofs.Worded.{Field, in_child, in_attribute, Tells}
 
 -- a Valutazione stands in no other event than a Rivalutazione
 pub data Valued (k : ℕ) (ns : Nodes) : Type 0 where
@@ -27,9 +27,9 @@ pub data Valued (k : ℕ) (ns : Nodes) : Type 0 where
 pub value_in : (p : Tree → Type 0) (far : (c : Tree) → p c → 0 < c.from) {k : ℕ} {h : Particle} {ns : Nodes} {t : Tree} → Valued k ns → Meets p (group h ns) t
     → MayLack p Track2.valutazione (bytes "Valutazione") t
 value_in p far {t = t} (unvalued e) m =
-    let n = child-none p far m (bytes "Valutazione") e in
-    lacks n (first-missing (bytes "Valutazione") (kids t.inside) n)
-value_in p far (valued k e) m = child-maybe p far m (bytes "Valutazione") Track2.valutazione e
+    let n = child_none p far m (bytes "Valutazione") e in
+    lacks n (first_missing (bytes "Valutazione") (kids t.inside) n)
+value_in p far (valued k e) m = child_maybe p far m (bytes "Valutazione") Track2.valutazione e
 
 pub record Kind (w : Wording) : Type 0 where
   pub head : Particle
@@ -45,7 +45,7 @@ rivalutazione =
       head = _;
       nodes = _;
       found = refl;
-      tells = record { day = refl; end = Field.none tt; code = in-attribute refl (Field.one tt refl); accesses = Field.none tt; conferma = Field.one refl refl };
+      tells = record { day = refl; end = Field.none tt; code = in_attribute refl (Field.one tt refl); accesses = Field.none tt; conferma = Field.one refl refl };
       values = valued refl refl;
     }
 
@@ -56,7 +56,7 @@ erogazione =
       head = _;
       nodes = _;
       found = refl;
-      tells = record { day = refl; end = Field.none tt; code = in-child refl refl; accesses = Field.one refl refl; conferma = Field.none refl };
+      tells = record { day = refl; end = Field.none tt; code = in_child refl refl; accesses = Field.one refl refl; conferma = Field.none refl };
       values = unvalued refl;
     }
 
@@ -67,7 +67,7 @@ sospensione =
       head = _;
       nodes = _;
       found = refl;
-      tells = record { day = refl; end = Field.one refl refl; code = in-child refl refl; accesses = Field.none tt; conferma = Field.none refl };
+      tells = record { day = refl; end = Field.one refl refl; code = in_child refl refl; accesses = Field.none tt; conferma = Field.none refl };
       values = unvalued refl;
     }
 
@@ -78,7 +78,7 @@ conclusione =
       head = _;
       nodes = _;
       found = refl;
-      tells = record { day = refl; end = Field.none tt; code = in-child refl refl; accesses = Field.none tt; conferma = Field.none refl };
+      tells = record { day = refl; end = Field.none tt; code = in_child refl refl; accesses = Field.none tt; conferma = Field.none refl };
       values = unvalued refl;
     }
 
@@ -97,20 +97,20 @@ by_name q x (w ∷ ws) h e = go (same w.element x) h.0 (by_name q x ws h.1) e
     go true f g e = f refl
     go false f g e = g e
 
-pub every-both : (a b : Tree → Type 0) (ts : List Tree) → Every a ts → Every b ts → Every (λ t. a t × b t) ts
-every-both a b [] f g = tt
-every-both a b (t ∷ ts) f g = ((f.0, g.0), every-both a b ts f.1 g.1)
+pub every_both : (a b : Tree → Type 0) (ts : List Tree) → Every a ts → Every b ts → Every (λ t. a t × b t) ts
+every_both a b [] f g = tt
+every_both a b (t ∷ ts) f g = ((f.0, g.0), every_both a b ts f.1 g.1)
 
 -- what each kind's node tells of its elements holds of the children of Eventi, each by its name
 module _ (p : Tree → Type 0) (q : Wording → Tree → Type 0) (f : (w : Wording) (k : Kind w) (t : Tree) → Meets p (group k.head k.nodes) t → q w t) where
-  pub each-child : (ws : List Wording) → Each Kind ws → {j : ℕ} {cs : List Tree} → Taken p Track2.eventi j cs → Every (λ t. Each (λ w. same w.element t.named ≡ true → q w t) ws) cs
-  each-child [] h {j} {cs} c = all_of cs
+  pub each_child : (ws : List Wording) → Each Kind ws → {j : ℕ} {cs : List Tree} → Taken p Track2.eventi j cs → Every (λ t. Each (λ w. same w.element t.named ≡ true → q w t) ws) cs
+  each_child [] h {j} {cs} c = all_of cs
     where
       all_of : (cs : List Tree) → Every (λ t. Unit) cs
       all_of [] = tt
       all_of (t ∷ ts) = (tt, all_of ts)
-  each-child (w ∷ ws) h {j} {cs} c =
-      every-both (λ t. same w.element t.named ≡ true → q w t) (λ t. Each (λ w. same w.element t.named ≡ true → q w t) ws) cs
+  each_child (w ∷ ws) h {j} {cs} c =
+      every_both (λ t. same w.element t.named ≡ true → q w t) (λ t. Each (λ w. same w.element t.named ≡ true → q w t) ws) cs
       (every_map (λ t. same w.element t.named ≡ true → Meets p (group h.0.head h.0.nodes) t) (λ t. same w.element t.named ≡ true → q w t)
-      (λ t g u. f w h.0 t (g u)) cs (by-node p w.element (group h.0.head h.0.nodes) c h.0.found))
-      (each-child ws h.1 c)
+      (λ t g u. f w h.0 t (g u)) cs (by_node p w.element (group h.0.head h.0.nodes) c h.0.found))
+      (each_child ws h.1 c)

@@ -13,7 +13,7 @@ use Rattle.markup.specs.Elements.{Tree}
 use Rattle.home_care.specs.Row.{Event, event_number, evaluation_number, scale_bits, anew, kind_of, conferma_of, evaluates}
 use Rattle.home_care.specs.Fits.{EventFits, EvaluationFits, evaluation_with}
 use Rattle.home_care.specs.Record.{padded}
-use Rattle.home_care.proofs.EventAllowed.{event-back}
+use Rattle.home_care.proofs.EventAllowed.{event_back}
 use Rattle.tracks.specs.RecordFields.{main_of, scales_of, evaluation_for}
 use Rattle.tracks.specs.Typed.{IsScale, Evaluable}
 use Rattle.tracks.proofs.Fits.{padded-length}
@@ -22,27 +22,27 @@ use Rattle.tracks.proofs.Fits.{padded-length}
 pub kind-evaluates : (e : Event) → EventFits e → evaluates (event_number e) ≡ true → e.kind ≡ revaluation
 kind-evaluates e f h =
     let n = event_number e in
-    sym (ap (λ (x : Event). x.kind) (event-back e f)) ∙ eqb-true (kind_of n) revaluation (and_left (eqb (kind_of n) revaluation) (eqb (conferma_of n) anew) h)
+    sym (ap (λ (x : Event). x.kind) (event_back e f)) ∙ eqb-true (kind_of n) revaluation (and_left (eqb (kind_of n) revaluation) (eqb (conferma_of n) anew) h)
 
-two-bits : (t : List ℕ) → IsScale t → decimal t < 2 ^ scale_bits
-two-bits t k = omega (arith, k.most)
+two_bits : (t : List ℕ) → IsScale t → decimal t < 2 ^ scale_bits
+two_bits t k = omega (arith, k.most)
 
 -- of a Valutazione, as the code holds its fields
 module _ (value : Tree) {scales prevalente : List ℕ} (s : scales ≡ scales_of value) (m : prevalente ≡ padded (main_of value)) where
-  pub evaluable-fits : Evaluable value → EvaluationFits (evaluation_with scales prevalente)
-  evaluable-fits e =
+  pub evaluable_fits : Evaluable value → EvaluationFits (evaluation_with scales prevalente)
+  evaluable_fits e =
       let f = e.scaled in
       rw (s, m) (record {
-        scales = (two-bits _ f.autonomy, (two-bits _ f.mobility, (two-bits _ f.cognitive, (two-bits _ f.behaviour, (two-bits _ f.support, (two-bits _ f.infection, tt))))));
+        scales = (two_bits _ f.autonomy, (two_bits _ f.mobility, (two_bits _ f.cognitive, (two_bits _ f.behaviour, (two_bits _ f.support, (two_bits _ f.infection, tt))))));
         scales-length = refl;
         prevalente = e.main;
         prevalente-length = padded-length (main_of value);
       })
 
-  pub kept-number : (w : ℕ) {n : ℕ} → evaluates w ≡ true → n ≡ evaluation_number (evaluation_with scales prevalente) → n ≡ evaluation_for w value
-  kept-number w h e =
+  pub kept_number : (w : ℕ) {n : ℕ} → evaluates w ≡ true → n ≡ evaluation_number (evaluation_with scales prevalente) → n ≡ evaluation_for w value
+  kept_number w h e =
       e ∙ ap₂ (λ (ss p : List ℕ). evaluation_number (evaluation_with ss p)) s m
       ∙ ap (λ (b : Bool). cond b (evaluation_number (evaluation_with (scales_of value) (padded (main_of value)))) 0) (sym h)
 
-pub not-kept : (w : ℕ) (value : Tree) → evaluates w ≡ false → 0 ≡ evaluation_for w value
-not-kept w value h = ap (λ (b : Bool). cond b (evaluation_number (evaluation_with (scales_of value) (padded (main_of value)))) 0) (sym h)
+pub not_kept : (w : ℕ) (value : Tree) → evaluates w ≡ false → 0 ≡ evaluation_for w value
+not_kept w value h = ap (λ (b : Bool). cond b (evaluation_number (evaluation_with (scales_of value) (padded (main_of value)))) 0) (sym h)

@@ -67,12 +67,12 @@ unfolding Track2.track2 shape_of first_bad named_in fault_in seek enough fits_te
 second-fine = refl
 
 -- its four events: 2018-05-02 is day 43220, and so on
-second-events : map (λ a. map (λ e. e.event) (all_said a)) (records_of Track2.track2 second) ≡ map (λ e. event_number e) (
+second_events : map (λ a. map (λ e. e.event) (all_said a)) (records_of Track2.track2 second) ≡ map (λ e. event_number e) (
     record { kind = 0; date = 43220; end = never; code = 1; accesses = 0; conferma = 1 } ∷ record { kind = 1; date = 43221; end = never; code = 99; accesses = 3; conferma = 0 } ∷
     record { kind = 2; date = 43222; end = never; code = 9; accesses = 0; conferma = 0 } ∷ record { kind = 3; date = 43279; end = never; code = 12; accesses = 0; conferma = 0 } ∷ []
     ) ∷ []
 unfolding Track2.track2 named_in said_in wording_in first_named value_in day_of first_of decimal_after any same packs
-second-events = refl
+second_events = refl
 
 abbrev persona : Inside
 persona =

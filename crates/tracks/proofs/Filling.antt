@@ -18,10 +18,10 @@ by_place s a e n h p l =
     let w : a + n ≡ e = omega arith in
     ap (λ (e : ℕ). part s a e) w ∙ p
 
-pub padded-is : (x : List ℕ) → get_or x 0 0 ∷ get_or x 1 0 ∷ get_or x 2 0 ∷ get_or x 3 0 ∷ get_or x 4 0 ∷ [] ≡ padded x
-padded-is [] = refl
-padded-is (a ∷ []) = refl
-padded-is (a ∷ b ∷ []) = refl
-padded-is (a ∷ b ∷ c ∷ []) = refl
-padded-is (a ∷ b ∷ c ∷ d ∷ []) = refl
-padded-is (a ∷ b ∷ c ∷ d ∷ e ∷ x) = refl
+pub padded_is : (x : List ℕ) → get_or x 0 0 ∷ get_or x 1 0 ∷ get_or x 2 0 ∷ get_or x 3 0 ∷ get_or x 4 0 ∷ [] ≡ padded x
+padded_is [] = refl
+padded_is (a ∷ []) = refl
+padded_is (a ∷ b ∷ []) = refl
+padded_is (a ∷ b ∷ c ∷ []) = refl
+padded_is (a ∷ b ∷ c ∷ d ∷ []) = refl
+padded_is (a ∷ b ∷ c ∷ d ∷ e ∷ x) = refl

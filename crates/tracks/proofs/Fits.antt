@@ -13,7 +13,7 @@ use Rattle.laws.specs.Lists.{all}
 use Rattle.laws.proofs.Truth.{and_left, and_right, either}
 use Rattle.laws.proofs.Lists.{all_join, all_left, all_map}
 use Rattle.codes.specs.CodesAndCharacters.{Range, in_ranges, alnums, id_chars, regions}
-use Rattle.codes.proofs.Ranges.{ranges-below}
+use Rattle.codes.proofs.Ranges.{ranges_below}
 use Rattle.markup.specs.Bytes.{is_allowed, in_file, is_text}
 use Rattle.rows.specs.Packing.{each, Fit}
 use Rattle.home_care.specs.Row.{Key, Case}
@@ -21,20 +21,20 @@ use Rattle.home_care.specs.Fits.{KeyFits, CaseFits, EvaluationFits, evaluation_w
 use Rattle.home_care.specs.Record.{Said, padded}
 use Rattle.tracks.specs.WellRead.{WellKey, WellPrevalente, WellScales, WellCase, WellSaid}
 
-fit-each : (w : ℕ) (p : ℕ → Bool) → ((b : ℕ) → p b ≡ true → b < 2 ^ w) → (t : List ℕ) → all p t ≡ true → Fit (each w t)
+fit_each : (w : ℕ) (p : ℕ → Bool) → ((b : ℕ) → p b ≡ true → b < 2 ^ w) → (t : List ℕ) → all p t ≡ true → Fit (each w t)
 unfolding all
-fit-each w p h [] e = tt
-fit-each w p h (b ∷ t) e = (h b (and_left (p b) (all p t) e), fit-each w p h t (and_right (p b) (all p t) e))
+fit_each w p h [] e = tt
+fit_each w p h (b ∷ t) e = (h b (and_left (p b) (all p t) e), fit_each w p h t (and_right (p b) (all p t) e))
 
 upper : (a b z : ℕ) → leb a b && leb b z ≡ true → b ≤ z
 upper a b z e = leb-true b z (and_right (leb a b) (leb b z) e)
 
 -- a set of characters of 7 bits
-ranges-small : (rs : List Range) → all (λ r. leb r.to 127) rs ≡ true → (b : ℕ) → in_ranges rs b ≡ true → b < 2 ^ 7
-ranges-small rs h b e = let k = ranges-below rs 127 b h e in omega arith
+ranges_small : (rs : List Range) → all (λ r. leb r.to 127) rs ≡ true → (b : ℕ) → in_ranges rs b ≡ true → b < 2 ^ 7
+ranges_small rs h b e = let k = ranges_below rs 127 b h e in omega arith
 
-pub text-small : (b : ℕ) → in_file b && is_text b ≡ true → b < 2 ^ 7
-text-small b e =
+pub text_small : (b : ℕ) → in_file b && is_text b ≡ true → b < 2 ^ 7
+text_small b e =
     let a = and_left (is_allowed b) (not (eqb b (code "&"))) (and_left (in_file b) (is_text b) e) in
     ⊎_elim
     (λ u. ⊎_elim (λ v. let k = eqb-true b 9 v in omega arith)
@@ -48,11 +48,11 @@ pub key_fits : (k : Key) → WellKey k → KeyFits k
 unfolding all
 key_fits k r =
     record {
-      region = let l = ranges-below regions 200 k.region refl r.region in omega arith;
-      asl = fit-each 7 (in_ranges alnums) (ranges-small alnums refl) k.asl r.asl.bytes;
+      region = let l = ranges_below regions 200 k.region refl r.region in omega arith;
+      asl = fit_each 7 (in_ranges alnums) (ranges_small alnums refl) k.asl r.asl.bytes;
       asl-length = r.asl.long;
       taken = let l = r.taken in omega arith;
-      id = fit-each 7 (in_ranges id_chars) (ranges-small id_chars refl) k.id r.id.bytes;
+      id = fit_each 7 (in_ranges id_chars) (ranges_small id_chars refl) k.id r.id.bytes;
       id-length = r.id.long;
     }
 
@@ -61,57 +61,57 @@ key_fits k r =
 small : ℕ → Bool
 small b = ltb b (2 ^ 7)
 
-is-small : (b : ℕ) → small b ≡ true → b < 2 ^ 7
+is_small : (b : ℕ) → small b ≡ true → b < 2 ^ 7
 unfolding small
-is-small b e = ltb-true b (2 ^ 7) e
+is_small b e = ltb-true b (2 ^ 7) e
 
-zeros-small : all small (replicate 5 0) ≡ true
+zeros_small : all small (replicate 5 0) ≡ true
 unfolding all small
-zeros-small = refl
+zeros_small = refl
 
 padded-small : (t : List ℕ) → all small t ≡ true → all small (padded t) ≡ true
 padded-small t h =
-    all_left small (padded t) (drop 5 (t ++ replicate 5 0)) (rw (take-append-drop 5 (t ++ replicate 5 0)) (all_join small t (replicate 5 0) h zeros-small))
+    all_left small (padded t) (drop 5 (t ++ replicate 5 0)) (rw (take-append-drop 5 (t ++ replicate 5 0)) (all_join small t (replicate 5 0) h zeros_small))
 
 pub padded-length : (t : List ℕ) → length (padded t) ≡ 5
 padded-length t = simp (length-take, length-append, length-replicate) (omega arith)
 
-pub prevalente-fits : (t : List ℕ) → WellPrevalente t → Fit (each 7 (padded t))
+pub prevalente_fits : (t : List ℕ) → WellPrevalente t → Fit (each 7 (padded t))
 unfolding small
-prevalente-fits t r =
-    fit-each 7 small is-small (padded t)
-    (padded-small t (all_map (λ b. in_file b && is_text b) small (λ b e. lt-ltb b (2 ^ 7) (text-small b e)) t r.bytes))
+prevalente_fits t r =
+    fit_each 7 small is_small (padded t)
+    (padded-small t (all_map (λ b. in_file b && is_text b) small (λ b e. lt-ltb b (2 ^ 7) (text_small b e)) t r.bytes))
 
-pub scales-fit : (ss : List ℕ) → WellScales ss → Fit (each 2 ss)
-scales-fit ss r = fit-each 2 (λ n. leb n 3) (λ n e. let k = leb-true n 3 e in omega arith) ss r.scales
+pub scales_fit : (ss : List ℕ) → WellScales ss → Fit (each 2 ss)
+scales_fit ss r = fit_each 2 (λ n. leb n 3) (λ n e. let k = leb-true n 3 e in omega arith) ss r.scales
 
 -- the birth year is in question alone: 11 bounds it
-pub case-fits : (c : Case) → WellCase c → c.birth < 2 ^ 12 → CaseFits c
-case-fits c r b =
+pub case_fits : (c : Case) → WellCase c → c.birth < 2 ^ 12 → CaseFits c
+case_fits c r b =
     record {
       birth = b;
-      prevalente = rw r.fills (prevalente-fits r.written r.prevalente);
+      prevalente = rw r.fills (prevalente_fits r.written r.prevalente);
       prevalente-length = rw r.fills (padded-length r.written);
-      scales = scales-fit c.scales r.scaled;
+      scales = scales_fit c.scales r.scaled;
       scales-length = r.scaled.six;
     }
 
 -- ---- an event's evaluation
 
 -- its prevalente, even a missing one
-pub said-main-fits : (s : Said) → WellSaid s → Fit (each 7 (padded s.prevalente))
+pub said_main_fits : (s : Said) → WellSaid s → Fit (each 7 (padded s.prevalente))
 unfolding all
-said-main-fits s r = go s.valued refl
+said_main_fits s r = go s.valued refl
   where
     go : (b : Bool) → s.valued ≡ b → Fit (each 7 (padded s.prevalente))
-    go true u = prevalente-fits s.prevalente (r.valued u).1
-    go false u = rw (r.unvalued u) (fit-each 7 small is-small (padded []) zeros-small)
+    go true u = prevalente_fits s.prevalente (r.valued u).1
+    go false u = rw (r.unvalued u) (fit_each 7 small is_small (padded []) zeros_small)
 
-pub evaluation-fits : (s : Said) (r : WellSaid s) → EvaluationFits (evaluation_with r.scales (padded s.prevalente))
-evaluation-fits s r =
+pub evaluation_fits : (s : Said) (r : WellSaid s) → EvaluationFits (evaluation_with r.scales (padded s.prevalente))
+evaluation_fits s r =
     record {
-      scales = scales-fit r.scales r.scaled;
+      scales = scales_fit r.scales r.scaled;
       scales-length = r.scaled.six;
-      prevalente = said-main-fits s r;
+      prevalente = said_main_fits s r;
       prevalente-length = padded-length s.prevalente;
     }

@@ -37,14 +37,14 @@ unfoldable pub gather : EventsRead → List ℕ → List ℕ → List Tree → G
 gather r b v [] = gathered r b v
 gather r b v (t ∷ ts) = gather (counted (happened_at t) r) (kept (happened_at t) r.count b) (kept_beside (happened_at t) r.count v) ts
 
-pub gather-end : (r : EventsRead) (b v : List ℕ) → gather r b v [] ≡ gathered r b v
+pub gather_end : (r : EventsRead) (b v : List ℕ) → gather r b v [] ≡ gathered r b v
 unfolding gather
-gather-end r b v = refl
+gather_end r b v = refl
 
-pub gather-on : (r : EventsRead) (b v : List ℕ) (t : Tree) {h : Happened} {m : EventsRead} {a u : List ℕ} (ts : List Tree) → h ≡ happened_at t → m ≡ counted h r → a ≡ kept h r.count b
+pub gather_on : (r : EventsRead) (b v : List ℕ) (t : Tree) {h : Happened} {m : EventsRead} {a u : List ℕ} (ts : List Tree) → h ≡ happened_at t → m ≡ counted h r → a ≡ kept h r.count b
     → u ≡ kept_beside h r.count v → gather r b v (t ∷ ts) ≡ gather m a u ts
 unfolding gather
-gather-on r b v t ts e m a u = rw (← e, ← m, ← a, ← u)
+gather_on r b v t ts e m a u = rw (← e, ← m, ← a, ← u)
 
 -- a buffer stays as long as it is
 pub kept-length : (h : Happened) (n : ℕ) (b : List ℕ) → (length (kept h n b) ≡ length b) × (length (kept_beside h n b) ≡ length b)
@@ -64,8 +64,8 @@ pub or-false : (a : Bool) → (a || false) ≡ a
 or-false true = refl
 or-false false = refl
 
-same-tally : {n m : ℕ} {p q u w : Bool} (b v : List ℕ) → n ≡ m → p ≡ q → u ≡ w → gathered (tallied n p u) b v ≡ gathered (tallied m q w) b v
-same-tally b v e f g = rw (e, f, g)
+same_tally : {n m : ℕ} {p q u w : Bool} (b v : List ℕ) → n ≡ m → p ≡ q → u ≡ w → gathered (tallied n p u) b v ≡ gathered (tallied m q w) b v
+same_tally b v e f g = rw (e, f, g)
 
 abbrev numbers : List Said → List ℕ
 numbers es = map (λ e. e.event) es
@@ -77,10 +77,10 @@ abbrev sum : EventsRead → List ℕ → List ℕ → List Said → Gathered
 sum r b v es =
     gathered (tallied (r.count + length es) (r.bad_conferma || any bad_conferma es) (r.zero_prevalente || any zero_written es)) (stored r.count b (numbers es)) (stored r.count v (evaluations es))
 
-gather-is : (r : EventsRead) (b v : List ℕ) (ts : List Tree) → gather r b v ts ≡ sum r b v (said_in ts)
+gather_is : (r : EventsRead) (b v : List ℕ) (ts : List Tree) → gather r b v ts ≡ sum r b v (said_in ts)
 unfolding gather said_in stored any happened_at
-gather-is r b v [] = let z : r.count ≡ r.count + 0 = omega arith in same-tally b v z (sym (or-false r.bad_conferma)) (sym (or-false r.zero_prevalente))
-gather-is r b v (t ∷ ts) = go (is_event t) (λ q c w. gather-is q c w ts)
+gather_is r b v [] = let z : r.count ≡ r.count + 0 = omega arith in same_tally b v z (sym (or-false r.bad_conferma)) (sym (or-false r.zero_prevalente))
+gather_is r b v (t ∷ ts) = go (is_event t) (λ q c w. gather_is q c w ts)
   where
     e : Said
     e = said_of t
@@ -93,7 +93,7 @@ gather-is r b v (t ∷ ts) = go (is_event t) (λ q c w. gather-is q c w ts)
     go true h =
         let k : r.count + 1 + length es ≡ r.count + suc (length es) = omega arith in
         h (counted (told e) r) (set b r.count e.event) (set v r.count e.evaluation)
-        ∙ same-tally (stored (r.count + 1) (set b r.count e.event) (numbers es)) (stored (r.count + 1) (set v r.count e.evaluation) (evaluations es)) k (or_assoc r.bad_conferma (bad_conferma e) (any bad_conferma es)) (or_assoc r.zero_prevalente (zero_written e) (any zero_written es))
+        ∙ same_tally (stored (r.count + 1) (set b r.count e.event) (numbers es)) (stored (r.count + 1) (set v r.count e.evaluation) (evaluations es)) k (or_assoc r.bad_conferma (bad_conferma e) (any bad_conferma es)) (or_assoc r.zero_prevalente (zero_written e) (any zero_written es))
     go false h = h r b v
 
 stored-suc : (n x : ℕ) (b es : List ℕ) → stored (suc n) (x ∷ b) es ≡ x ∷ stored n b es
@@ -101,21 +101,21 @@ unfolding stored
 stored-suc n x b [] = refl
 stored-suc n x b (e ∷ es) = rw (add-one n, add-one (suc n)) (stored-suc (suc n) x (set b n e) es)
 
-stored-none : (n : ℕ) (es : List ℕ) → stored n [] es ≡ []
+stored_none : (n : ℕ) (es : List ℕ) → stored n [] es ≡ []
 unfolding stored
-stored-none n [] = refl
-stored-none n (e ∷ es) = stored-none (n + 1) es
+stored_none n [] = refl
+stored_none n (e ∷ es) = stored_none (n + 1) es
 
 stored_is : (b es : List ℕ) → stored 0 b es ≡ laid es b
 unfolding stored
 stored_is [] [] = refl
-stored_is [] (e ∷ es) = stored-none 1 es
+stored_is [] (e ∷ es) = stored_none 1 es
 stored_is (x ∷ b) [] = refl
 stored_is (x ∷ b) (e ∷ es) = stored-suc 0 e b es ∙ ap (λ (l : List ℕ). e ∷ l) (stored_is b es)
 
-pub gather-all : {r : EventsRead} {a u : List ℕ} (b v : List ℕ) (ts : List Tree) → gather (tallied 0 false false) b v ts ≡ gathered r a u → IsEvents r b a v u (said_in ts)
-gather-all {r} {a} {u} b v ts e =
-    let k : gathered r a u ≡ sum (tallied 0 false false) b v (said_in ts) = sym e ∙ gather-is (tallied 0 false false) b v ts in
+pub gather_all : {r : EventsRead} {a u : List ℕ} (b v : List ℕ) (ts : List Tree) → gather (tallied 0 false false) b v ts ≡ gathered r a u → IsEvents r b a v u (said_in ts)
+gather_all {r} {a} {u} b v ts e =
+    let k : gathered r a u ≡ sum (tallied 0 false false) b v (said_in ts) = sym e ∙ gather_is (tallied 0 false false) b v ts in
     let z : 0 + length (said_in ts) ≡ length (said_in ts) = omega arith in
     record {
       count = ap (λ (g : Gathered). g.tally.count) k ∙ z;
@@ -126,13 +126,13 @@ gather-all {r} {a} {u} b v ts e =
     }
 
 -- none of them
-nil-laid : (b : List ℕ) → b ≡ laid [] b
-nil-laid [] = refl
-nil-laid (x ∷ xs) = refl
+nil_laid : (b : List ℕ) → b ≡ laid [] b
+nil_laid [] = refl
+nil_laid (x ∷ xs) = refl
 
 pub none_told : {i : Inside} (b v : List ℕ) → i ≡ end → IsEvents (tallied 0 false false) b b v v (said_in (kids i))
 unfolding said_in any
-none_told b v e = rw e (record { count = refl; numbers = nil-laid b; evaluations = nil-laid v; bad = refl; zero = refl })
+none_told b v e = rw e (record { count = refl; numbers = nil_laid b; evaluations = nil_laid v; bad = refl; zero = refl })
 
 -- ---- the children ahead
 
@@ -142,14 +142,14 @@ pub record Ready (d : ℕ) (n l : List ℕ) : Type 0 where
   pub worded : Every WordedByName (kids inside)
 
 module _ {d : ℕ} {n l : List ℕ} (r : Ready d n l) {m : List ℕ} (a : Ahead d n m (kids r.inside)) where
-  here-and-on : WordedByName a.tree × Every WordedByName (kids a.more)
-  here-and-on = subst (Every WordedByName) a.all r.worded
+  here_and_on : WordedByName a.tree × Every WordedByName (kids a.more)
+  here_and_on = subst (Every WordedByName) a.all r.worded
 
-  pub ready-here : WordedByName a.tree
-  ready-here = here-and-on.0
+  pub ready_here : WordedByName a.tree
+  ready_here = here_and_on.0
 
-  pub ready-past : {k : List ℕ} → read tt k ≡ left (element d m) → Ready d n k
-  ready-past {k} y =
+  pub ready_past : {k : List ℕ} → read tt k ≡ left (element d m) → Ready d n k
+  ready_past {k} y =
       let w = rw a.reads at y in
       let e : a.after ≡ k = cc in
-      record { inside = a.more; holds = rw e at a.holds; worded = here-and-on.1 }
+      record { inside = a.more; holds = rw e at a.holds; worded = here_and_on.1 }

@@ -16,11 +16,11 @@ use Rattle.tracks.specs.View.{told, happened_at}
 use Rattle.tracks.specs.declared.events.Happened.{Happened}
 use Rattle.tracks.specs.declared.events.Happened.TheVariants as happened
 
-pub event-read : (w : Wording) (t : Tree) {date end code accesses conferma : ℕ} → date ≡ day_of (attr_of w.date t)
+pub event_read : (w : Wording) (t : Tree) {date end code accesses conferma : ℕ} → date ≡ day_of (attr_of w.date t)
     → end ≡ cond (stands_at w.end t) (day_of (value_at w.end t)) never → code ≡ decimal (text_at w.child w.code t)
     → accesses ≡ decimal (value_at w.accesses t) → conferma ≡ decimal (value_at w.conferma t)
     → event_by w t ≡ event_with w.kind date code end accesses conferma
-event-read w t d e c a f = λ i. record { kind = w.kind; date = sym d i; code = sym c i; end = sym e i; accesses = sym a i; conferma = sym f i }
+event_read w t d e c a f = λ i. record { kind = w.kind; date = sym d i; code = sym c i; end = sym e i; accesses = sym a i; conferma = sym f i }
 
 -- by some of the wordings
 abbrev pub happened_by : List Wording → Tree → Happened

@@ -35,35 +35,35 @@ by_length (a ∷ b ∷ c ∷ d ∷ e ∷ f ∷ t) h k = absurd (omega arith)
 abbrev pub filled : List ℕ → ℕ → Bool
 filled p n = all (λ b. in_file b && is_text b) (take n p) && all (λ b. eqb b 0) (drop n p)
 
-any-third : (p q r : Bool) → r ≡ true → p || (q || (r || false)) ≡ true
-any-third true q r e = refl
-any-third false true r e = refl
-any-third false false r e = rw e
+any_third : (p q r : Bool) → r ≡ true → p || (q || (r || false)) ≡ true
+any_third true q r e = refl
+any_third false true r e = refl
+any_third false false r e = rw e
 
-any-second : (p q r : Bool) → q ≡ true → p || (q || (r || false)) ≡ true
-any-second true q r e = refl
-any-second false q r e = rw e
+any_second : (p q r : Bool) → q ≡ true → p || (q || (r || false)) ≡ true
+any_second true q r e = refl
+any_second false q r e = rw e
 
-three-filled : {t : List ℕ} → Three-to-five t → all in_text t ≡ true → any (filled (padded t)) (3 ∷ 4 ∷ 5 ∷ []) ≡ true
+three_filled : {t : List ℕ} → Three-to-five t → all in_text t ≡ true → any (filled (padded t)) (3 ∷ 4 ∷ 5 ∷ []) ≡ true
 unfolding any all
-three-filled (three a b c) h = rw h
-three-filled (four a b c d) h =
-    any-second (filled (a ∷ b ∷ c ∷ d ∷ 0 ∷ []) 3) (filled (a ∷ b ∷ c ∷ d ∷ 0 ∷ []) 4) (filled (a ∷ b ∷ c ∷ d ∷ 0 ∷ []) 5) (rw h)
-three-filled (five a b c d e) h =
-    any-third (filled (a ∷ b ∷ c ∷ d ∷ e ∷ []) 3) (filled (a ∷ b ∷ c ∷ d ∷ e ∷ []) 4) (filled (a ∷ b ∷ c ∷ d ∷ e ∷ []) 5) (rw h)
+three_filled (three a b c) h = rw h
+three_filled (four a b c d) h =
+    any_second (filled (a ∷ b ∷ c ∷ d ∷ 0 ∷ []) 3) (filled (a ∷ b ∷ c ∷ d ∷ 0 ∷ []) 4) (filled (a ∷ b ∷ c ∷ d ∷ 0 ∷ []) 5) (rw h)
+three_filled (five a b c d e) h =
+    any_third (filled (a ∷ b ∷ c ∷ d ∷ e ∷ []) 3) (filled (a ∷ b ∷ c ∷ d ∷ e ∷ []) 4) (filled (a ∷ b ∷ c ∷ d ∷ e ∷ []) 5) (rw h)
 
 pub padded-filled : (t : List ℕ) → WellPrevalente t → any (filled (padded t)) (3 ∷ 4 ∷ 5 ∷ []) ≡ true
-padded-filled t r = three-filled (by_length t r.least r.most) r.bytes
+padded-filled t r = three_filled (by_length t r.least r.most) r.bytes
 
 -- a byte of a text is not 0
-not-zero : (b : ℕ) → in_text b ≡ true → eqb b 0 ≡ false
-not-zero zero h = absurd (false≢true h)
-not-zero (suc b) h = ne_eqb (suc b) 0 (λ e. omega arith)
+not_zero : (b : ℕ) → in_text b ≡ true → eqb b 0 ≡ false
+not_zero zero h = absurd (false≢true h)
+not_zero (suc b) h = ne_eqb (suc b) 0 (λ e. omega arith)
 
-three-same : {t : List ℕ} → Three-to-five t → all in_text t ≡ true → same (padded t) (bytes "000" ++ (0 ∷ 0 ∷ [])) ≡ same t (bytes "000")
+three_same : {t : List ℕ} → Three-to-five t → all in_text t ≡ true → same (padded t) (bytes "000" ++ (0 ∷ 0 ∷ [])) ≡ same t (bytes "000")
 unfolding all same
-three-same (three a b c) h = refl
-three-same (four a b c d) h =
-    rw (not-zero d (and_left (in_text d) true (and_right (in_text c) (in_text d && true) (and_right (in_text b) (in_text c && (in_text d && true)) (and_right (in_text a) (in_text b && (in_text c && (in_text d && true))) h)))))
-three-same (five a b c d e) h =
-    rw (not-zero d (and_left (in_text d) (in_text e && true) (and_right (in_text c) (in_text d && (in_text e && true)) (and_right (in_text b) (in_text c && (in_text d && (in_text e && true))) (and_right (in_text a) (in_text b && (in_text c && (in_text d && (in_text e && true)))) h)))))
+three_same (three a b c) h = refl
+three_same (four a b c d) h =
+    rw (not_zero d (and_left (in_text d) true (and_right (in_text c) (in_text d && true) (and_right (in_text b) (in_text c && (in_text d && true)) (and_right (in_text a) (in_text b && (in_text c && (in_text d && true))) h)))))
+three_same (five a b c d e) h =
+    rw (not_zero d (and_left (in_text d) (in_text e && true) (and_right (in_text c) (in_text d && (in_text e && true)) (and_right (in_text b) (in_text c && (in_text d && (in_text e && true))) (and_right (in_text a) (in_text b && (in_text c && (in_text d && (in_text e && true)))) h)))))

@@ -16,8 +16,8 @@ use Rattle.schema.specs.Schema.{Attr, Particle, Node, leaf, group, Nodes, none, 
 use Rattle.schema.specs.Shape.{fault_of}
 use Rattle.nodes.specs.Lookup.{child_of, attr_of, text_of}
 use Rattle.nodes.proofs.Taken.{Meets}
-use Rattle.nodes.proofs.Present.{node_of, only, owed, child-one, group-attrs}
-use Rattle.nodes.proofs.Fields.{given, attr_named, leaf-text, leaf-attrs, attr-one}
+use Rattle.nodes.proofs.Present.{node_of, only, owed, child_one, group_attrs}
+use Rattle.nodes.proofs.Fields.{given, attr_named, leaf_text, leaf_attrs, attr_one}
 use Rattle.nodes.proofs.Placed.{Placed, all_placed}
 use Rattle.schemas.specs.FieldTexts
 use Rattle.schemas.specs.Parts
@@ -26,7 +26,7 @@ use Rattle.schemas.specs.Track2
 use Rattle.tracks.specs.RecordFields.{◌▹◌}
 use Rattle.tracks.specs.Typed.{IsNumber}
 use Rattle.tracks.specs.View.{each_of}
-use Rattle.tracks.proofs.Texts.{chars-fit, spelled, region-number, date-is}
+use Rattle.tracks.proofs.Texts.{chars_fit, spelled, region_number, date_is}
 
 -- an element that was read, without a fault by its node
 abbrev pub Clean : Node → Tree → Type 0
@@ -39,14 +39,14 @@ pub clean : (n : Node) (d : ℕ) (l : List ℕ) (t : Tree) (m : List ℕ) → el
 clean n d l t m e f = record { clean = f; known = all_placed d l t m e }
 
 module _ {h : Particle} {ns : Nodes} {t : Tree} (m : Clean (group h ns) t) where
-  pub group-in : (x : List ℕ) (n : Node) → node_of x ns ≡ only n → owed x ns 0 ≡ true → Clean n (child_of x t)
-  group-in x n e o = child-one Placed far m x n e o
+  pub group_in : (x : List ℕ) (n : Node) → node_of x ns ≡ only n → owed x ns 0 ≡ true → Clean n (child_of x t)
+  group_in x n e o = child_one Placed far m x n e o
 
-  pub leaf-in : (x : List ℕ) (d : Particle) (y : Texts) → node_of x ns ≡ only (leaf d y) → owed x ns 0 ≡ true → fits_text y (text_of (child_of x t)) ≡ true
-  leaf-in x d y e o = leaf-text Placed far (child-one Placed far m x (leaf d y) e o)
+  pub leaf_in : (x : List ℕ) (d : Particle) (y : Texts) → node_of x ns ≡ only (leaf d y) → owed x ns 0 ≡ true → fits_text y (text_of (child_of x t)) ≡ true
+  leaf_in x d y e o = leaf_text Placed far (child_one Placed far m x (leaf d y) e o)
 
   pub value_in : (a : Attr) → attr_named a.named h.attrs ≡ given a → a.required ≡ true → fits_text a.texts (attr_of a.named t) ≡ true
-  value_in a e r = attr-one h.attrs t (group-attrs Placed far m) a.named a e r
+  value_in a e r = attr_one h.attrs t (group_attrs Placed far m) a.named a e r
 
 -- ---- the head
 
@@ -63,43 +63,43 @@ module _ (a : Tree) (trasmissione : Clean Parts.trasmissione (a ▹ "Trasmission
   typed : fits_text FieldTexts.tipo_trasmissione (attr_of (bytes "tipo") (a ▹ "Trasmissione")) ≡ true
   unfolding attr_named same
   typed =
-      attr-one (Parts.required "tipo" FieldTexts.tipo_trasmissione ∷ []) (a ▹ "Trasmissione") (leaf-attrs Placed far trasmissione) (bytes "tipo")
+      attr_one (Parts.required "tipo" FieldTexts.tipo_trasmissione ∷ []) (a ▹ "Trasmissione") (leaf_attrs Placed far trasmissione) (bytes "tipo")
       (Parts.required "tipo" FieldTexts.tipo_trasmissione) refl refl
 
-  head-by : HeadShaped a
+  head_by : HeadShaped a
   unfolding node_of owed same
-  head-by =
+  head_by =
       record {
-        tipo = let c = (chars-fit _ 1 1 (attr_of (bytes "tipo") (a ▹ "Trasmissione")) typed).low in omega arith;
-        region = region-number _ (text_of (a ▹ "Erogatore" ▹ "CodiceRegione")) (leaf-in erogatore (bytes "CodiceRegione") _ FieldTexts.regione_erogazione refl refl);
-        asl = (spelled alnums 3 (text_of (a ▹ "Erogatore" ▹ "CodiceASL")) (leaf-in erogatore (bytes "CodiceASL") _ FieldTexts.cod_asl refl refl)).long;
-        taken = date-is (attr_of (bytes "data") (a ▹ "Eventi" ▹ "PresaInCarico")) (value_in presa (Parts.required "data" date) dated refl);
-        id = (spelled id_chars 88 (text_of (a ▹ "Eventi" ▹ "PresaInCarico" ▹ "Id_Rec")) (leaf-in presa (bytes "Id_Rec") _ FieldTexts.id_rec refl refl)).long;
+        tipo = let c = (chars_fit _ 1 1 (attr_of (bytes "tipo") (a ▹ "Trasmissione")) typed).low in omega arith;
+        region = region_number _ (text_of (a ▹ "Erogatore" ▹ "CodiceRegione")) (leaf_in erogatore (bytes "CodiceRegione") _ FieldTexts.regione_erogazione refl refl);
+        asl = (spelled alnums 3 (text_of (a ▹ "Erogatore" ▹ "CodiceASL")) (leaf_in erogatore (bytes "CodiceASL") _ FieldTexts.cod_asl refl refl)).long;
+        taken = date_is (attr_of (bytes "data") (a ▹ "Eventi" ▹ "PresaInCarico")) (value_in presa (Parts.required "data" date) dated refl);
+        id = (spelled id_chars 88 (text_of (a ▹ "Eventi" ▹ "PresaInCarico" ▹ "Id_Rec")) (leaf_in presa (bytes "Id_Rec") _ FieldTexts.id_rec refl refl)).long;
       }
 
 -- Eventi of each track
-abbrev pub events-1 : Node
-events-1 = Parts.all_of "Eventi" [] (Track1.presa_in_carico ▸ Track1.valutazione ▸ none)
+abbrev pub events_1 : Node
+events_1 = Parts.all_of "Eventi" [] (Track1.presa_in_carico ▸ Track1.valutazione ▸ none)
 
-abbrev pub events-2 : Node
-events-2 = Parts.all_of "Eventi" [] Track2.eventi
+abbrev pub events_2 : Node
+events_2 = Parts.all_of "Eventi" [] Track2.eventi
 
-head-1 : (a : Tree) → Clean Track1.assistenza a → HeadShaped a
+head_1 : (a : Tree) → Clean Track1.assistenza a → HeadShaped a
 unfolding node_of owed attr_named same
-head-1 a m =
-    let es = group-in m (bytes "Eventi") events-1 refl refl in
-    head-by a (group-in m (bytes "Trasmissione") Parts.trasmissione refl refl) (group-in m (bytes "Erogatore") Parts.erogatore refl refl) (group-in es (bytes "PresaInCarico") Track1.presa_in_carico refl refl) refl
+head_1 a m =
+    let es = group_in m (bytes "Eventi") events_1 refl refl in
+    head_by a (group_in m (bytes "Trasmissione") Parts.trasmissione refl refl) (group_in m (bytes "Erogatore") Parts.erogatore refl refl) (group_in es (bytes "PresaInCarico") Track1.presa_in_carico refl refl) refl
 
-head-2 : (a : Tree) → Clean Track2.assistenza a → HeadShaped a
+head_2 : (a : Tree) → Clean Track2.assistenza a → HeadShaped a
 unfolding node_of owed attr_named same
-head-2 a m =
-    let es = group-in m (bytes "Eventi") events-2 refl refl in
-    head-by a (group-in m (bytes "Trasmissione") Parts.trasmissione refl refl) (group-in m (bytes "Erogatore") Parts.erogatore refl refl) (group-in es (bytes "PresaInCarico") Track2.presa_in_carico refl refl) refl
+head_2 a m =
+    let es = group_in m (bytes "Eventi") events_2 refl refl in
+    head_by a (group_in m (bytes "Trasmissione") Parts.trasmissione refl refl) (group_in m (bytes "Erogatore") Parts.erogatore refl refl) (group_in es (bytes "PresaInCarico") Track2.presa_in_carico refl refl) refl
 
-pub head-shaped : (track : ℕ) (a : Tree) (d : ℕ) (l m : List ℕ) → element d l ≡ read a m → fault_of (each_of track) a ≡ 0 → HeadShaped a
+pub head_shaped : (track : ℕ) (a : Tree) (d : ℕ) (l m : List ℕ) → element d l ≡ read a m → fault_of (each_of track) a ≡ 0 → HeadShaped a
 unfolding Track1.track1 Track2.track2
-head-shaped track a d l m e f = go (eqb track 1) f
+head_shaped track a d l m e f = go (eqb track 1) f
   where
     go : (b : Bool) → fault_of (cond b Track1.assistenza Track2.assistenza) a ≡ 0 → HeadShaped a
-    go true f = head-1 a (clean Track1.assistenza d l a m e f)
-    go false f = head-2 a (clean Track2.assistenza d l a m e f)
+    go true f = head_1 a (clean Track1.assistenza d l a m e f)
+    go false f = head_2 a (clean Track2.assistenza d l a m e f)

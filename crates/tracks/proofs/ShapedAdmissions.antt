@@ -15,9 +15,9 @@ use Rattle.schemas.specs.Parts
 use Rattle.schemas.specs.Track1
 use Rattle.tracks.specs.RecordFields.{◌▹◌}
 use Rattle.tracks.specs.Typed.{IsNumber, Scaled}
-use Rattle.tracks.proofs.Texts.{year-number}
-use Rattle.tracks.proofs.Scales.{graded-1, rated}
-use Rattle.tracks.proofs.Shaped.{Clean, far, clean, group-in, leaf-in, events-1}
+use Rattle.tracks.proofs.Texts.{year_number}
+use Rattle.tracks.proofs.Scales.{graded_1, rated}
+use Rattle.tracks.proofs.Shaped.{Clean, far, clean, group_in, leaf_in, events_1}
 
 pub record CaseShaped (a : Tree) : Type 0 where
   pub birth : IsNumber (text_of (a ▹ "Assistito" ▹ "DatiAnagrafici" ▹ "AnnoNascita"))
@@ -39,16 +39,16 @@ persona =
 module _ (a : Tree) (m : Clean Track1.assistenza a) where
   value : Clean Track1.valutazione (a ▹ "Eventi" ▹ "Valutazione")
   unfolding node_of owed same
-  value = group-in (group-in m (bytes "Eventi") events-1 refl refl) (bytes "Valutazione") Track1.valutazione refl refl
+  value = group_in (group_in m (bytes "Eventi") events_1 refl refl) (bytes "Valutazione") Track1.valutazione refl refl
 
   person : Clean persona (a ▹ "Assistito" ▹ "DatiAnagrafici")
   unfolding node_of owed same
-  person = group-in (group-in m (bytes "Assistito") Track1.assistito refl refl) (bytes "DatiAnagrafici") persona refl refl
+  person = group_in (group_in m (bytes "Assistito") Track1.assistito refl refl) (bytes "DatiAnagrafici") persona refl refl
 
   birth : IsNumber (text_of (a ▹ "Assistito" ▹ "DatiAnagrafici" ▹ "AnnoNascita"))
   unfolding node_of owed same
-  birth = year-number (text_of (a ▹ "Assistito" ▹ "DatiAnagrafici" ▹ "AnnoNascita")) (leaf-in person (bytes "AnnoNascita") _ FieldTexts.anno refl refl)
+  birth = year_number (text_of (a ▹ "Assistito" ▹ "DatiAnagrafici" ▹ "AnnoNascita")) (leaf_in person (bytes "AnnoNascita") _ FieldTexts.anno refl refl)
 
-pub case-shaped : (a : Tree) (d : ℕ) (l m : List ℕ) → element d l ≡ read a m → fault_of (Track1.track1).each a ≡ 0 → CaseShaped a
+pub case_shaped : (a : Tree) (d : ℕ) (l m : List ℕ) → element d l ≡ read a m → fault_of (Track1.track1).each a ≡ 0 → CaseShaped a
 unfolding Track1.track1
-case-shaped a d l m e f = let c = clean Track1.assistenza d l a m e f in record { birth = birth a c; scales = (rated Placed far graded-1 (value a c)).scaled }
+case_shaped a d l m e f = let c = clean Track1.assistenza d l a m e f in record { birth = birth a c; scales = (rated Placed far graded_1 (value a c)).scaled }

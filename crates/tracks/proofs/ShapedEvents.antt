@@ -10,7 +10,7 @@ use Rattle.reading.specs.Everywhere.{Every}
 use Rattle.reading.proofs.Places.{every_map}
 use Rattle.schema.specs.Schema.{group}
 use Rattle.schema.specs.Shape.{fault_of}
-use Rattle.nodes.proofs.Present.{node_of, owed, group-taken}
+use Rattle.nodes.proofs.Present.{node_of, owed, group_taken}
 use Rattle.nodes.proofs.Placed.{Placed}
 use Rattle.schemas.specs.Track2
 use Rattle.rows.specs.Packing.{each, Fit}
@@ -20,46 +20,46 @@ use Rattle.tracks.specs.EventElements.{Wording, wordings}
 use Rattle.tracks.specs.RecordFields.{◌▹◌, main_of, said_of, is_event, said_in, all_said, record_of}
 use Rattle.tracks.specs.Typed.{Worded, Each, WordedByName}
 use Rattle.tracks.specs.WellRead.{WellEach, WellRead}
-use Rattle.tracks.proofs.Fits.{said-main-fits}
-use Rattle.tracks.proofs.Scales.{graded-2, rated-maybe}
+use Rattle.tracks.proofs.Fits.{said_main_fits}
+use Rattle.tracks.proofs.Scales.{graded_2, rated_maybe}
 use Rattle.tracks.proofs.Worded.{or-true, worded}
-use Rattle.tracks.proofs.EachKind.{Kind, kinds, value_in, every-both, each-child}
-use Rattle.tracks.proofs.Shaped.{Clean, far, clean, group-in, events-2}
+use Rattle.tracks.proofs.EachKind.{Kind, kinds, value_in, every_both, each_child}
+use Rattle.tracks.proofs.Shaped.{Clean, far, clean, group_in, events_2}
 
 -- what is known of its prevalente, whose characters the shape leaves open
 abbrev MainFits : Tree → Type 0
 MainFits t = Fit (each char_bits (padded (main_of (t ▹ "Valutazione"))))
 
-each-main : (ts : List Tree) → WellEach (said_in ts) → Every (λ t. is_event t ≡ true → MainFits t) ts
+each_main : (ts : List Tree) → WellEach (said_in ts) → Every (λ t. is_event t ≡ true → MainFits t) ts
 unfolding said_in
-each-main [] h = tt
-each-main (t ∷ ts) h = go (is_event t) (each-main ts) h
+each_main [] h = tt
+each_main (t ∷ ts) h = go (is_event t) (each_main ts) h
   where
     go : (b : Bool) → (WellEach (said_in ts) → Every (λ t. is_event t ≡ true → MainFits t) ts) → WellEach (cond b (said_of t ∷ said_in ts) (said_in ts))
         → (b ≡ true → MainFits t) × Every (λ t. is_event t ≡ true → MainFits t) ts
-    go true f r = (λ _. said-main-fits (said_of t) r.0, f r.1)
+    go true f r = (λ _. said_main_fits (said_of t) r.0, f r.1)
     go false f r = (λ v. absurd (false≢true v), f r)
 
 -- a name that one of the wordings has is an event's
-by-main : (t : Tree) (ws : List Wording) → (any (λ w. same w.element t.named) ws ≡ true → MainFits t)
+by_main : (t : Tree) (ws : List Wording) → (any (λ w. same w.element t.named) ws ≡ true → MainFits t)
     → Each (λ w. same w.element t.named ≡ true → MainFits t → Worded w t) ws → Each (λ w. same w.element t.named ≡ true → Worded w t) ws
 unfolding any
-by-main t [] f h = tt
-by-main t (w ∷ ws) f h = (λ u. h.0 u (f (rw u)), by-main t ws (λ u. f (rw u (or-true (same w.element t.named)))) h.1)
+by_main t [] f h = tt
+by_main t (w ∷ ws) f h = (λ u. h.0 u (f (rw u)), by_main t ws (λ u. f (rw u (or-true (same w.element t.named)))) h.1)
 
 evaluable : (w : Wording) (k : Kind w) (t : Tree) → Clean (group k.head k.nodes) t → MainFits t → Worded w t
 evaluable w k t c f =
-    worded Placed far k.tells c (record { scaled = (rated-maybe Placed far (bytes "Valutazione") t graded-2 (value_in Placed far k.values c)).scaled; main = f })
+    worded Placed far k.tells c (record { scaled = (rated_maybe Placed far (bytes "Valutazione") t graded_2 (value_in Placed far k.values c)).scaled; main = f })
 
-events-by : (a : Tree) → Clean Track2.assistenza a → WellEach (all_said a) → Every WordedByName (kids (a ▹ "Eventi").inside)
+events_by : (a : Tree) → Clean Track2.assistenza a → WellEach (all_said a) → Every WordedByName (kids (a ▹ "Eventi").inside)
 unfolding node_of owed same
-events-by a m r =
+events_by a m r =
     let ts = kids (a ▹ "Eventi").inside in
-    every_map _ WordedByName (λ t b. by-main t wordings b.0 b.1) ts
-    (every-both (λ t. is_event t ≡ true → MainFits t) (λ t. Each (λ w. same w.element t.named ≡ true → MainFits t → Worded w t) wordings) ts (each-main ts r)
-    (each-child Placed (λ w t. MainFits t → Worded w t) evaluable wordings kinds (group-taken Placed far (group-in m (bytes "Eventi") events-2 refl refl))))
+    every_map _ WordedByName (λ t b. by_main t wordings b.0 b.1) ts
+    (every_both (λ t. is_event t ≡ true → MainFits t) (λ t. Each (λ w. same w.element t.named ≡ true → MainFits t → Worded w t) wordings) ts (each_main ts r)
+    (each_child Placed (λ w t. MainFits t → Worded w t) evaluable wordings kinds (group_taken Placed far (group_in m (bytes "Eventi") events_2 refl refl))))
 
 -- THE EVENTS OF A RECORD WITHOUT A FAULT can be read
-pub events-worded : (a : Tree) (d : ℕ) (l m : List ℕ) → element d l ≡ read a m → fault_of (Track2.track2).each a ≡ 0 → WellRead (record_of 2 a) → Every WordedByName (kids (a ▹ "Eventi").inside)
+pub events_worded : (a : Tree) (d : ℕ) (l m : List ℕ) → element d l ≡ read a m → fault_of (Track2.track2).each a ≡ 0 → WellRead (record_of 2 a) → Every WordedByName (kids (a ▹ "Eventi").inside)
 unfolding Track2.track2 record_of
-events-worded a d l m e f w = events-by a (clean Track2.assistenza d l a m e f) w.1
+events_worded a d l m e f w = events_by a (clean Track2.assistenza d l a m e f) w.1

@@ -14,14 +14,14 @@ use Rattle.laws.proofs.Truth.{and_left, and_right}
 use Rattle.days.specs.DayNumbers.{real_day, day_count}
 use Rattle.days.specs.Dates.{year_text, month_text, day_text, has_date_form, is_date, day_of}
 use Rattle.days.proofs.Months.{real}
-use Rattle.days.proofs.Firsts.{day-found}
+use Rattle.days.proofs.Firsts.{day_found}
 use Rattle.laws.proofs.Lists.{all_map}
 use Rattle.codes.specs.CodesAndCharacters.{Range, in_ranges, digits}
-use Rattle.codes.proofs.Decimals.{digits-below}
+use Rattle.codes.proofs.Decimals.{digits_below}
 use Rattle.schema.specs.Texts.{chars, number, date, plain, wide, digits_in, unpadded, fits_text}
 use Rattle.tracks.specs.WellRead.{Spelled}
 use Rattle.tracks.specs.Typed.{IsNumber}
-use Rattle.tracks.proofs.Sets.{digit-in}
+use Rattle.tracks.proofs.Sets.{digit_in}
 
 -- ---- characters of a set
 
@@ -30,9 +30,9 @@ pub record Chars (rs : List Range) (least most : ℕ) (t : List ℕ) : Type 0 wh
   pub high : length t ≤ most
   pub bytes : all (in_ranges rs) t ≡ true
 
-pub chars-fit : (rs : List Range) (a z : ℕ) (t : List ℕ) → fits_text (chars rs a z) t ≡ true → Chars rs a z t
+pub chars_fit : (rs : List Range) (a z : ℕ) (t : List ℕ) → fits_text (chars rs a z) t ≡ true → Chars rs a z t
 unfolding fits_text
-chars-fit rs a z t e =
+chars_fit rs a z t e =
     let l = and_left (leb a (length t) && leb (length t) z) (all (in_ranges rs) t) e in
     record {
       low = leb-true a (length t) (and_left (leb a (length t)) (leb (length t) z) l);
@@ -41,26 +41,26 @@ chars-fit rs a z t e =
     }
 
 pub spelled : (rs : List Range) (n : ℕ) (t : List ℕ) → fits_text (chars rs n n) t ≡ true → Spelled (in_ranges rs) n t
-spelled rs n t e = let c = chars-fit rs n n t e in record { long = omega arith; bytes = c.bytes }
+spelled rs n t e = let c = chars_fit rs n n t e in record { long = omega arith; bytes = c.bytes }
 
 -- one character: what is known of it, and of the number that it writes
 pub one_char : (rs : List Range) (t : List ℕ) → fits_text (chars rs 1 1) t ≡ true → in_ranges rs (get_or t 0 0) ≡ true
 unfolding all
-one_char rs [] e = let c = chars-fit rs 1 1 [] e in absurd (omega (arith, c.low))
-one_char rs (b ∷ t) e = and_left (in_ranges rs b) (all (in_ranges rs) t) (chars-fit rs 1 1 (b ∷ t) e).bytes
+one_char rs [] e = let c = chars_fit rs 1 1 [] e in absurd (omega (arith, c.low))
+one_char rs (b ∷ t) e = and_left (in_ranges rs b) (all (in_ranges rs) t) (chars_fit rs 1 1 (b ∷ t) e).bytes
 
-pub one-digit : (rs : List Range) (q : ℕ → Bool) (t : List ℕ) → ((b : ℕ) → in_ranges rs b ≡ true → q (b - code "0") ≡ true) → fits_text (chars rs 1 1) t ≡ true
+pub one_digit : (rs : List Range) (q : ℕ → Bool) (t : List ℕ) → ((b : ℕ) → in_ranges rs b ≡ true → q (b - code "0") ≡ true) → fits_text (chars rs 1 1) t ≡ true
     → q (decimal t) ≡ true
 unfolding all decimal_after
-one-digit rs q [] h e = let c = chars-fit rs 1 1 [] e in absurd (omega (arith, c.low))
-one-digit rs q (b ∷ []) h e =
+one_digit rs q [] h e = let c = chars_fit rs 1 1 [] e in absurd (omega (arith, c.low))
+one_digit rs q (b ∷ []) h e =
     let z : 0 * 10 + (b - code "0") ≡ b - code "0" = omega arith in
-    rw z (h b (and_left (in_ranges rs b) true (chars-fit rs 1 1 (b ∷ []) e).bytes))
-one-digit rs q (b ∷ c ∷ t) h e = let c = chars-fit rs 1 1 (b ∷ c ∷ t) e in absurd (omega (arith, c.high))
+    rw z (h b (and_left (in_ranges rs b) true (chars_fit rs 1 1 (b ∷ []) e).bytes))
+one_digit rs q (b ∷ c ∷ t) h e = let c = chars_fit rs 1 1 (b ∷ c ∷ t) e in absurd (omega (arith, c.high))
 
-pub chars-digits : (rs : List Range) (a z : ℕ) (t : List ℕ) → ((b : ℕ) → in_ranges rs b ≡ true → is_digit b ≡ true) → fits_text (chars rs a z) t ≡ true
+pub chars_digits : (rs : List Range) (a z : ℕ) (t : List ℕ) → ((b : ℕ) → in_ranges rs b ≡ true → is_digit b ≡ true) → fits_text (chars rs a z) t ≡ true
     → all is_digit t ≡ true
-chars-digits rs a z t h e = all_map (in_ranges rs) is_digit h t (chars-fit rs a z t e).bytes
+chars_digits rs a z t h e = all_map (in_ranges rs) is_digit h t (chars_fit rs a z t e).bytes
 
 -- ---- numbers
 
@@ -69,41 +69,41 @@ digits_number rs t e =
     let r = and_right (leb 1 (length t)) (all is_digit t && in_ranges rs (decimal t)) e in
     (and_left (all is_digit t) (in_ranges rs (decimal t)) r, and_right (all is_digit t) (in_ranges rs (decimal t)) r)
 
-pub plain-fit : (rs : List Range) (t : List ℕ) → fits_text (number plain rs) t ≡ true → in_ranges rs (decimal t) ≡ true
+pub plain_fit : (rs : List Range) (t : List ℕ) → fits_text (number plain rs) t ≡ true → in_ranges rs (decimal t) ≡ true
 unfolding fits_text
-plain-fit rs t e = (digits_number rs t (and_right (unpadded t) (digits_in rs t) e)).1
+plain_fit rs t e = (digits_number rs t (and_right (unpadded t) (digits_in rs t) e)).1
 
-pub plain-digits : (rs : List Range) (t : List ℕ) → fits_text (number plain rs) t ≡ true → all is_digit t ≡ true
+pub plain_digits : (rs : List Range) (t : List ℕ) → fits_text (number plain rs) t ≡ true → all is_digit t ≡ true
 unfolding fits_text
-plain-digits rs t e = (digits_number rs t (and_right (unpadded t) (digits_in rs t) e)).0
+plain_digits rs t e = (digits_number rs t (and_right (unpadded t) (digits_in rs t) e)).0
 
-pub wide-fit : (n : ℕ) (rs : List Range) (t : List ℕ) → fits_text (number (wide n) rs) t ≡ true → Spelled is_digit n t × (in_ranges rs (decimal t) ≡ true)
+pub wide_fit : (n : ℕ) (rs : List Range) (t : List ℕ) → fits_text (number (wide n) rs) t ≡ true → Spelled is_digit n t × (in_ranges rs (decimal t) ≡ true)
 unfolding fits_text
-wide-fit n rs t e =
+wide_fit n rs t e =
     let d = digits_number rs t (and_right (eqb (length t) n) (digits_in rs t) e) in
     (record { long = eqb-true (length t) n (and_left (eqb (length t) n) (digits_in rs t) e); bytes = d.0 }, d.1)
 
-pub four-digits : (t : List ℕ) → fits_text (chars digits 4 4) t ≡ true → decimal t < 10000
-four-digits t e = let s = spelled digits 4 t e in rw s.long at (digits-below t (all_map (in_ranges digits) is_digit digit-in t s.bytes))
+pub four_digits : (t : List ℕ) → fits_text (chars digits 4 4) t ≡ true → decimal t < 10000
+four_digits t e = let s = spelled digits 4 t e in rw s.long at (digits_below t (all_map (in_ranges digits) is_digit digit_in t s.bytes))
 
-pub year-number : (t : List ℕ) → fits_text (chars digits 4 4) t ≡ true → IsNumber t
-year-number t e = record { digits = chars-digits digits 4 4 t digit-in e; small = four-digits t e }
+pub year_number : (t : List ℕ) → fits_text (chars digits 4 4) t ≡ true → IsNumber t
+year_number t e = record { digits = chars_digits digits 4 4 t digit_in e; small = four_digits t e }
 
-pub region-number : (rs : List Range) (t : List ℕ) → fits_text (number (wide 3) rs) t ≡ true → IsNumber t
-region-number rs t e =
-    let w = (wide-fit 3 rs t e).0 in
-    let b = rw w.long at (digits-below t w.bytes) in
+pub region_number : (rs : List Range) (t : List ℕ) → fits_text (number (wide 3) rs) t ≡ true → IsNumber t
+region_number rs t e =
+    let w = (wide_fit 3 rs t e).0 in
+    let b = rw w.long at (digits_below t w.bytes) in
     record { digits = w.bytes; small = omega arith }
 
 -- ---- dates
 
-pub date-is : (t : List ℕ) → fits_text date t ≡ true → is_date t ≡ true
+pub date_is : (t : List ℕ) → fits_text date t ≡ true → is_date t ≡ true
 unfolding fits_text
-date-is t e = e
+date_is t e = e
 
-pub date-fit : (t : List ℕ) → fits_text date t ≡ true → day_of t < day_count
+pub date_fit : (t : List ℕ) → fits_text date t ≡ true → day_of t < day_count
 unfolding fits_text is_date day_of
-date-fit t e =
-    day-found (decimal (year_text t)) (decimal (month_text t)) (decimal (day_text t))
+date_fit t e =
+    day_found (decimal (year_text t)) (decimal (month_text t)) (decimal (day_text t))
     (real (decimal (year_text t)) (decimal (month_text t)) (decimal (day_text t))
     (and_right (has_date_form t) (real_day (decimal (year_text t)) (decimal (month_text t)) (decimal (day_text t))) e))

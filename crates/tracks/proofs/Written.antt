@@ -11,9 +11,9 @@ use lib.ListN.{length, drop, get_or, length-take}
 use borrow.Author.Tests.{eqb-true}
 use Rattle.laws.specs.Decimal.{is_digit, decimal_after, decimal}
 use Rattle.laws.specs.Lists.{all}
-use Rattle.laws.proofs.Places.{all-step}
+use Rattle.laws.proofs.Places.{all_step}
 use Rattle.laws.proofs.Truth.{and_left, and_right}
-use Rattle.codes.proofs.Decimals.{digits-below}
+use Rattle.codes.proofs.Decimals.{digits_below}
 use Rattle.days.specs.DayNumbers.{real_day, day_number}
 use Rattle.days.specs.Dates.{year_text, month_text, day_text, has_date_form, is_date, day_of}
 use Rattle.days.proofs.Digits.{Left, left_end}
@@ -26,17 +26,17 @@ use Rattle.tracks.specs.Typed.{IsNumber}
 
 -- ---- digits
 
-after-least : (n : ℕ) (l : List ℕ) → n ≤ decimal_after n l
+after_least : (n : ℕ) (l : List ℕ) → n ≤ decimal_after n l
 unfolding decimal_after
-after-least n [] = omega arith
-after-least n (b ∷ l) = let k = after-least (n * 10 + (b - code "0")) l in omega arith
+after_least n [] = omega arith
+after_least n (b ∷ l) = let k = after_least (n * 10 + (b - code "0")) l in omega arith
 
 module _ (x : List ℕ) (n i : ℕ) (l : Left x n i) (k : IsNumber x) where
   pub so_far : n < 10000
-  so_far = let a = after-least n (drop i x) in let b = l.value in let c = k.small in omega arith
+  so_far = let a = after_least n (drop i x) in let b = l.value in let c = k.small in omega arith
 
   pub digit_at : i < length x → is_digit (get_or x i 0) ≡ true
-  digit_at h = and_left (is_digit (get_or x i 0)) (all is_digit (drop (i + 1) x)) (sym (l.digits ∙ all-step is_digit x i h) ∙ k.digits)
+  digit_at h = and_left (is_digit (get_or x i 0)) (all is_digit (drop (i + 1) x)) (sym (l.digits ∙ all_step is_digit x i h) ∙ k.digits)
 
   pub all_read : length x ≤ i → n ≡ decimal x
   all_read h = rw k.digits at (left_end x n i l h)
@@ -44,7 +44,7 @@ module _ (x : List ℕ) (n i : ℕ) (l : Left x n i) (k : IsNumber x) where
 -- ---- the parts of a date
 
 few : (t : List ℕ) → all is_digit t ≡ true → length t ≤ 4 → IsNumber t
-few t e h = record { digits = e; small = omega (arith, digits-below t e, pow-le-pow_right {n = 10} (omega arith) h) }
+few t e h = record { digits = e; small = omega (arith, digits_below t e, pow-le-pow_right {n = 10} (omega arith) h) }
 
 pub record DateParts (x : List ℕ) : Type 0 where
   pub long : length x ≡ 10
@@ -53,9 +53,9 @@ pub record DateParts (x : List ℕ) : Type 0 where
   pub day : IsNumber (day_text x)
   pub real : real_day (decimal (year_text x)) (decimal (month_text x)) (decimal (day_text x)) ≡ true
 
-pub date-parts : (x : List ℕ) → is_date x ≡ true → DateParts x
+pub date_parts : (x : List ℕ) → is_date x ≡ true → DateParts x
 unfolding is_date
-date-parts x e =
+date_parts x e =
     let f = and_left (has_date_form x) _ e in
     let y = and_right (eqb (length x) 10) _ f in
     let m = and_right (eqb (get_or x 4 0) (code "-")) _ (and_right (all is_digit (year_text x)) _ y) in
@@ -72,9 +72,9 @@ module _ (x : List ℕ) (p : DateParts x) {y m d : ℕ} (ey : y ≡ decimal (yea
   pub real_read : real_day y m d ≡ true
   real_read = rw (ey, em, ed) p.real
 
-  pub day-read : day_number y m d ≡ day_of x
+  pub day_read : day_number y m d ≡ day_of x
   unfolding day_of
-  day-read = rw (ey, em, ed)
+  day_read = rw (ey, em, ed)
 
 -- ---- an attribute whose name may be empty
 

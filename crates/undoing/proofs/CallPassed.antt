@@ -28,16 +28,16 @@ abbrev looks : (a b : Bool) → ℕ → Found
 looks a b n = cond (not a) (record { answer = 3; place = 0 }) (cond b (record { answer = 0; place = n }) (record { answer = 30; place = 0 }))
 
 -- 0: the register is sound, the texts are allowed, and the case stands
-found-told : (a b : Bool) (n : ℕ) → answer_of (looks a b n) ≡ 0 → (a ≡ true) × (b ≡ true)
-found-told true true n e = (refl, refl)
-found-told true false n e = absurd (omega arith)
-found-told false b n e = absurd (omega arith)
+found_told : (a b : Bool) (n : ℕ) → answer_of (looks a b n) ≡ 0 → (a ≡ true) × (b ≡ true)
+found_told true true n e = (refl, refl)
+found_told true false n e = absurd (omega arith)
+found_told false b n e = absurd (omega arith)
 
 -- 33 is not among its answers
-never-found : (a b : Bool) (n : ℕ) → answer_of (looks a b n) ≢ 33
-never-found false b n e = omega arith
-never-found true true n e = omega arith
-never-found true false n e = omega arith
+never_found : (a b : Bool) (n : ℕ) → answer_of (looks a b n) ≢ 33
+never_found false b n e = omega arith
+never_found true true n e = omega arith
+never_found true false n e = omega arith
 
 -- a test with another answer than n did not hold, and the rest decides
 passes : (n : ℕ) (b : Bool) (u v : Written) → (b ≡ true → u.answer ≢ n) → (cond b u v).answer ≡ n → (b ≡ false) × (cond b u v ≡ v) × (v.answer ≡ n)
@@ -67,11 +67,11 @@ module _ (reg : List ℕ) (x : CaseTexts) (year quarter : ℕ) where
 
   looked : looked_up reg x ≡ 0 → (is_sound reg ≡ true) × (in_register ≡ true)
   unfolding found
-  looked e = found-told (is_sound reg) in_register _ e
+  looked e = found_told (is_sound reg) in_register _ e
 
-  never-looked : looked_up reg x ≢ 33
+  never_looked : looked_up reg x ≢ 33
   unfolding found
-  never-looked = never-found (is_sound reg) in_register _
+  never_looked = never_found (is_sound reg) in_register _
 
   module _ (out : List ℕ) where
     -- what is left of the tests after 31, and after 32
@@ -82,10 +82,10 @@ module _ (reg : List ℕ) (x : CaseTexts) (year quarter : ℕ) where
     after31 = cond (eqb (length named) 0) (unwritten out 32) after32
 
     -- an answer that none of the earlier tests gives
-    passed-by : (n : ℕ) → 1 ≢ n → (not (eqb (looked_up reg x) 0) ≡ true → looked_up reg x ≢ n) → 31 ≢ n → 32 ≢ n → (cancel_file reg x year quarter out).answer ≡ n →
+    passed_by : (n : ℕ) → 1 ≢ n → (not (eqb (looked_up reg x) 0) ≡ true → looked_up reg x ≢ n) → 31 ≢ n → 32 ≢ n → (cancel_file reg x year quarter out).answer ≡ n →
         CallPassed × (cancel_file reg x year quarter out ≡ after32) × (after32.answer ≡ n)
     unfolding cancel_file
-    passed-by n h1 hl h31 h32 e =
+    passed_by n h1 hl h31 h32 e =
         let look : ℕ = looked_up reg x in
         let a = passes n (not (is_period year quarter)) (unwritten out 1) (of_found reg x (first_day year quarter) (last_day year quarter) out) (λ _. h1) e in
         let b = passes n (not (eqb look 0)) (unwritten out look) (of_chosen x named out) hl a.2 in
@@ -106,15 +106,15 @@ module _ (reg : List ℕ) (x : CaseTexts) (year quarter : ℕ) where
         )
 
     -- with 0 every test is passed, and the file is written
-    pub call-passed : (cancel_file reg x year quarter out).answer ≡ 0 → CallPassed × (cancel_file reg x year quarter out ≡ file_written out named_text)
-    call-passed e =
-        let r = passed-by 0 (λ z. omega arith) (λ t z. eqb-false (looked_up reg x) 0 (not-true _ t) z) (λ z. omega arith) (λ z. omega arith) e in
+    pub call_passed : (cancel_file reg x year quarter out).answer ≡ 0 → CallPassed × (cancel_file reg x year quarter out ≡ file_written out named_text)
+    call_passed e =
+        let r = passed_by 0 (λ z. omega arith) (λ t z. eqb-false (looked_up reg x) 0 (not-true _ t) z) (λ z. omega arith) (λ z. omega arith) e in
         (r.0, r.1 ∙ (passes 0 (ltb (length out) (length named_text)) (unwritten out 33) (file_written out named_text) (λ _ z. omega arith) r.2).1)
 
     -- with 33 every other test is, and the file is longer than the output
-    pub call-short : (cancel_file reg x year quarter out).answer ≡ 33 → CallPassed × (length out < length named_text)
-    call-short e =
-        let r = passed-by 33 (λ z. omega arith) (λ _. never-looked) (λ z. omega arith) (λ z. omega arith) e in
+    pub call_short : (cancel_file reg x year quarter out).answer ≡ 33 → CallPassed × (length out < length named_text)
+    call_short e =
+        let r = passed_by 33 (λ z. omega arith) (λ _. never_looked) (λ z. omega arith) (λ z. omega arith) e in
         (r.0, go (ltb (length out) (length named_text)) refl r.2)
       where
         go : (b : Bool) → ltb (length out) (length named_text) ≡ b → (cond b (unwritten out 33) (file_written out named_text)).answer ≡ 33 → length out < length named_text

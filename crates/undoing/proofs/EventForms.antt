@@ -80,9 +80,9 @@ confirms zero g e = false≢true g
 confirms (suc f) g e = omega arith
 
 -- no kind above the four has a code
-no-codes : (k c : ℕ) → in_ranges (codes_of (suc (suc (suc (suc k))))) c ≡ true → ⊥
+no_codes : (k c : ℕ) → in_ranges (codes_of (suc (suc (suc (suc k))))) c ≡ true → ⊥
 unfolding any
-no-codes k c l = false≢true l
+no_codes k c l = false≢true l
 
 -- in kinds but a Sospensione the end is missing
 endless : (n : ℕ) → eqb n never || false ≡ true → n ≡ never
@@ -90,19 +90,19 @@ endless n x = eqb-true n never (sym (or-false (eqb n never)) ∙ x)
 
 -- a Rivalutazione; an Erogazione, with its accesses or less_chosen; a Sospensione, with its end or less_chosen
 module _ (d c : ℕ) (h : d < day_count) where
-  of-revaluation : (f : ℕ) → in_ranges revaluations c ≡ true → in_ranges confirmations f ≡ true → Has (event_with 0 d c never 0 f)
-  of-revaluation f l g =
+  of_revaluation : (f : ℕ) → in_ranges revaluations c ≡ true → in_ranges confirmations f ≡ true → Has (event_with 0 d c never 0 f)
+  of_revaluation f l g =
       let n : eqb f 0 ≡ false = ne_eqb f 0 (confirms f g) in
       record { name = _; pairs = _; inside = _; form = revalued h l g; shown = λ k. rw n }
 
-  of-service : (a : ℕ) → in_ranges operators c ≡ true → a ≤ 99 → Has (event_with 1 d c never a 0)
-  of-service zero l g = record { name = _; pairs = _; inside = _; form = served h l; shown = λ k. refl }
-  of-service (suc a) l g =
+  of_service : (a : ℕ) → in_ranges operators c ≡ true → a ≤ 99 → Has (event_with 1 d c never a 0)
+  of_service zero l g = record { name = _; pairs = _; inside = _; form = served h l; shown = λ k. refl }
+  of_service (suc a) l g =
       let n : eqb (suc a) 0 ≡ false = ne_eqb (suc a) 0 (λ e. omega arith) in
       record { name = _; pairs = _; inside = _; form = counted {a = suc a} h l (omega arith) g; shown = λ k. rw n }
 
-  of-suspension : (n : ℕ) → in_ranges suspensions c ≡ true → eqb n never || ltb n day_count ≡ true → Has (event_with 2 d c n 0 0)
-  of-suspension n l g = go (eqb n never) refl g
+  of_suspension : (n : ℕ) → in_ranges suspensions c ≡ true → eqb n never || ltb n day_count ≡ true → Has (event_with 2 d c n 0 0)
+  of_suspension n l g = go (eqb n never) refl g
     where
       go : (t : Bool) → eqb n never ≡ t → t || ltb n day_count ≡ true → Has (event_with 2 d c n 0 0)
       go true e g = rw (eqb-true n never e) (record { name = _; pairs = _; inside = _; form = suspended h l; shown = λ k. refl })
@@ -111,12 +111,12 @@ module _ (d c : ℕ) (h : d < day_count) where
 -- an event's fields by its kind: what a kind lacks is `never` or 0
 by_kind : (k d c n a f : ℕ) → d < day_count → end_allowed (event_with k d c n a f) ≡ true → in_ranges (codes_of k) c ≡ true →
     accesses_allowed (event_with k d c n a f) ≡ true → conferma_allowed (event_with k d c n a f) ≡ true → Has (event_with k d c n a f)
-by_kind zero d c n a f h x l y z = rw (endless n x, eqb-true a 0 y) (of-revaluation d c h f l z)
-by_kind (suc zero) d c n a f h x l y z = rw (endless n x, eqb-true f 0 z) (of-service d c h a l (leb-true a 99 y))
-by_kind (suc (suc zero)) d c n a f h x l y z = rw (eqb-true a 0 y, eqb-true f 0 z) (of-suspension d c h n l x)
+by_kind zero d c n a f h x l y z = rw (endless n x, eqb-true a 0 y) (of_revaluation d c h f l z)
+by_kind (suc zero) d c n a f h x l y z = rw (endless n x, eqb-true f 0 z) (of_service d c h a l (leb-true a 99 y))
+by_kind (suc (suc zero)) d c n a f h x l y z = rw (eqb-true a 0 y, eqb-true f 0 z) (of_suspension d c h n l x)
 by_kind (suc (suc (suc zero))) d c n a f h x l y z =
     rw (endless n x, eqb-true a 0 y, eqb-true f 0 z) (record { name = _; pairs = _; inside = _; form = concluded h l; shown = λ k. refl })
-by_kind (suc (suc (suc (suc k)))) d c n a f h x l y z = absurd (no-codes k c l)
+by_kind (suc (suc (suc (suc k)))) d c n a f h x l y z = absurd (no_codes k c l)
 
 -- an event that can stand in a register: of 52 bits, and allowed
 pub record Able (e : ℕ) : Type 0 where

@@ -9,21 +9,21 @@ use lib.ListN.{length, get_or}
 use borrow.Author.Tests.{le-leb, ne_eqb}
 use Rattle.laws.specs.Lists.{all, any, bytes}
 use Rattle.text.specs.Spelled.{spelled, spelled_in}
-use Rattle.text.proofs.SpelledLaws.{spelled-reads, spelled-digits, spelled-some, spelled-first}
+use Rattle.text.proofs.SpelledLaws.{spelled_reads, spelled_digits, spelled_some, spelled_first}
 use Rattle.codes.specs.CodesAndCharacters.{Range, ◌to◌, in_ranges}
-use Rattle.codes.proofs.Ranges.{ranges-below}
+use Rattle.codes.proofs.Ranges.{ranges_below}
 use Rattle.days.specs.DayNumbers.{day_count}
 use Rattle.days.specs.WrittenDates.{date_text}
-use Rattle.days.proofs.WrittenDates.{date-spelled}
+use Rattle.days.proofs.WrittenDates.{date_spelled_lem}
 use Rattle.schema.specs.Texts.{number, plain, date, unpadded, fits_text}
 use Rattle.schemas.specs.FieldTexts.{between, empty, tipo_trasmissione, regione_erogazione, cod_asl, id_rec}
 use Rattle.cancellation.specs.FileText.{CaseTexts}
 use Rattle.cancellation.proofs.CaseFields.{Texts}
 
 -- a day
-pub day-fits : (d : ℕ) → d < day_count → fits_text date (date_text d) ≡ true
+pub day_fits : (d : ℕ) → d < day_count → fits_text date (date_text d) ≡ true
 unfolding fits_text
-day-fits d h = (date-spelled d h).0
+day_fits d h = (date_spelled_lem d h).0
 
 -- 1 or 2, as a character
 pub two_fits : (c : ℕ) → in_ranges ((1 to 2) ∷ []) c ≡ true → fits_text (between "1" "2") (spelled c) ≡ true
@@ -31,13 +31,13 @@ unfolding fits_text spelled spelled_in all any
 two_fits zero h = absurd (false≢true h)
 two_fits (suc zero) h = refl
 two_fits (suc (suc zero)) h = refl
-two_fits (suc (suc (suc c))) h = let l = ranges-below ((1 to 2) ∷ []) 2 (suc (suc (suc c))) refl h in absurd (omega arith)
+two_fits (suc (suc (suc c))) h = let l = ranges_below ((1 to 2) ∷ []) 2 (suc (suc (suc c))) refl h in absurd (omega arith)
 
 -- no leading zero
-no-zero-first : (t : List ℕ) → (get_or t 0 0 ≡ code "0" → ⊥) → unpadded t ≡ true
-no-zero-first [] h = refl
-no-zero-first (b ∷ []) h = refl
-no-zero-first (b ∷ c ∷ t) h = rw (ne_eqb b (code "0") h)
+no_zero_first : (t : List ℕ) → (get_or t 0 0 ≡ code "0" → ⊥) → unpadded t ≡ true
+no_zero_first [] h = refl
+no_zero_first (b ∷ []) h = refl
+no_zero_first (b ∷ c ∷ t) h = rw (ne_eqb b (code "0") h)
 
 -- what is in ranges less_chosen 0 is above 0
 above : (rs : List Range) (c : ℕ) → in_ranges rs 0 ≡ false → in_ranges rs c ≡ true → 0 < c
@@ -49,31 +49,31 @@ pub number_fits : (rs : List Range) (c : ℕ) → in_ranges rs 0 ≡ false → i
 unfolding fits_text
 number_fits rs c n h =
     rw (
-      no-zero-first (spelled c) (spelled-first c (above rs c n h)),
-      le-leb 1 (length (spelled c)) (spelled-some c),
-      spelled-digits c,
-      spelled-reads c,
+      no_zero_first (spelled c) (spelled_first c (above rs c n h)),
+      le-leb 1 (length (spelled c)) (spelled_some c),
+      spelled_digits c,
+      spelled_reads c,
     ) h
 
 -- type C, with nothing in it
-pub type-fits : (fits_text tipo_trasmissione (bytes "C") ≡ true) × (fits_text empty [] ≡ true)
+pub type_fits : (fits_text tipo_trasmissione (bytes "C") ≡ true) × (fits_text empty [] ≡ true)
 unfolding fits_text all any
-type-fits = (refl, refl)
+type_fits = (refl, refl)
 
 -- the texts that name the case
 module _ (x : CaseTexts) (t : Texts x) where
-  pub region-fits : fits_text regione_erogazione x.region ≡ true
+  pub region_fits : fits_text regione_erogazione x.region ≡ true
   unfolding fits_text
-  region-fits = rw (t.region-long, t.region-digits) t.region-listed
+  region_fits = rw (t.region_long, t.region_digits) t.region_listed
 
-  pub asl-fits : fits_text cod_asl x.asl ≡ true
+  pub asl_fits : fits_text cod_asl x.asl ≡ true
   unfolding fits_text
-  asl-fits = rw t.asl-long t.asl-chars
+  asl_fits = rw t.asl_long t.asl_chars
 
-  pub taken-fits : fits_text date x.date ≡ true
+  pub taken_fits : fits_text date x.date ≡ true
   unfolding fits_text
-  taken-fits = t.dated
+  taken_fits = t.dated
 
-  pub id-fits : fits_text id_rec x.id ≡ true
+  pub id_fits : fits_text id_rec x.id ≡ true
   unfolding fits_text
-  id-fits = rw t.id-long t.id-chars
+  id_fits = rw t.id_long t.id_chars_lem

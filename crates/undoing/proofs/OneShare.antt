@@ -26,22 +26,22 @@ use Rattle.judge.specs.ByNumber.{wrong, clash, key_among}
 use Rattle.judge.specs.Asked.{against_standing}
 use Rattle.judge.proofs.InOrder.{answer_events}
 use Rattle.judge.proofs.Pairs.{any-map}
-use Rattle.judge.proofs.Keys.{twice-rows, is15}
-use Rattle.judge.proofs.Answers.{answer-events}
+use Rattle.judge.proofs.Keys.{twice_rows, is15}
+use Rattle.judge.proofs.Answers.{answer_events_lem}
 use Rattle.intake.proofs.Sound.{step_kept}
 use Rattle.cancellation.specs.Chosen.{dated_in, replaces}
 use Rattle.cancellation.specs.FileText.{CaseTexts}
 use Rattle.cancellation.specs.CancelFile.{case_told}
 use Rattle.undoing.specs.ReadBack.{bits_allowed, head_said, said, record_said}
-use Rattle.undoing.proofs.Rows.{less_rows, less-all}
+use Rattle.undoing.proofs.Rows.{less_rows, less_all}
 
 -- ---- what a record says of its events
 
 -- the events, as they were
-pub said-numbers : (es : List ℕ) → event_numbers (map said es) ≡ es
+pub said_numbers : (es : List ℕ) → event_numbers (map said es) ≡ es
 unfolding event_numbers
-said-numbers [] = refl
-said-numbers (e ∷ es) = ap (λ (l : List ℕ). e ∷ l) (said-numbers es)
+said_numbers [] = refl
+said_numbers (e ∷ es) = ap (λ (l : List ℕ). e ∷ l) (said_numbers es)
 
 -- nothing is kept beside them
 none_beside : (e : ℕ) → kept_readable (said e) ≡ true
@@ -52,15 +52,15 @@ none_beside e = go (evaluates e)
     go false = refl
 
 -- the bits and values that a row asks for
-pub said-readable : (es : List ℕ) → all event_readable (map said es) ≡ all bits_allowed es
+pub said_readable : (es : List ℕ) → all event_readable (map said es) ≡ all bits_allowed es
 unfolding all
-said-readable [] = refl
-said-readable (e ∷ es) =
-    ap₂ ◌&&◌ (ap (λ (b : Bool). ltb e (2 ^ event_bits) && b) (ap (λ (b : Bool). event_allowed (event_in e) && b) (none_beside e) ∙ and-true (event_allowed (event_in e)))) (said-readable es)
+said_readable [] = refl
+said_readable (e ∷ es) =
+    ap₂ ◌&&◌ (ap (λ (b : Bool). ltb e (2 ^ event_bits) && b) (ap (λ (b : Bool). event_allowed (event_in e) && b) (none_beside e) ∙ and-true (event_allowed (event_in e)))) (said_readable es)
 
 -- 21: less_chosen a Valutazione, conferma 2 alone is bad
-said-bad : (es : List ℕ) → any bad_conferma (map said es) ≡ any replaces es
-said-bad es =
+said_bad : (es : List ℕ) → any bad_conferma (map said es) ≡ any replaces es
+said_bad es =
     any-map said bad_conferma es
     ∙ any_same (λ e. bad_conferma (said e)) replaces es
     (λ e. ap (λ (b : Bool). eqb (kind_of e) revaluation && b) (go (eqb (conferma_of e) 1) (eqb (conferma_of e) 2)))
@@ -77,11 +77,11 @@ said_plain (e ∷ es) = said_plain es
 -- ---- the checks in their order
 
 -- an answer of 0 to a cancellation: no check up to 24 holds, and every key stands
-none-holds : (c : Context) (taken : ℕ) (es : List ℕ) (bad zero stands : Bool) (rows : ℕ) (standing : List ℕ) → (length es ≡ 0 → ⊥) →
+none_holds : (c : Context) (taken : ℕ) (es : List ℕ) (bad zero stands : Bool) (rows : ℕ) (standing : List ℕ) → (length es ≡ 0 → ⊥) →
     any (wrong 10 c taken) es ≡ false → bad ≡ false → zero ≡ false → some_pair (clash 22) es ≡ false → any (wrong 23 c taken) es ≡ false → stands ≡ true →
     any (λ e. not (key_among standing e)) es ≡ false → answer_events c false true taken es bad zero stands rows standing ≡ 0
 unfolding answer_events against_standing
-none-holds c taken es bad zero stands rows standing some dated confirmed plain once ends here each =
+none_holds c taken es bad zero stands rows standing some dated confirmed plain once ends here each =
     rw (ne_eqb (length es) 0 some, dated, confirmed, plain, once, ends, here, each)
 
 -- the rows of events of the case
@@ -107,34 +107,34 @@ module _ (c : Context) (x : CaseTexts) where
     pub once : twice (rows_said x es) ≡ false
     pub stand : all_in (rows_said x es) t.events ≡ true
 
-  module _ (n : ℕ) (room-is : c.room ≡ room siad n) (key : KeyReadable (head_said x).key) (t : State ℕ ℕ) (v : Sound n t)
+  module _ (n : ℕ) (room_is : c.room ≡ room siad n) (key : KeyReadable (head_said x).key) (t : State ℕ ℕ) (v : Sound n t)
       (here : has (case_told x) t.cases ≡ true) (es : List ℕ) (some : 0 < length es) (k : Cancels t es) where
     readable : all event_readable (map said es) ≡ true
-    readable = said-readable es ∙ k.allowed
+    readable = said_readable es ∙ k.allowed
 
     -- it is accepted
     pub accepted : (siad_machine c).judge t (record_said x es) ≡ 0
     unfolding machine
     accepted =
-        answer-events n t v c (head_said x) (map said es) (key, readable)
-        ∙ none-holds c (head_said x).key.taken (event_numbers (map said es)) _ _ _ _ _
-        (λ e. omega (arith, ap length (said-numbers es)))
-        (ap (any (wrong 10 c (head_said x).key.taken)) (said-numbers es) ∙ sym (not-all (dated_in c.first c.last) es) ∙ ap not k.dated)
-        (said-bad es ∙ k.confirmed)
+        answer_events_lem n t v c (head_said x) (map said es) (key, readable)
+        ∙ none_holds c (head_said x).key.taken (event_numbers (map said es)) _ _ _ _ _
+        (λ e. omega (arith, ap length (said_numbers es)))
+        (ap (any (wrong 10 c (head_said x).key.taken)) (said_numbers es) ∙ sym (not-all (dated_in c.first c.last) es) ∙ ap not k.dated)
+        (said_bad es ∙ k.confirmed)
         (said_plain es)
-        (sym (twice-rows (case_told x) (map said es) readable) ∙ k.once)
-        (ap t23 (said-numbers es) ∙ k.ends)
+        (sym (twice_rows (case_told x) (map said es) readable) ∙ k.once)
+        (ap t23 (said_numbers es) ∙ k.ends)
         here
-        (sym (is15 (case_told x) (map said es) readable t.events v.events-fit) ∙ ap not k.stand)
+        (sym (is15 (case_told x) (map said es) readable t.events v.events_fit) ∙ ap not k.stand)
 
     -- and leaves everything but its events
     pub leaves : (siad_machine c).act t (record_said x es) ≡ less_said x es t
     unfolding machine del_all
     leaves =
         let e : keep (λ k. not false) (del_all (rows_said x es) t.events) ≡ less_rows (rows_said x es) t.events
-        = keep-true (λ k. not false) (del_all (rows_said x es) t.events) (λ k. refl) ∙ less-all (rows_said x es) t.events in
+        = keep-true (λ k. not false) (del_all (rows_said x es) t.events) (λ k. refl) ∙ less_all (rows_said x es) t.events in
         λ i. record { cases = t.cases; events = e i }
 
     -- in a sound state
-    pub left-sound : Sound n (less_said x es t)
-    left-sound = subst (Sound n) leaves (step_kept c n room-is t (record_said x es) v (key, readable) accepted)
+    pub left_sound : Sound n (less_said x es t)
+    left_sound = subst (Sound n) leaves (step_kept c n room_is t (record_said x es) v (key, readable) accepted)

@@ -12,16 +12,16 @@ use borrow.Author.Tests.{eqb-true, leb-true, le-leb}
 use Rattle.laws.specs.Decimal.{is_digit}
 use Rattle.laws.specs.Lists.{all, any, bytes}
 use Rattle.laws.proofs.Truth.{and_left, and_right}
-use Rattle.laws.proofs.Every.{and-tell}
+use Rattle.laws.proofs.Every.{and_tell}
 use Rattle.laws.proofs.Lists.{all_map, all_join}
 use Rattle.text.specs.Spelled.{spelled}
-use Rattle.text.proofs.SpelledLaws.{spelled-digits, spelled-some}
+use Rattle.text.proofs.SpelledLaws.{spelled_digits, spelled_some}
 use Rattle.codes.specs.CodesAndCharacters.{in_ranges, alnums, id_chars}
 use Rattle.codes.proofs.Bytes.{agree_below, same_test}
-use Rattle.codes.proofs.Ranges.{ranges-below}
+use Rattle.codes.proofs.Ranges.{ranges_below}
 use Rattle.days.specs.Dates.{year_text, month_text, day_text, has_date_form, is_date}
 use Rattle.days.specs.WrittenDates.{date_text}
-use Rattle.days.proofs.WrittenDates.{in_date, date-plain, date-long}
+use Rattle.days.proofs.WrittenDates.{in_date, date_plain, date_long}
 use Rattle.markup.specs.Bytes.{in_file, in_value, is_text}
 use Rattle.cancellation.specs.FileText.{CaseTexts}
 use Rattle.cancellation.proofs.CaseFields.{Texts}
@@ -52,29 +52,29 @@ plain_of t h a =
 abbrev Clean : (ℕ → Bool) → Type 0
 Clean p = (b : ℕ) → p b ≡ true → clean b ≡ true
 
-clean-by : (p : ℕ → Bool) → ((b : ℕ) → p b ≡ true → b ≤ 126) → agree_below 127 (λ b. not (p b) || clean b) (λ b. true) ≡ true → Clean p
-clean-by p small e b h = rw h at (same_test 127 (λ b. not (p b) || clean b) (λ b. true) e b (omega (arith, small b h)))
+clean_by : (p : ℕ → Bool) → ((b : ℕ) → p b ≡ true → b ≤ 126) → agree_below 127 (λ b. not (p b) || clean b) (λ b. true) ≡ true → Clean p
+clean_by p small e b h = rw h at (same_test 127 (λ b. not (p b) || clean b) (λ b. true) e b (omega (arith, small b h)))
 
-in-dates : Clean in_date
+in_dates : Clean in_date
 unfolding agree_below
-in-dates = clean-by in_date (λ b h. let l = leb-true b (code "9") (and_right (leb (code "-") b) (leb b (code "9")) h) in omega arith) refl
+in_dates = clean_by in_date (λ b h. let l = leb-true b (code "9") (and_right (leb (code "-") b) (leb b (code "9")) h) in omega arith) refl
 
-in-alnums : Clean (in_ranges alnums)
+in_alnums : Clean (in_ranges alnums)
 unfolding agree_below any all
-in-alnums = clean-by (in_ranges alnums) (λ b h. ranges-below alnums 126 b refl h) refl
+in_alnums = clean_by (in_ranges alnums) (λ b h. ranges_below alnums 126 b refl h) refl
 
 in_ids : Clean (in_ranges id_chars)
 unfolding agree_below any all
-in_ids = clean-by (in_ranges id_chars) (λ b h. ranges-below id_chars 126 b refl h) refl
+in_ids = clean_by (in_ranges id_chars) (λ b h. ranges_below id_chars 126 b refl h) refl
 
 -- a digit is one of a date's bytes
-digit-dates : (b : ℕ) → is_digit b ≡ true → in_date b ≡ true
-digit-dates b h =
+digit_dates : (b : ℕ) → is_digit b ≡ true → in_date b ≡ true
+digit_dates b h =
     let l = leb-true (code "0") b (and_left (leb (code "0") b) (leb b (code "9")) h) in
-    and-tell (leb (code "-") b) (leb b (code "9")) (le-leb (code "-") b (omega arith)) (and_right (leb (code "0") b) (leb b (code "9")) h)
+    and_tell (leb (code "-") b) (leb b (code "9")) (le-leb (code "-") b (omega arith)) (and_right (leb (code "0") b) (leb b (code "9")) h)
 
 dashed : (t : List ℕ) → all is_digit t ≡ true → all in_date t ≡ true
-dashed = all_map is_digit in_date digit-dates
+dashed = all_map is_digit in_date digit_dates
 
 -- a text of clean bytes, not empty, is plain
 plain_by : (p : ℕ → Bool) → Clean p → (t : List ℕ) → 0 < length t → all p t ≡ true → PlainText t
@@ -83,24 +83,24 @@ plain_by p c t h a = plain_of t h (all_map p clean c t a)
 -- ---- the texts
 
 -- digits; a day; a number; the type C
-digits-plain : (t : List ℕ) → 0 < length t → all is_digit t ≡ true → PlainText t
-digits-plain t h a = plain_by in_date in-dates t h (dashed t a)
+digits_plain : (t : List ℕ) → 0 < length t → all is_digit t ≡ true → PlainText t
+digits_plain t h a = plain_by in_date in_dates t h (dashed t a)
 
-pub day-plain : (d : ℕ) → PlainText (date_text d)
-day-plain d = plain_by in_date in-dates (date_text d) (rw (date-long d) (omega arith)) (date-plain d)
+pub day_plain : (d : ℕ) → PlainText (date_text d)
+day_plain d = plain_by in_date in_dates (date_text d) (rw (date_long d) (omega arith)) (date_plain d)
 
-pub number-plain : (n : ℕ) → PlainText (spelled n)
-number-plain n = digits-plain (spelled n) (spelled-some n) (spelled-digits n)
+pub number_plain : (n : ℕ) → PlainText (spelled n)
+number_plain n = digits_plain (spelled n) (spelled_some n) (spelled_digits n)
 
-pub type-plain : PlainText (bytes "C")
+pub type_plain : PlainText (bytes "C")
 unfolding all
-type-plain = plain_of (bytes "C") (omega arith) refl
+type_plain = plain_of (bytes "C") (omega arith) refl
 
 -- a text AAAA-MM-GG has digits and dashes alone
-form-bytes : (t : List ℕ) → length t ≡ 10 → all is_digit (year_text t) ≡ true → get_or t 4 0 ≡ code "-" →
+form_bytes : (t : List ℕ) → length t ≡ 10 → all is_digit (year_text t) ≡ true → get_or t 4 0 ≡ code "-" →
     all is_digit (month_text t) ≡ true → get_or t 7 0 ≡ code "-" → all is_digit (day_text t) ≡ true → all in_date t ≡ true
 unfolding all
-form-bytes t l y f m g d =
+form_bytes t l y f m g d =
     let o : length (drop 5 t) ≡ 5 = rw (length-drop 5 t, l) in
     let p : length (drop 8 t) ≤ 2 = rw (length-drop 8 t, l) (omega arith) in
     let f' : in_date (get_or t 4 0) ≡ true = rw f in
@@ -109,14 +109,14 @@ form-bytes t l y f m g d =
     = ap (all in_date) (drop-drop 3 5 t ∙ sym (take_all 2 (drop 8 t) p)) ∙ dashed (day_text t) d in
     let m' : all in_date (drop 5 t) ≡ true
     = ap (all in_date) (split_at (drop 5 t) 2 0 (omega arith))
-    ∙ all_join in_date (month_text t) (get_or (drop 5 t) 2 0 ∷ drop 3 (drop 5 t)) (dashed (month_text t) m) (and-tell (in_date (get_or (drop 5 t) 2 0)) _ g' d') in
+    ∙ all_join in_date (month_text t) (get_or (drop 5 t) 2 0 ∷ drop 3 (drop 5 t)) (dashed (month_text t) m) (and_tell (in_date (get_or (drop 5 t) 2 0)) _ g' d') in
     ap (all in_date) (split_at t 4 0 (omega arith))
-    ∙ all_join in_date (year_text t) (get_or t 4 0 ∷ drop 5 t) (dashed (year_text t) y) (and-tell (in_date (get_or t 4 0)) _ f' m')
+    ∙ all_join in_date (year_text t) (get_or t 4 0 ∷ drop 5 t) (dashed (year_text t) y) (and_tell (in_date (get_or t 4 0)) _ f' m')
 
 -- so does a date
-date-bytes : (t : List ℕ) → is_date t ≡ true → (length t ≡ 10) × (all in_date t ≡ true)
+date_bytes : (t : List ℕ) → is_date t ≡ true → (length t ≡ 10) × (all in_date t ≡ true)
 unfolding is_date
-date-bytes t h =
+date_bytes t h =
     let a = and_left (has_date_form t) _ h in
     let l = eqb-true (length t) 10 (and_left (eqb (length t) 10) _ a) in
     let b = and_right (eqb (length t) 10) _ a in
@@ -124,20 +124,20 @@ date-bytes t h =
     let d = and_right (eqb (get_or t 4 0) (code "-")) _ c in
     let e = and_right (all is_digit (month_text t)) _ d in (
       l,
-      form-bytes t l (and_left (all is_digit (year_text t)) _ b) (eqb-true (get_or t 4 0) (code "-") (and_left _ _ c)) (and_left (all is_digit (month_text t)) _ d)
+      form_bytes t l (and_left (all is_digit (year_text t)) _ b) (eqb-true (get_or t 4 0) (code "-") (and_left _ _ c)) (and_left (all is_digit (month_text t)) _ d)
           (eqb-true (get_or t 7 0) (code "-") (and_left _ _ e)) (and_right (eqb (get_or t 7 0) (code "-")) _ e),
     )
 
 -- the texts that name a case
 module _ (x : CaseTexts) (t : Texts x) where
-  pub region-plain : PlainText x.region
-  region-plain = digits-plain x.region (rw t.region-long (omega arith)) t.region-digits
+  pub region_plain : PlainText x.region
+  region_plain = digits_plain x.region (rw t.region_long (omega arith)) t.region_digits
 
-  pub asl-plain : PlainText x.asl
-  asl-plain = plain_by (in_ranges alnums) in-alnums x.asl (rw t.asl-long (omega arith)) t.asl-chars
+  pub asl_plain : PlainText x.asl
+  asl_plain = plain_by (in_ranges alnums) in_alnums x.asl (rw t.asl_long (omega arith)) t.asl_chars
 
-  pub taken-plain : PlainText x.date
-  taken-plain = let d = date-bytes x.date t.dated in plain_by in_date in-dates x.date (rw d.0 (omega arith)) d.1
+  pub taken_plain : PlainText x.date
+  taken_plain = let d = date_bytes x.date t.dated in plain_by in_date in_dates x.date (rw d.0 (omega arith)) d.1
 
-  pub id-plain : PlainText x.id
-  id-plain = plain_by (in_ranges id_chars) in_ids x.id (rw t.id-long (omega arith)) t.id-chars
+  pub id_plain : PlainText x.id
+  id_plain = plain_by (in_ranges id_chars) in_ids x.id (rw t.id_long (omega arith)) t.id_chars_lem

@@ -14,14 +14,14 @@ use Rattle.markup.specs.Elements.{Inside}
 use Rattle.markup.specs.Elements.Inside.{end, says, elem}
 use Rattle.markup.specs.Document.{document}
 use Rattle.reading.specs.Printable.{IsName, PairsOk, Prints, ValuesPlain, Plain}
-use Rattle.reading.proofs.Allowed.{plain-document}
+use Rattle.reading.proofs.Allowed.{plain_document}
 use Rattle.home_care.specs.Row.{Event, kind_of}
 use Rattle.cancellation.specs.FileText.{CaseTexts, events_on, records_on, shares, file_tree, file_text}
 use Rattle.undoing.specs.ReadBack.{Writable, tree_read}
 use Rattle.undoing.proofs.EventForms.{coded, Form, revalued, served, counted, suspended, ended, concluded, formed}
-use Rattle.undoing.proofs.GoodShares.{InOrder, Share, shares-good}
-use Rattle.cancellation.proofs.CaseFields.{Texts, texts-told}
-use Rattle.undoing.proofs.PlainTexts.{PlainText, day-plain, number-plain, type-plain, region-plain, asl-plain, taken-plain, id-plain}
+use Rattle.undoing.proofs.GoodShares.{InOrder, Share, shares_good}
+use Rattle.cancellation.proofs.CaseFields.{Texts, texts_told}
+use Rattle.undoing.proofs.PlainTexts.{PlainText, day_plain, number_plain, type_plain, region_plain, asl_plain, taken_plain, id_plain}
 
 -- ---- what can be printed, and is read again
 
@@ -40,68 +40,68 @@ is_name_lem : (n : List ℕ) → is_name_start (get_or n 0 0) && all is_name n �
 is_name_lem n h = record { starts = and_left _ (all is_name n) h; bytes = and_right (is_name_start (get_or n 0 0)) _ h }
 
 -- such attributes are printed and are plain
-pairs-ok : (ps : List Pair) → Attributes ps → PairsOk ps × ValuesPlain ps
-pairs-ok [] h = (tt, tt)
-pairs-ok (p ∷ ps) h = let r = pairs-ok ps h.2 in ((is_name_lem p.key h.0, h.1.value, r.0), (h.1.file, r.1))
+pairs_ok : (ps : List Pair) → Attributes ps → PairsOk ps × ValuesPlain ps
+pairs_ok [] h = (tt, tt)
+pairs_ok (p ∷ ps) h = let r = pairs_ok ps h.2 in ((is_name_lem p.key h.0, h.1.value, r.0), (h.1.file, r.1))
 
 -- nothing; a text; an element before what follows it
 nothing : {d : ℕ} → Printed d end
 nothing = record { prints = tt; plain = tt }
 
-a-text : {d : ℕ} {t : List ℕ} → PlainText t → Printed d (says t end)
-a-text h = record { prints = (h.some, h.text, tt, tt); plain = (h.file, tt) }
+a_text : {d : ℕ} {t : List ℕ} → PlainText t → Printed d (says t end)
+a_text h = record { prints = (h.some, h.text, tt, tt); plain = (h.file, tt) }
 
-an-element : {d : ℕ} {n : List ℕ} {ps : List Pair} {i k : Inside} → is_name_start (get_or n 0 0) && all is_name n ≡ true → Attributes ps →
+an_element : {d : ℕ} {n : List ℕ} {ps : List Pair} {i k : Inside} → is_name_start (get_or n 0 0) && all is_name n ≡ true → Attributes ps →
     differ ps ≡ true → Printed d i → Printed (suc d) k → Printed (suc d) (elem 0 n ps i k)
-an-element {n = n} {ps = ps} h a e i k =
-    let p = pairs-ok ps a in
+an_element {n = n} {ps = ps} h a e i k =
+    let p = pairs_ok ps a in
     record { prints = (record { named = is_name_lem n h; pairs = p.0; apart = e }, i.prints, k.prints); plain = (p.1, i.plain, k.plain) }
 
 -- ---- a cancellation file's elements
 
 -- a code as a child
-code-printed : {d : ℕ} {n : List ℕ} (c : ℕ) → is_name_start (get_or n 0 0) && all is_name n ≡ true → Printed (suc d) (coded n c)
+code_printed : {d : ℕ} {n : List ℕ} (c : ℕ) → is_name_start (get_or n 0 0) && all is_name n ≡ true → Printed (suc d) (coded n c)
 unfolding differ
-code-printed c h = an-element h tt refl (a-text (number-plain c)) nothing
+code_printed c h = an_element h tt refl (a_text (number_plain c)) nothing
 
 -- an event of a form
-form-printed : {v : Event} {n : List ℕ} {ps : List Pair} {i : Inside} → Form v n ps i → (d : ℕ) (k : Inside) →
+form_printed : {v : Event} {n : List ℕ} {ps : List Pair} {i : Inside} → Form v n ps i → (d : ℕ) (k : Inside) →
     Printed (suc (suc d)) k → Printed (suc (suc d)) (elem 0 n ps i k)
 unfolding all any same differ
-form-printed (revalued {d} {c} {f} h l g) lv k p = an-element refl (refl, day-plain d, (refl, number-plain c, (refl, number-plain f, tt))) refl nothing p
-form-printed (served {d} {c} h l) lv k p = an-element refl (refl, day-plain d, tt) refl (code-printed c refl) p
-form-printed (counted {d} {c} {a} h l g m) lv k p = an-element refl (refl, day-plain d, (refl, number-plain a, tt)) refl (code-printed c refl) p
-form-printed (suspended {d} {c} h l) lv k p = an-element refl (refl, day-plain d, tt) refl (code-printed c refl) p
-form-printed (ended {d} {c} {n} h l g) lv k p = an-element refl (refl, day-plain d, (refl, day-plain n, tt)) refl (code-printed c refl) p
-form-printed (concluded {d} {c} h l) lv k p = an-element refl (refl, day-plain d, tt) refl (code-printed c refl) p
+form_printed (revalued {d} {c} {f} h l g) lv k p = an_element refl (refl, day_plain d, (refl, number_plain c, (refl, number_plain f, tt))) refl nothing p
+form_printed (served {d} {c} h l) lv k p = an_element refl (refl, day_plain d, tt) refl (code_printed c refl) p
+form_printed (counted {d} {c} {a} h l g m) lv k p = an_element refl (refl, day_plain d, (refl, number_plain a, tt)) refl (code_printed c refl) p
+form_printed (suspended {d} {c} h l) lv k p = an_element refl (refl, day_plain d, tt) refl (code_printed c refl) p
+form_printed (ended {d} {c} {n} h l g) lv k p = an_element refl (refl, day_plain d, (refl, day_plain n, tt)) refl (code_printed c refl) p
+form_printed (concluded {d} {c} h l) lv k p = an_element refl (refl, day_plain d, tt) refl (code_printed c refl) p
 
 -- the events of a record
-events-printed : (es : List ℕ) (j d : ℕ) → InOrder j es → Printed (suc (suc d)) (events_on es)
+events_printed : (es : List ℕ) (j d : ℕ) → InOrder j es → Printed (suc (suc d)) (events_on es)
 unfolding events_on
-events-printed [] j d h = nothing
-events-printed (e ∷ es) j d h =
+events_printed [] j d h = nothing
+events_printed (e ∷ es) j d h =
     let f = formed e h.0 in
-    subst (Printed (suc (suc d))) (sym (f.shown (events_on es))) (form-printed f.form d (events_on es) (events-printed es (kind_of e) d h.2))
+    subst (Printed (suc (suc d))) (sym (f.shown (events_on es))) (form_printed f.form d (events_on es) (events_printed es (kind_of e) d h.2))
 
 -- the records, of four levels
 module _ (x : CaseTexts) (t : Texts x) where
-  records-printed : (rs : List (List ℕ)) → Every Share rs → Printed 11 (records_on x rs)
+  records_printed : (rs : List (List ℕ)) → Every Share rs → Printed 11 (records_on x rs)
   unfolding records_on all any same differ
-  records-printed [] h = nothing
-  records-printed (es ∷ rs) h =
-      an-element refl tt refl
-      (an-element refl (refl, type-plain, tt) refl nothing
-      (an-element refl tt refl
-      (an-element refl tt refl (a-text (region-plain x t)) (an-element refl tt refl (a-text (asl-plain x t)) nothing))
-      (an-element refl tt refl
-      (an-element refl (refl, taken-plain x t, tt) refl (an-element refl tt refl (a-text (id-plain x t)) nothing) (events-printed es 0 7 h.0.order))
+  records_printed [] h = nothing
+  records_printed (es ∷ rs) h =
+      an_element refl tt refl
+      (an_element refl (refl, type_plain, tt) refl nothing
+      (an_element refl tt refl
+      (an_element refl tt refl (a_text (region_plain x t)) (an_element refl tt refl (a_text (asl_plain x t)) nothing))
+      (an_element refl tt refl
+      (an_element refl (refl, taken_plain x t, tt) refl (an_element refl tt refl (a_text (id_plain x t)) nothing) (events_printed es 0 7 h.0.order))
       nothing)))
-      (records-printed rs h.1)
+      (records_printed rs h.1)
 
 -- U16: "The file is in the markup"
-pub reads-back : (x : CaseTexts) (es : List ℕ) → Writable x es → document (file_text x es) ≡ read (tree_read x es) []
+pub reads_back : (x : CaseTexts) (es : List ℕ) → Writable x es → document (file_text x es) ≡ read (tree_read x es) []
 unfolding all differ
-reads-back x es w =
-    let r : Printed 11 (records_on x (shares es)) = records-printed x (texts-told x w.texts) (shares es) (shares-good x es w) in
-    let p = an-element {d = 11} {n = bytes "FlsAssDom_2"} {ps = []} {k = end} refl tt refl r nothing in
-    plain-document (file_tree x es) p.prints p.plain
+reads_back x es w =
+    let r : Printed 11 (records_on x (shares es)) = records_printed x (texts_told x w.texts) (shares es) (shares_good x es w) in
+    let p = an_element {d = 11} {n = bytes "FlsAssDom_2"} {ps = []} {k = end} refl tt refl r nothing in
+    plain_document (file_tree x es) p.prints p.plain

@@ -13,7 +13,7 @@ use Rattle.text.specs.Spelled.{spelled_in, spelled}
 use Rattle.days.specs.DayNumbers.{first_of, years_to, day_number}
 use Rattle.days.specs.Dates.{is_date, day_of}
 use Rattle.days.specs.WrittenDates.{month_in, date_spelled, date_text}
-use Rattle.days.proofs.WrittenDates.{search-ends}
+use Rattle.days.proofs.WrittenDates.{search_ends}
 use Rattle.model.specs.Map.{find, keep}
 use Rattle.rows.specs.Packing.{packs}
 use Rattle.register.specs.Layout.{row_in}
@@ -24,7 +24,7 @@ use Rattle.soundness.specs.Sound.{is_sound}
 use Rattle.soundness.specs.Finding.{found}
 use Rattle.intake.specs.FileAnswers.{call_of, submitted}
 use Rattle.intake.proofs.Samples.{visit, another, suspension, standing, held, size, holding}
-use Rattle.intake.proofs.SoundBytes.{encode-fit}
+use Rattle.intake.proofs.SoundBytes.{encode_fit}
 use Rattle.cancellation.specs.Chosen.{those}
 use Rattle.cancellation.specs.FileText.{CaseTexts, case_texts, events_on, records_on, file_text}
 use Rattle.cancellation.specs.CancelFile.{Written, unwritten, file_written, cancel_file}
@@ -58,20 +58,20 @@ file =
 may : (n : ℕ) → first_of 1420 ≤ n → n < first_of 1421 → date_text n ≡ date_spelled 2018 5 (n - first_of 1420 + 1)
 unfolding date_text
 may n a b =
-    let k : 1420 ≡ month_in n = (search-ends (record { order = omega arith; inside = omega arith; begun = a; later = λ _. b }) (omega arith)).0 in
+    let k : 1420 ≡ month_in n = (search_ends (record { order = omega arith; inside = omega arith; begun = a; later = λ _. b }) (omega arith)).0 in
     ap (λ (k : ℕ). date_spelled (1900 + k / 12) (k % 12 + 1) (n - first_of k + 1)) (sym k)
 
-date-5 : date_text (day_number 2018 5 5) ≡ bytes "2018-05-05"
+date_5 : date_text (day_number 2018 5 5) ≡ bytes "2018-05-05"
 unfolding first_of
-date-5 = may (day_number 2018 5 5) (omega arith) (omega arith)
+date_5 = may (day_number 2018 5 5) (omega arith) (omega arith)
 
-date-10 : date_text (day_number 2018 5 10) ≡ bytes "2018-05-10"
+date_10 : date_text (day_number 2018 5 10) ≡ bytes "2018-05-10"
 unfolding first_of
-date-10 = may (day_number 2018 5 10) (omega arith) (omega arith)
+date_10 = may (day_number 2018 5 10) (omega arith) (omega arith)
 
-date-12 : date_text (day_number 2018 5 12) ≡ bytes "2018-05-12"
+date_12 : date_text (day_number 2018 5 12) ≡ bytes "2018-05-12"
 unfolding first_of
-date-12 = may (day_number 2018 5 12) (omega arith) (omega arith)
+date_12 = may (day_number 2018 5 12) (omega arith) (omega arith)
 
 -- the text around the dates
 abbrev around : (five ten twelve : List ℕ) → List ℕ
@@ -83,18 +83,18 @@ around five ten twelve =
     ++ (bytes "<Sospensione dataInizio=\"" ++ (ten ++ (bytes "\" dataFine=\"" ++ (twelve ++ (bytes "\"><Motivazione>1</Motivazione></Sospensione>"
     ++ bytes "</Eventi></Assistenza></FlsAssDom_2>"))))))))))))))
 
-file-is : file_text x events ≡ file
+file_is : file_text x events ≡ file
 unfolding events_on records_on from spelled_in spelled packs first_of
-file-is =
+file_is =
     let a : file_text x events ≡ around (date_text (day_number 2018 5 5)) (date_text (day_number 2018 5 10)) (date_text (day_number 2018 5 12)) = refl in
-    a ∙ rw (date-5, date-10, date-12) refl
+    a ∙ rw (date_5, date_10, date_12) refl
 
 -- the call: answered 0, with the file and its length, and ten bytes stay
 pub gives : cancel_file reg x 2018 2 out ≡ record { answer = 0; long = 610; output = file ++ replicate 10 7 }
 unfolding all any same decimal_after first_of years_to is_date day_of some_pair find keep packs row_in from rows_bytes encode ascending is_sound found those cancel_file
 gives =
     let a : cancel_file reg x 2018 2 out ≡ cond (ltb (length out) (length (file_text x events))) (unwritten out 33) (file_written out (file_text x events)) = refl in
-    a ∙ ap (λ (f : List ℕ). cond (ltb (length out) (length f)) (unwritten out 33) (file_written out f)) file-is
+    a ∙ ap (λ (f : List ℕ). cond (ltb (length out) (length f)) (unwritten out 33) (file_written out f)) file_is
 
 -- the file taken, with an answer list of two bytes 9: its one record is accepted, and the register is as it was before the events
 pub taken_back : submitted (call_of file 2 2018 2 (9 ∷ 9 ∷ [])) reg ≡
@@ -103,4 +103,4 @@ unfolding all any same decimal_after first_of years_to is_date day_of some_pair 
 taken_back =
     let q : file_in reg x 2018 2 out ≡ file = ap (λ (w : Written). take w.long w.output) gives in
     ap (λ (f : List ℕ). submitted (call_of f 2 2018 2 (9 ∷ 9 ∷ [])) reg) (sym q)
-    ∙ undoes reg (encode-fit size standing) x 2018 2 out (ap (λ (w : Written). w.answer) gives) (9 ∷ 9 ∷ []) (omega arith)
+    ∙ undoes reg (encode_fit size standing) x 2018 2 out (ap (λ (w : Written). w.answer) gives) (9 ∷ 9 ∷ []) (omega arith)

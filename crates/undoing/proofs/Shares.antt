@@ -11,14 +11,14 @@ use Rattle.register.specs.State.{from}
 use Rattle.cancellation.specs.FileText.{record_count, share_at, shares}
 
 -- k shares from the i-th on are that part of the list
-joined-from : (es : List ℕ) (i k : ℕ) → flatten (from (share_at es) i k) ≡ take (most_events * k) (drop (most_events * i) es)
+joined_from : (es : List ℕ) (i k : ℕ) → flatten (from (share_at es) i k) ≡ take (most_events * k) (drop (most_events * i) es)
 unfolding flatten from
-joined-from es i zero = refl
-joined-from es i (suc k) =
+joined_from es i zero = refl
+joined_from es i (suc k) =
     let e : most_events * suc i ≡ most_events * i + most_events = omega arith in
     let f : most_events + most_events * k ≡ most_events * suc k = omega arith in
     ap (λ (l : List ℕ). share_at es i ++ l)
-    (joined-from es (suc i) k
+    (joined_from es (suc i) k
     ∙ ap (λ (j : ℕ). take (most_events * k) (drop j es)) e
     ∙ ap (take (most_events * k)) (sym (drop-drop most_events (most_events * i) es)))
     ∙ sym (take-add most_events (most_events * k) (drop (most_events * i) es))
@@ -26,14 +26,14 @@ joined-from es i (suc k) =
 
 -- the shares, joined
 pub joined : (es : List ℕ) → flatten (shares es) ≡ es
-joined es = joined-from es 0 (record_count (length es)) ∙ take_all (most_events * record_count (length es)) es (omega arith)
+joined es = joined_from es 0 (record_count (length es)) ∙ take_all (most_events * record_count (length es)) es (omega arith)
 
 -- k shares from the i-th on, the list reaching into each
-some-from : (es : List ℕ) (i k : ℕ) → most_events * (i + k) < length es + most_events → Every (λ l. 0 < length l) (from (share_at es) i k)
+some_from : (es : List ℕ) (i k : ℕ) → most_events * (i + k) < length es + most_events → Every (λ l. 0 < length l) (from (share_at es) i k)
 unfolding from
-some-from es i zero h = tt
-some-from es i (suc k) h = (simp (length-take, length-drop) (omega arith), some-from es (suc i) k (omega arith))
+some_from es i zero h = tt
+some_from es i (suc k) h = (simp (length-take, length-drop) (omega arith), some_from es (suc i) k (omega arith))
 
 -- no share is empty
-pub some-each : (es : List ℕ) → Every (λ l. 0 < length l) (shares es)
-some-each es = some-from es 0 (record_count (length es)) (omega arith)
+pub some_each : (es : List ℕ) → Every (λ l. 0 < length l) (shares es)
+some_each es = some_from es 0 (record_count (length es)) (omega arith)

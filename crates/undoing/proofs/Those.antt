@@ -7,35 +7,35 @@ use native.Mathlib.Omega.{arith}
 use lib.ListN.{length}
 use Rattle.laws.specs.Lists.{all, any, some_pair}
 use Rattle.laws.proofs.Truth.{or_left, or_right}
-use Rattle.laws.proofs.Every.{Every, any_told, any-tell, all_told, all_tell, or-tell}
+use Rattle.laws.proofs.Every.{Every, any_told, any_tell, all_told, all_tell, or_tell}
 use Rattle.cancellation.specs.Chosen.{those}
 
 module _ {A : Type 0} (p : A → Bool) where
   -- they are no more than the list has
-  pub those-few : (l : List A) → length (those p l) ≤ length l
+  pub those_few : (l : List A) → length (those p l) ≤ length l
   unfolding those
-  those-few [] = omega arith
-  those-few (x ∷ l) = go (p x) (those-few l)
+  those_few [] = omega arith
+  those_few (x ∷ l) = go (p x) (those_few l)
     where
       go : (b : Bool) → length (those p l) ≤ length l → length (cond b (x ∷ those p l) (those p l)) ≤ length (x ∷ l)
       go true h = omega arith
       go false h = omega arith
 
   -- each passes the test
-  pub those-pass : (l : List A) → all p (those p l) ≡ true
+  pub those_pass : (l : List A) → all p (those p l) ≡ true
   unfolding those all
-  those-pass [] = refl
-  those-pass (x ∷ l) = go (p x) refl (those-pass l)
+  those_pass [] = refl
+  those_pass (x ∷ l) = go (p x) refl (those_pass l)
     where
       go : (b : Bool) → p x ≡ b → all p (those p l) ≡ true → all p (cond b (x ∷ those p l) (those p l)) ≡ true
       go true e h = rw e h
       go false e h = h
 
   -- what every element has, each of them has
-  pub every-those : (P : A → Type 0) (l : List A) → Every P l → Every P (those p l)
+  pub every_those : (P : A → Type 0) (l : List A) → Every P l → Every P (those p l)
   unfolding those
-  every-those P [] h = tt
-  every-those P (x ∷ l) h = go (p x) (every-those P l h.1)
+  every_those P [] h = tt
+  every_those P (x ∷ l) h = go (p x) (every_those P l h.1)
     where
       go : (b : Bool) → Every P (those p l) → Every P (cond b (x ∷ those p l) (those p l))
       go true g = (h.0, g)
@@ -43,18 +43,18 @@ module _ {A : Type 0} (p : A → Bool) where
 
   -- a test that all pass, one that none passes, one that no two pass
   pub all-those : (q : A → Bool) (l : List A) → all q l ≡ true → all q (those p l) ≡ true
-  all-those q l h = all_tell q (those p l) (every-those (λ x. q x ≡ true) l (all_told q l h))
+  all-those q l h = all_tell q (those p l) (every_those (λ x. q x ≡ true) l (all_told q l h))
 
   pub any-those : (q : A → Bool) (l : List A) → any q l ≡ false → any q (those p l) ≡ false
-  any-those q l h = any-tell q (those p l) (every-those (λ x. q x ≡ false) l (any_told q l h))
+  any-those q l h = any_tell q (those p l) (every_those (λ x. q x ≡ false) l (any_told q l h))
 
-  pub pair-those : (q : A → A → Bool) (l : List A) → some_pair q l ≡ false → some_pair q (those p l) ≡ false
+  pub pair_those : (q : A → A → Bool) (l : List A) → some_pair q l ≡ false → some_pair q (those p l) ≡ false
   unfolding those some_pair
-  pair-those q [] h = refl
-  pair-those q (x ∷ l) h = go (p x) (pair-those q l (or_right (any (q x) l) (some_pair q l) h))
+  pair_those q [] h = refl
+  pair_those q (x ∷ l) h = go (p x) (pair_those q l (or_right (any (q x) l) (some_pair q l) h))
     where
       go : (b : Bool) → some_pair q (those p l) ≡ false → some_pair q (cond b (x ∷ those p l) (those p l)) ≡ false
-      go true g = or-tell (any (q x) (those p l)) (some_pair q (those p l)) (any-those (q x) l (or_left (any (q x) l) (some_pair q l) h)) g
+      go true g = or_tell (any (q x) (those p l)) (some_pair q (those p l)) (any-those (q x) l (or_left (any (q x) l) (some_pair q l) h)) g
       go false g = g
 
 -- of what a function makes of each element

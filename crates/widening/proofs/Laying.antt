@@ -22,35 +22,35 @@ wide_bytes old i = bytes_at old_bytes old i ++ behind
 -- ---- such rows one after the other
 
 module _ (old : List ℕ) where
-  pub widened-append : (i m n : ℕ) → widened old i (m + n) ≡ widened old i m ++ widened old (i + m) n
+  pub widened_append : (i m n : ℕ) → widened old i (m + n) ≡ widened old i m ++ widened old (i + m) n
   unfolding widened
-  widened-append i zero n =
+  widened_append i zero n =
       let e : 0 + n ≡ n = omega arith in
       let d : i + 0 ≡ i = omega arith in
       rw (e, d)
-  widened-append i (suc m) n =
+  widened_append i (suc m) n =
       let e : suc m + n ≡ suc (m + n) = omega arith in
       let d : i + suc m ≡ suc i + m = omega arith in
       rw (e, d)
-      (ap (λ (l : List ℕ). bytes_at old_bytes old i ++ (behind ++ l)) (widened-append (suc i) m n)
+      (ap (λ (l : List ℕ). bytes_at old_bytes old i ++ (behind ++ l)) (widened_append (suc i) m n)
       ∙ ap (λ (l : List ℕ). bytes_at old_bytes old i ++ l) (sym (append_assoc behind (widened old (suc i) m) (widened old (suc i + m) n)))
       ∙ sym (append_assoc (bytes_at old_bytes old i) (behind ++ widened old (suc i) m) (widened old (suc i + m) n)))
 
   -- one row more
-  pub widened-next : (i : ℕ) → widened old 0 (i + 1) ≡ widened old 0 i ++ wide_bytes old i
+  pub widened_next : (i : ℕ) → widened old 0 (i + 1) ≡ widened old 0 i ++ wide_bytes old i
   unfolding widened
-  widened-next i =
+  widened_next i =
       let e : 0 + i ≡ i = omega arith in
-      widened-append 0 i 1 ∙ rw (e, append-nil)
+      widened_append 0 i 1 ∙ rw (e, append-nil)
 
-  pub bytes-long : (i : ℕ) → 4 + old_bytes * suc i ≤ length old → length (bytes_at old_bytes old i) ≡ old_bytes
-  bytes-long i h = length-take-le old_bytes (drop (4 + old_bytes * i) old) (rw length-drop (omega arith))
+  pub bytes_long : (i : ℕ) → 4 + old_bytes * suc i ≤ length old → length (bytes_at old_bytes old i) ≡ old_bytes
+  bytes_long i h = length-take-le old_bytes (drop (4 + old_bytes * i) old) (rw length-drop (omega arith))
 
   pub widened-length : (i k : ℕ) → 4 + old_bytes * (i + k) ≤ length old → length (widened old i k) ≡ row_bytes * k
   unfolding widened
   widened-length i zero h = refl
   widened-length i (suc k) h =
-      let a : length (bytes_at old_bytes old i) ≡ old_bytes = bytes-long i (omega arith) in
+      let a : length (bytes_at old_bytes old i) ≡ old_bytes = bytes_long i (omega arith) in
       let b : length (widened old (suc i) k) ≡ row_bytes * k = widened-length (suc i) k (omega arith) in
       length-append (bytes_at old_bytes old i) (behind ++ widened old (suc i) k) ∙ omega (arith, length-append behind (widened old (suc i) k))
 
@@ -85,8 +85,8 @@ pub record RowsLaid (old new₀ new : List ℕ) (i rows : ℕ) : Type 0 where
   pub front : take (row_at siad i) new ≡ take 4 old ++ widened old 0 i
 
 module _ (old : List ℕ) (rows : ℕ) (fits : 4 + old_bytes * rows ≤ length old) where
-  counts-long : length (take 4 old) ≡ 4
-  counts-long = length-take-le 4 old (omega arith)
+  counts_long : length (take 4 old) ≡ 4
+  counts_long = length-take-le 4 old (omega arith)
 
   pub laid_none : (new p : List ℕ) → p ≡ take 4 old ++ drop (length (take 4 old)) new → RowsLaid old p p 0 rows
   unfolding widened
@@ -94,7 +94,7 @@ module _ (old : List ℕ) (rows : ℕ) (fits : 4 + old_bytes * rows ≤ length o
       record {
         long = refl;
         some = omega arith;
-        front = ap (take 4) e ∙ take_at (take 4 old) (drop (length (take 4 old)) new) 4 counts-long ∙ sym (append-nil (take 4 old));
+        front = ap (take 4) e ∙ take_at (take 4 old) (drop (length (take 4 old)) new) 4 counts_long ∙ sym (append-nil (take 4 old));
       }
 
   module _ (new₀ new part : List ℕ) (i : ℕ) (h : RowsLaid old new₀ new i rows) where
@@ -106,7 +106,7 @@ module _ (old : List ℕ) (rows : ℕ) (fits : 4 + old_bytes * rows ≤ length o
         let x : List ℕ = take (row_at siad i) new in
         let y : List ℕ = drop k (drop (row_at siad i) new) in
         let lx : length x ≡ row_at siad i = length-take-le (row_at siad i) new (omega arith) in
-        let lb : length (bytes_at old_bytes old i) ≡ old_bytes = bytes-long old i (omega arith) in
+        let lb : length (bytes_at old_bytes old i) ≡ old_bytes = bytes_long old i (omega arith) in
         let lp : length part ≡ row_bytes = ap length e ∙ length-append (bytes_at old_bytes old i) behind ∙ omega arith in
         let ly : length y ≡ length new - row_at siad i - k = length-drop k (drop (row_at siad i) new) ∙ ap (λ (n : ℕ). n - k) (length-drop (row_at siad i) new) in
         let s : length (x ++ (part ++ y)) ≡ length new = length-append x (part ++ y) ∙ omega (arith, length-append part y) in
@@ -116,14 +116,14 @@ module _ (old : List ℕ) (rows : ℕ) (fits : 4 + old_bytes * rows ≤ length o
           some = omega arith;
           front = ap (take (row_at siad (i + 1))) (sym (append_assoc x part y)) ∙ take_at (x ++ part) y (row_at siad (i + 1)) b
               ∙ ap₂ (λ (u v : List ℕ). u ++ v) h.front e ∙ append_assoc (take 4 old) (widened old 0 i) (wide_bytes old i)
-              ∙ ap (λ (u : List ℕ). take 4 old ++ u) (sym (widened-next old i));
+              ∙ ap (λ (u : List ℕ). take 4 old ++ u) (sym (widened_next old i));
         }
 
     -- all rows, and zeros behind them in the n bytes that there are
-    pub laid-all : (n : ℕ) → length new₀ ≡ n → row_at siad rows ≤ n → rows ≡ rows_held old → rows ≤ i →
+    pub laid_all : (n : ℕ) → length new₀ ≡ n → row_at siad rows ≤ n → rows ≡ rows_held old → rows ≤ i →
         part ≡ replicate (length (take (length new - row_at siad rows) (drop (row_at siad rows) new))) 0 →
         put_mid (row_at siad rows) (length new - row_at siad rows) new part ≡ in_bytes n old
-    laid-all n e r m g z =
+    laid_all n e r m g z =
         let all : i ≡ rows = omega arith in
         let long : length new ≡ n = h.long ∙ e in
         cleared new part (row_at siad rows) (omega arith) z

@@ -9,7 +9,7 @@ use Rattle.codes.specs.CodesAndCharacters.{revaluation}
 use Rattle.days.specs.DayNumbers.{day_number, first_of, years_to}
 use Rattle.model.specs.Map.{find, keep}
 use Rattle.rows.specs.Packing.{digits, packs}
-use Rattle.rows.proofs.Bytes.{digits-fit}
+use Rattle.rows.proofs.Bytes.{digits_fit}
 use Rattle.register.specs.Layout.{row_in, row_at}
 use Rattle.register.specs.State.{from}
 use Rattle.register.specs.Sound.{ascending}
@@ -18,8 +18,8 @@ use Rattle.home_care.specs.Fits.{key_with, case_with, event_with}
 use Rattle.home_care.specs.Record.{padded}
 use Rattle.widening.specs.Converted.{widened, converted}
 use Rattle.widening.specs.Widened.{Widened}
-use Rattle.widening.proofs.Kept.{converted-widened}
-use Rattle.widening.proofs.WideRows.{fit-both}
+use Rattle.widening.proofs.Kept.{converted_widened}
+use Rattle.widening.proofs.WideRows.{fit_both}
 
 abbrev key : Key
 key = key_with 10 (bytes "101") (day_number 2018 5 1) (replicate 88 (code "A"))
@@ -44,24 +44,24 @@ abbrev fresh : ℕ → List ℕ
 fresh n = replicate n 255
 
 -- two rows need 196 bytes
-pub one-converted : (converted old (fresh 196)).answer ≡ 0
+pub one_converted : (converted old (fresh 196)).answer ≡ 0
 unfolding converted all any same some_pair row_in from packs first_of years_to ascending find keep
-one-converted = refl
+one_converted = refl
 
-pub one-refused : (converted old (fresh 195)).answer ≡ 33
+pub one_refused : (converted old (fresh 195)).answer ≡ 33
 unfolding converted all any same some_pair row_in from packs first_of years_to ascending find keep
-one-refused = refl
+one_refused = refl
 
 -- so what is said of converted registers is said of one at least
-pub one-widened : Widened old (converted old (fresh 196)).register
-one-widened =
-    converted-widened old (fresh 196)
-    (fit-both (digits 2 1) (digits 2 1 ++ (case_bytes ++ event_bytes)) (digits-fit 2 1)
-    (fit-both (digits 2 1) (case_bytes ++ event_bytes) (digits-fit 2 1) (fit-both case_bytes event_bytes (digits-fit old_bytes _) (digits-fit old_bytes _))))
-    one-converted
+pub one_widened : Widened old (converted old (fresh 196)).register
+one_widened =
+    converted_widened old (fresh 196)
+    (fit_both (digits 2 1) (digits 2 1 ++ (case_bytes ++ event_bytes)) (digits_fit 2 1)
+    (fit_both (digits 2 1) (case_bytes ++ event_bytes) (digits_fit 2 1) (fit_both case_bytes event_bytes (digits_fit old_bytes _) (digits_fit old_bytes _))))
+    one_converted
 
 -- the event's row from its kind on
-pub event-converted : take 14 (drop (row_at siad 1 + 82) (converted old (fresh 196)).register)
+pub event_converted : take 14 (drop (row_at siad 1 + 82) (converted old (fresh 196)).register)
     ≡ 4 ∷ 84 ∷ 110 ∷ 1 ∷ 255 ∷ 255 ∷ 128 ∷ 128 ∷ 0 ∷ 0 ∷ 0 ∷ 0 ∷ 0 ∷ 0 ∷ []
 unfolding converted widened all any same some_pair row_in from packs first_of years_to ascending find keep
-event-converted = refl
+event_converted = refl

@@ -15,6 +15,6 @@ pub record Widened (old new : List ℕ) : Type 0 where
   pub sound : is_sound new ≡ true
   pub cases : (state_of siad new).cases ≡ map wide_row (state_of (home_care old_bytes) old).cases
   pub events : (state_of siad new).events ≡ map wide_row (state_of (home_care old_bytes) old).events
-  pub case-fields : (r : Row ℕ) → case_in (wide_row r).val ≡ case_in_wide old_bytes r.val
-  pub event-fields : (r : Row ℕ) → event_number_in (wide_row r) ≡ event_number_in_wide old_bytes r
+  pub case_fields_lem : (r : Row ℕ) → case_in (wide_row r).val ≡ case_in_wide old_bytes r.val
+  pub event_fields : (r : Row ℕ) → event_number_in (wide_row r) ≡ event_number_in_wide old_bytes r
   pub none_kept : all (λ r. eqb (evaluation_in r) 0) (state_of siad new).events ≡ true

@@ -3,7 +3,7 @@ use Rattle.register.specs.Search.{probe_key}
 use Rattle.home_care.specs.Row.{row_bytes, key_bits}
 use Rattle.home_care.specs.Fits.{case_with}
 use Rattle.home_care.specs.Record.{type_of}
-use Rattle.apply.proofs.Records.{case-gone, case-out, case-in, case-applied}
+use Rattle.apply.proofs.Records.{case_gone, case_out, case_in, case_applied}
 use Rattle.apply.proofs.apply_case.Goals as goal
 
 pub returns-then-cancels : goal.returns-then-cancels
@@ -12,7 +12,7 @@ returns-then-cancels c =
     let k = probe_key row_bytes key_bits a.probe.now in
     let d = case_with a.birth a.prevalente.now a.scales.now in
     let b = c.remove_case.new.reg in (
-      case-applied k d a.reg.now b a.tipo (case-out k d a.reg.now b (type_of a.tipo) (sym c.cancels.ensures ∙ c.if-cancels.true) (case-gone a.probe.now a.reg.now b c.remove_case.ensures)),
+      case_applied k d a.reg.now b a.tipo (case_out k d a.reg.now b (type_of a.tipo) (sym c.cancels.ensures ∙ c.if-cancels.true) (case_gone a.probe.now a.reg.now b c.remove_case.ensures)),
       c.remove_case.auto.reg,
     )
 
@@ -22,6 +22,6 @@ returns-else-cancels c =
     let k = probe_key row_bytes key_bits a.probe.now in
     let d = case_with a.birth a.prevalente.now a.scales.now in
     let b = c.put_case.new.reg in (
-      case-applied k d a.reg.now b a.tipo (case-in k d a.reg.now b (type_of a.tipo) (sym c.cancels.ensures ∙ c.if-cancels.false) c.put_case.ensures),
+      case_applied k d a.reg.now b a.tipo (case_in k d a.reg.now b (type_of a.tipo) (sym c.cancels.ensures ∙ c.if-cancels.false) c.put_case.ensures),
       c.put_case.auto.reg,
     )

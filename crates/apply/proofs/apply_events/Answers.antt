@@ -2,7 +2,7 @@ use mathlib.Core.Path.{sym, ◌∙◌}
 use Rattle.register.specs.Search.{probe_key}
 use Rattle.home_care.specs.Row.{row_bytes, key_bits}
 use Rattle.home_care.specs.Record.{type_of}
-use Rattle.apply.proofs.Records.{done-in, done-out, done-over, events-applied}
+use Rattle.apply.proofs.Records.{done_in, done_out, done_over, events_applied}
 use Rattle.apply.proofs.apply_events.Goals as goal
 
 pub returns-then-inserts : goal.returns-then-inserts
@@ -10,18 +10,18 @@ returns-then-inserts c =
     let a = c.args in
     let b = c.insert_events.new.reg in
     let k = probe_key row_bytes key_bits a.probe.now in
-    (events-applied a.reg.now b a.tipo k a.evs.now a.kept.now c.requires.2 (done-in k a.evs.now a.kept.now a.reg.now b (type_of a.tipo) (sym c.inserts.ensures ∙ c.if-inserts.true) c.insert_events.ensures), c.insert_events.auto.reg)
+    (events_applied a.reg.now b a.tipo k a.evs.now a.kept.now c.requires.2 (done_in k a.evs.now a.kept.now a.reg.now b (type_of a.tipo) (sym c.inserts.ensures ∙ c.if-inserts.true) c.insert_events.ensures), c.insert_events.auto.reg)
 
 pub returns-then-cancels : goal.returns-then-cancels
 returns-then-cancels c =
     let a = c.args in
     let b = c.cancel_events.new.reg in
     let k = probe_key row_bytes key_bits a.probe.now in
-    (events-applied a.reg.now b a.tipo k a.evs.now a.kept.now c.requires.2 (done-out k a.evs.now a.kept.now a.reg.now b (type_of a.tipo) (sym c.cancels.ensures ∙ c.if-cancels.true) c.cancel_events.ensures), c.cancel_events.auto.reg)
+    (events_applied a.reg.now b a.tipo k a.evs.now a.kept.now c.requires.2 (done_out k a.evs.now a.kept.now a.reg.now b (type_of a.tipo) (sym c.cancels.ensures ∙ c.if-cancels.true) c.cancel_events.ensures), c.cancel_events.auto.reg)
 
 pub returns : goal.returns
 returns c =
     let a = c.args in
     let b = c.vary_events.new.reg in
     let k = probe_key row_bytes key_bits a.probe.now in
-    (events-applied a.reg.now b a.tipo k a.evs.now a.kept.now c.requires.2 (done-over k a.evs.now a.kept.now a.reg.now b (type_of a.tipo) (sym c.inserts.ensures ∙ c.if-inserts.false) (sym c.cancels.ensures ∙ c.if-cancels.false) c.vary_events.ensures), c.vary_events.auto.reg)
+    (events_applied a.reg.now b a.tipo k a.evs.now a.kept.now c.requires.2 (done_over k a.evs.now a.kept.now a.reg.now b (type_of a.tipo) (sym c.inserts.ensures ∙ c.if-inserts.false) (sym c.cancels.ensures ∙ c.if-cancels.false) c.vary_events.ensures), c.vary_events.auto.reg)

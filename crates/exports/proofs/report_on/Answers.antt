@@ -3,7 +3,7 @@ use mathlib.Core.Logic.{inl, inr}
 use native.Mathlib.Omega.{arith}
 use lib.ListN.{length-set}
 use borrow.Author.Rules.{rules}
-use Rattle.exports.proofs.Reporting.{laid_next, laid-whole}
+use Rattle.exports.proofs.Reporting.{laid_next, laid_whole}
 use Rattle.exports.proofs.report_on.Goals as goal
 
 pub loop-i-init : goal.loop-i-init
@@ -13,7 +13,7 @@ pub returns-then-numbers-i : goal.returns-then-numbers-i
 returns-then-numbers-i c =
     let l = c.loop-i in
     let a = c.args in
-    l.invariant.0 ∙ laid-whole l.i a.report.now a.numbers.now l.invariant.1 l.invariant.2 (inr c.if-numbers-i.true)
+    l.invariant.0 ∙ laid_whole l.i a.report.now a.numbers.now l.invariant.1 l.invariant.2 (inr c.if-numbers-i.true)
 
 pub loop-i-smaller : goal.loop-i-smaller
 loop-i-smaller c = let l = c.loop-i.invariant.3 in search rules
@@ -34,4 +34,4 @@ pub returns : goal.returns
 returns c =
     let l = c.loop-i in
     let a = c.args in
-    l.invariant.0 ∙ laid-whole l.i a.report.now a.numbers.now l.invariant.1 l.invariant.2 (inl (omega (arith, c.loop-i-test.false, l.invariant.3)))
+    l.invariant.0 ∙ laid_whole l.i a.report.now a.numbers.now l.invariant.1 l.invariant.2 (inl (omega (arith, c.loop-i-test.false, l.invariant.3)))

@@ -1,6 +1,6 @@
 use Rattle.text.proofs.PutLaws.{put_on}
 use Rattle.lines.specs.Lines.{file_line}
-use Rattle.lines.proofs.LineLaws.{file-line-short}
+use Rattle.lines.proofs.LineLaws.{file_line_short}
 use Rattle.lines.proofs.file_line.Goals as goal
 
 pub returns : goal.returns
@@ -18,5 +18,5 @@ returns c =
           c.put_named-d.ensures)
           c.put_named-e.ensures)
           c.put_text.ensures;
-      short = file-line-short f.answer.fits f.number.fits f.records.fits f.accepted.fits f.discarded.fits;
+      short = file_line_short f.answer.fits f.number.fits f.records.fits f.accepted.fits f.discarded.fits;
     }

@@ -2,8 +2,8 @@ use Prim.Native.Nat.{◌-◌}
 use mathlib.Core.Path.{◌≡◌}
 use lib.ListN.{length, take, drop, length-drop}
 use lib.Seq.{take_all}
-use Rattle.line.specs.Line.{prints-line, prints-long, takes}
-use Rattle.lines.proofs.LineLaws.{printed-by}
+use Rattle.line.specs.Line.{prints_line, prints_long, takes}
+use Rattle.lines.proofs.LineLaws.{printed_by}
 use native.Mathlib.Omega.{arith}
 use Rattle.lines.proofs.put_answer.Goals as goal
 
@@ -16,12 +16,12 @@ slice_bounds-submit-start c = let x = rw c.in-Takes.is at c.asked_by.ensures in 
 pub returns-in-Line : goal.returns-in-Line
 returns-in-Line c =
     let x = rw c.in-Line.is at c.asked_by.ensures in
-    printed-by c.args.input.now prints-line x.0 (record { put = c.put_text.ensures; short = omega arith })
+    printed_by c.args.input.now prints_line x.0 (record { put = c.put_text.ensures; short = omega arith })
 
 pub returns-in-Long : goal.returns-in-Long
 returns-in-Long c =
     let x = rw c.in-Long.is at c.asked_by.ensures in
-    printed-by c.args.input.now prints-long x.0 (record { put = c.put_text-in-Long.ensures; short = omega arith })
+    printed_by c.args.input.now prints_long x.0 (record { put = c.put_text-in-Long.ensures; short = omega arith })
 
 pub returns-in-Takes : goal.returns-in-Takes
 returns-in-Takes c =
@@ -29,4 +29,4 @@ returns-in-Takes c =
     let s = c.args.input.now in
     let all : take (length s - c.in-Takes.body) (drop c.in-Takes.body s) ≡ drop c.in-Takes.body s
     = take_all (length s - c.in-Takes.body) (drop c.in-Takes.body s) (simp length-drop (omega arith)) in
-    printed-by s (takes c.in-Takes.track c.in-Takes.year c.in-Takes.quarter (drop c.in-Takes.body s)) x.0 (rw all at c.submit.ensures)
+    printed_by s (takes c.in-Takes.track c.in-Takes.year c.in-Takes.quarter (drop c.in-Takes.body s)) x.0 (rw all at c.submit.ensures)

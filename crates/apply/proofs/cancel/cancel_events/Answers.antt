@@ -3,10 +3,10 @@ use lib.ListN.{length}
 use borrow.Author.Rules.{rules}
 use native.Mathlib.Omega.{arith}
 use Rattle.register.specs.Search.{probe_key}
-use Rattle.register.proofs.Stores.{room-few, room-end}
+use Rattle.register.proofs.Stores.{room_few, room_end}
 use Rattle.home_care.specs.Row.{row_bytes, key_bits}
 use Rattle.apply.proofs.Filling.{standing}
-use Rattle.apply.proofs.Emptying.{no_header, misfit, emptying-start, none_left, not_there, one_fewer, all-emptied}
+use Rattle.apply.proofs.Emptying.{no_header, misfit, emptying_start, none_left, not_there, one_fewer, all_emptied}
 use Rattle.register.specs.RoomAndEmptying.{most_rows}
 use Rattle.apply.proofs.cancel.cancel_events.Goals as goal
 
@@ -21,11 +21,11 @@ returns-then-not-room_for c =
 
 pub case_range-span-requires : goal.case_range-span-requires
 case_range-span-requires c =
-    (search rules, room-end row_bytes (c.count-c.result + c.count.result) (length c.args.reg.now) c.room_for.result c.room_for.ensures (c.if-not-room_for.false) (c.count-c.result + c.count.result) (omega arith), search rules, search rules)
+    (search rules, room_end row_bytes (c.count-c.result + c.count.result) (length c.args.reg.now) c.room_for.result c.room_for.ensures (c.if-not-room_for.false) (c.count-c.result + c.count.result) (omega arith), search rules, search rules)
 
 pub loop-j-init : goal.loop-j-init
 loop-j-init c =
-    emptying-start (probe_key row_bytes key_bits c.args.probe.now) c.args.evs.now c.args.reg.now c.count-c.result c.count.result c.count-c.ensures.0 c.count.ensures.0 c.case_range-span.result.lo c.case_range-span.result.hi c.requires.1 c.case_range-span.ensures (room-end row_bytes (c.count-c.result + c.count.result) (length c.args.reg.now) c.room_for.result c.room_for.ensures (c.if-not-room_for.false) (c.count-c.result + c.count.result) (omega arith))
+    emptying_start (probe_key row_bytes key_bits c.args.probe.now) c.args.evs.now c.args.reg.now c.count-c.result c.count.result c.count-c.ensures.0 c.count.ensures.0 c.case_range-span.result.lo c.case_range-span.result.hi c.requires.1 c.case_range-span.ensures (room_end row_bytes (c.count-c.result + c.count.result) (length c.args.reg.now) c.room_for.result c.room_for.ensures (c.if-not-room_for.false) (c.count-c.result + c.count.result) (omega arith))
 
 pub returns-then-k-p : goal.returns-then-k-p
 returns-then-k-p c =
@@ -34,7 +34,7 @@ returns-then-k-p c =
 pub place_event-r-requires : goal.place_event-r-requires
 place_event-r-requires c =
     let v = c.loop-j.invariant in
-    let e : 4 + row_bytes * (c.count-c.result + c.count.result) ≤ length c.args.reg.now = room-end row_bytes (c.count-c.result + c.count.result) (length c.args.reg.now) c.room_for.result c.room_for.ensures (c.if-not-room_for.false) (c.count-c.result + c.count.result) (omega arith) in
+    let e : 4 + row_bytes * (c.count-c.result + c.count.result) ≤ length c.args.reg.now = room_end row_bytes (c.count-c.result + c.count.result) (length c.args.reg.now) c.room_for.result c.room_for.ensures (c.if-not-room_for.false) (c.count-c.result + c.count.result) (omega arith) in
     (v.low, omega (arith, v.high, v.len))
 
 pub returns-then-i-r : goal.returns-then-i-r
@@ -44,8 +44,8 @@ returns-then-i-r c =
 pub widen-requires : goal.widen-requires
 widen-requires c =
     let v = c.loop-j.invariant in
-    let f : c.count-c.result + c.count.result ≤ most_rows = room-few row_bytes (c.count-c.result + c.count.result) (length c.args.reg.now) c.room_for.result c.room_for.ensures (c.if-not-room_for.false) in
-    let e : 4 + row_bytes * (c.count-c.result + c.count.result) ≤ length c.args.reg.now = room-end row_bytes (c.count-c.result + c.count.result) (length c.args.reg.now) c.room_for.result c.room_for.ensures (c.if-not-room_for.false) (c.count-c.result + c.count.result) (omega arith) in
+    let f : c.count-c.result + c.count.result ≤ most_rows = room_few row_bytes (c.count-c.result + c.count.result) (length c.args.reg.now) c.room_for.result c.room_for.ensures (c.if-not-room_for.false) in
+    let e : 4 + row_bytes * (c.count-c.result + c.count.result) ≤ length c.args.reg.now = room_end row_bytes (c.count-c.result + c.count.result) (length c.args.reg.now) c.room_for.result c.room_for.ensures (c.if-not-room_for.false) (c.count-c.result + c.count.result) (omega arith) in
     (c.if-i-r.false, omega (arith, v.high), omega (arith, v.high, v.len))
 
 pub loop-j-preserved : goal.loop-j-preserved
@@ -55,10 +55,10 @@ loop-j-preserved c =
 pub remove_rows-requires : goal.remove_rows-requires
 remove_rows-requires c =
     let v = c.loop-j.invariant in
-    let f : c.count-c.result + c.count.result ≤ most_rows = room-few row_bytes (c.count-c.result + c.count.result) (length c.args.reg.now) c.room_for.result c.room_for.ensures (c.if-not-room_for.false) in
-    let e : 4 + row_bytes * (c.count-c.result + c.count.result) ≤ length c.args.reg.now = room-end row_bytes (c.count-c.result + c.count.result) (length c.args.reg.now) c.room_for.result c.room_for.ensures (c.if-not-room_for.false) (c.count-c.result + c.count.result) (omega arith) in
+    let f : c.count-c.result + c.count.result ≤ most_rows = room_few row_bytes (c.count-c.result + c.count.result) (length c.args.reg.now) c.room_for.result c.room_for.ensures (c.if-not-room_for.false) in
+    let e : 4 + row_bytes * (c.count-c.result + c.count.result) ≤ length c.args.reg.now = room_end row_bytes (c.count-c.result + c.count.result) (length c.args.reg.now) c.room_for.result c.room_for.ensures (c.if-not-room_for.false) (c.count-c.result + c.count.result) (omega arith) in
     (v.high, omega (arith, v.len))
 
 pub returns : goal.returns
 returns c =
-    all-emptied c.args.reg.now (probe_key row_bytes key_bits c.args.probe.now) c.args.evs.now c.count-c.result (c.count-c.result + c.count.result) c.case_range-span.result.lo c.loop-j.reg c.loop-j.i c.loop-j.j c.loop-j.bound c.loop-j.invariant (λ s st. (standing c.args.reg.now c.count-c.result c.count.result c.count-c.ensures.0 c.count.ensures.0 s st).1) c.requires.1 (omega arith) c.remove_rows.new.reg c.remove_rows.ensures
+    all_emptied c.args.reg.now (probe_key row_bytes key_bits c.args.probe.now) c.args.evs.now c.count-c.result (c.count-c.result + c.count.result) c.case_range-span.result.lo c.loop-j.reg c.loop-j.i c.loop-j.j c.loop-j.bound c.loop-j.invariant (λ s st. (standing c.args.reg.now c.count-c.result c.count.result c.count-c.ensures.0 c.count.ensures.0 s st).1) c.requires.1 (omega arith) c.remove_rows.new.reg c.remove_rows.ensures

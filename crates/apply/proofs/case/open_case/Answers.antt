@@ -2,11 +2,11 @@ use mathlib.Core.Path.{sym}
 use lib.Seq.{length-take-le}
 use native.Mathlib.Omega.{arith}
 use Rattle.register.specs.Search.{probe_key}
-use Rattle.register.proofs.Seams.{shifts-opened}
+use Rattle.register.proofs.Seams.{shifts_opened}
 use Rattle.home_care.specs.Row.{row_bytes, key_bits}
 use Rattle.home_care.specs.Fits.{case_with}
 use Rattle.apply.specs.RowBytes.{case_bytes}
-use Rattle.apply.proofs.CaseBytes.{case-length}
+use Rattle.apply.proofs.CaseBytes.{case_length}
 use Rattle.apply.proofs.case.open_case.Goals as goal
 
 pub slice_bounds-pack_case-end-2 : goal.slice_bounds-pack_case-end-2
@@ -19,7 +19,7 @@ pack_case-requires c =
 pub returns : goal.returns
 returns c =
     let a = c.args in
-    shifts-opened row_bytes a.part.now c.shift_right.new.part c.pack_case.new.out
+    shifts_opened row_bytes a.part.now c.shift_right.new.part c.pack_case.new.out
     (case_bytes (probe_key row_bytes key_bits a.probe.now) (case_with a.birth a.prevalente.now a.scales.now))
-    c.requires.0 (case-length (probe_key row_bytes key_bits a.probe.now) (case_with a.birth a.prevalente.now a.scales.now))
+    c.requires.0 (case_length (probe_key row_bytes key_bits a.probe.now) (case_with a.birth a.prevalente.now a.scales.now))
     c.shift_right.ensures c.pack_case.ensures

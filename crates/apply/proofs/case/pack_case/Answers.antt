@@ -5,11 +5,11 @@ use Rattle.rows.proofs.Bytes.{fit_of}
 use Rattle.rows.specs.Writer.{count}
 use Rattle.home_care.specs.Row.{row_bytes, case_bits, case_zeros_wide, case_number}
 use Rattle.home_care.specs.Fits.{case_with}
-use Rattle.apply.proofs.Packing.{row-packed}
+use Rattle.apply.proofs.Packing.{row_packed}
 use Rattle.apply.proofs.case.pack_case.Goals as goal
 
 pub returns : goal.returns
 returns c =
     let a = c.args in
-    row-packed (λ x. x * 2 ^ case_bits + case_number (case_with a.birth a.prevalente.now a.scales.now)) (count a.key + case_bits) (case_zeros_wide row_bytes) a.probe.now a.out.now c.put_row.new.part c.set_case.new.out a.key _ (omega (arith, c.requires.1.bits)) c.requires.1 c.requires.0
+    row_packed (λ x. x * 2 ^ case_bits + case_number (case_with a.birth a.prevalente.now a.scales.now)) (count a.key + case_bits) (case_zeros_wide row_bytes) a.probe.now a.out.now c.put_row.new.part c.set_case.new.out a.key _ (omega (arith, c.requires.1.bits)) c.requires.1 c.requires.0
     c.put_row.ensures c.set_case.ensures (c.set_case.auto.out ∙ c.put_row.auto.part ∙ c.requires.0) (fit_of 8 c.set_case.new.out (λ i. (c.type_inv.out i).fits))

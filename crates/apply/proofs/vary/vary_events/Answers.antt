@@ -4,10 +4,10 @@ use lib.ListN.{length}
 use borrow.Author.Rules.{rules}
 use native.Mathlib.Omega.{arith}
 use Rattle.register.specs.Search.{probe_key}
-use Rattle.register.proofs.Stores.{room-end}
+use Rattle.register.proofs.Stores.{room_end}
 use Rattle.home_care.specs.Row.{row_bytes, key_bits, event_bits, evaluation_bits}
 use Rattle.apply.proofs.RowsPacked.{small_at}
-use Rattle.apply.proofs.Varying.{short, none_yet, all-over, misfits, one-over, never-past}
+use Rattle.apply.proofs.Varying.{short, none_yet, all_over, misfits, one_over, never_past}
 use Rattle.apply.proofs.vary.vary_events.Goals as goal
 
 -- The invariant: the register has the events from place i on over those with their keys.
@@ -24,7 +24,7 @@ returns-then-not-room_for c =
 
 pub case_range-span-requires : goal.case_range-span-requires
 case_range-span-requires c =
-    (search rules, room-end row_bytes (c.count-c.result + c.count.result) (length c.args.reg.now) c.room_for.result c.room_for.ensures (c.if-not-room_for.false) (c.count-c.result + c.count.result) (omega arith), search rules, search rules)
+    (search rules, room_end row_bytes (c.count-c.result + c.count.result) (length c.args.reg.now) c.room_for.result c.room_for.ensures (c.if-not-room_for.false) (c.count-c.result + c.count.result) (omega arith), search rules, search rules)
 
 pub loop-i-init : goal.loop-i-init
 loop-i-init c =
@@ -33,14 +33,14 @@ loop-i-init c =
 
 pub place_event-r-requires : goal.place_event-r-requires
 place_event-r-requires c =
-    let f = room-end row_bytes (c.count-c.result + c.count.result) (length c.args.reg.now) c.room_for.result c.room_for.ensures (c.if-not-room_for.false) c.case_range-span.result.hi c.case_range-span.ensures.high in
+    let f = room_end row_bytes (c.count-c.result + c.count.result) (length c.args.reg.now) c.room_for.result c.room_for.ensures (c.if-not-room_for.false) c.case_range-span.result.hi c.case_range-span.ensures.high in
     (c.case_range-span.ensures.mid, omega (arith, c.loop-i.invariant.1))
 
 pub set_row-requires : goal.set_row-requires
 set_row-requires c =
     let a = c.args in
     let v = c.loop-i in
-    let f = room-end row_bytes (c.count-c.result + c.count.result) (length a.reg.now) c.room_for.result c.room_for.ensures (c.if-not-room_for.false) (c.place_event-r.result + 1) (omega (arith, c.case_range-span.ensures.high)) in
+    let f = room_end row_bytes (c.count-c.result + c.count.result) (length a.reg.now) c.room_for.result c.room_for.ensures (c.if-not-room_for.false) (c.place_event-r.result + 1) (omega (arith, c.case_range-span.ensures.high)) in
     (omega (arith, v.invariant.1), c.key_in-key.ensures, small_at event_bits a.evs.now c.requires.1 (v.i - 1) (omega (arith, v.invariant.0)), small_at evaluation_bits a.kept.now c.requires.2 (v.i - 1) (omega (arith, v.invariant.0, c.requires.3)))
 
 pub loop-i-preserved-then-r-hi : goal.loop-i-preserved-then-r-hi
@@ -50,7 +50,7 @@ loop-i-preserved-then-r-hi c =
     let g = c.case_range-span in (
       omega (arith, v.invariant.0),
       c.set_row.auto.reg ∙ v.invariant.1,
-      one-over (probe_key row_bytes key_bits a.probe.now) a.evs.now a.kept.now a.reg.now c.count-c.result c.count.result c.count-c.ensures.0 c.count.ensures.0 c.key_in-key.ensures.small g.result.lo g.result.hi g.ensures v.reg v.i (omega arith) v.invariant.0 (small_at event_bits a.evs.now c.requires.1 (v.i - 1) (omega (arith, v.invariant.0))) (small_at evaluation_bits a.kept.now c.requires.2 (v.i - 1) (omega (arith, v.invariant.0, c.requires.3))) v.invariant.2 c.place_event-r.result c.place_event-r.ensures c.set_row.new.reg c.set_row.auto.reg c.set_row.ensures,
+      one_over (probe_key row_bytes key_bits a.probe.now) a.evs.now a.kept.now a.reg.now c.count-c.result c.count.result c.count-c.ensures.0 c.count.ensures.0 c.key_in-key.ensures.small g.result.lo g.result.hi g.ensures v.reg v.i (omega arith) v.invariant.0 (small_at event_bits a.evs.now c.requires.1 (v.i - 1) (omega (arith, v.invariant.0))) (small_at evaluation_bits a.kept.now c.requires.2 (v.i - 1) (omega (arith, v.invariant.0, c.requires.3))) v.invariant.2 c.place_event-r.result c.place_event-r.ensures c.set_row.new.reg c.set_row.auto.reg c.set_row.ensures,
     )
 
 pub loop-i-preserved : goal.loop-i-preserved
@@ -58,10 +58,10 @@ loop-i-preserved c =
     let a = c.args in
     let v = c.loop-i in
     let g = c.case_range-span in
-    (omega (arith, v.invariant.0), v.invariant.1, never-past (probe_key row_bytes key_bits a.probe.now) a.evs.now a.kept.now a.reg.now c.count-c.result c.count.result c.count-c.ensures.0 c.count.ensures.0 c.key_in-key.ensures.small g.result.lo g.result.hi g.ensures v.reg v.i (omega arith) v.invariant.0 (small_at event_bits a.evs.now c.requires.1 (v.i - 1) (omega (arith, v.invariant.0))) (small_at evaluation_bits a.kept.now c.requires.2 (v.i - 1) (omega (arith, v.invariant.0, c.requires.3))) v.invariant.2 c.place_event-r.result c.place_event-r.ensures c.if-r-hi.false)
+    (omega (arith, v.invariant.0), v.invariant.1, never_past (probe_key row_bytes key_bits a.probe.now) a.evs.now a.kept.now a.reg.now c.count-c.result c.count.result c.count-c.ensures.0 c.count.ensures.0 c.key_in-key.ensures.small g.result.lo g.result.hi g.ensures v.reg v.i (omega arith) v.invariant.0 (small_at event_bits a.evs.now c.requires.1 (v.i - 1) (omega (arith, v.invariant.0))) (small_at evaluation_bits a.kept.now c.requires.2 (v.i - 1) (omega (arith, v.invariant.0, c.requires.3))) v.invariant.2 c.place_event-r.result c.place_event-r.ensures c.if-r-hi.false)
 
 pub returns : goal.returns
 returns c =
     let a = c.args in
     let v = c.loop-i in
-    all-over (probe_key row_bytes key_bits a.probe.now) a.evs.now a.kept.now a.reg.now v.i v.reg (omega arith) v.invariant.2
+    all_over (probe_key row_bytes key_bits a.probe.now) a.evs.now a.kept.now a.reg.now v.i v.reg (omega arith) v.invariant.2

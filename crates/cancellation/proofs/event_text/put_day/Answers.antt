@@ -1,12 +1,12 @@
 use borrow.Author.Tests.{not-true, not-false}
 use Rattle.days.specs.WrittenDates.{date_text}
-use Rattle.cancellation.proofs.EventTexts.{put-given, put-missing}
+use Rattle.cancellation.proofs.EventTexts.{put_given, put_missing}
 use Rattle.cancellation.proofs.event_text.put_day.Goals as goal
 
 pub returns-then-not-stands : goal.returns-then-not-stands
-returns-then-not-stands c = put-missing c.args.name.now (date_text c.args.day) (not-true c.args.stands c.if-not-stands.true-raw)
+returns-then-not-stands c = put_missing c.args.name.now (date_text c.args.day) (not-true c.args.stands c.if-not-stands.true-raw)
 
 pub returns : goal.returns
 returns c =
-    put-given c.args.name.now (not-false c.args.stands c.if-not-stands.false-raw) c.put_named-a.ensures c.put_date-b.ensures
+    put_given c.args.name.now (not-false c.args.stands c.if-not-stands.false-raw) c.put_named-a.ensures c.put_date-b.ensures
     c.put_text.ensures

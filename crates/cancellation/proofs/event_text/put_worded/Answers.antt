@@ -1,5 +1,5 @@
 use Rattle.tracks.specs.EventElements.{wording}
-use Rattle.cancellation.proofs.EventTexts.{put-parts}
+use Rattle.cancellation.proofs.EventTexts.{put_parts}
 use native.Mathlib.Omega.{arith}
 use Rattle.cancellation.proofs.event_text.put_worded.Goals as goal
 
@@ -23,7 +23,7 @@ pub returns : goal.returns
 returns c =
     let l = c.args in
     λ kind.
-    put-parts (wording kind l.element.now l.date.now l.end.now l.in_child l.code.now l.accesses.now l.conferma.now) l.e
+    put_parts (wording kind l.element.now l.date.now l.end.now l.in_child l.code.now l.accesses.now l.conferma.now) l.e
     c.date_of.ensures.0 c.code_of.ensures c.end_of.ensures.0 c.end_of-2.ensures.0
     c.accesses_of.ensures c.accesses_of-2.ensures c.conferma_of.ensures c.conferma_of-2.ensures
     c.code_of-2.ensures

@@ -1,5 +1,5 @@
-use Rattle.checks.proofs.RecordTypes.{insert-is}
+use Rattle.checks.proofs.RecordTypes.{insert_is}
 use Rattle.checks.proofs.kinds.inserts.Goals as goal
 
 pub returns : goal.returns
-returns c = insert-is c.args.tipo
+returns c = insert_is c.args.tipo

@@ -15,9 +15,9 @@ other b =
     (leb 33 b && leb b 126)
     && (not (eqb b (code "&")) && (not (eqb b (code "<")) && (not (eqb b (code ">")) && (not (eqb b (code "\"")) && not (eqb b (code "'"))))))
 
-other-is : (b : ℕ) → b < 256 → other b ≡ in_ranges id_chars b
+other_is : (b : ℕ) → b < 256 → other b ≡ in_ranges id_chars b
 unfolding any agree_below
-other-is = same_test 256 other (in_ranges id_chars) refl
+other_is = same_test 256 other (in_ranges id_chars) refl
 
 pub returns : goal.returns
-returns c = other-is c.args.b (omega arith)
+returns c = other_is c.args.b (omega arith)

@@ -1,5 +1,5 @@
 use Rattle.days.proofs.Months.{real}
-use Rattle.days.proofs.Firsts.{day-found}
+use Rattle.days.proofs.Firsts.{day_found}
 use mathlib.Core.Path.{ap}
 use Prim.Native.Nat.{ℕ, ◌+◌, ◌-◌}
 use native.Mathlib.Omega.{arith}
@@ -26,9 +26,9 @@ overflow_sub-result c = let r = real c.args.y c.args.m c.args.d c.requires.1 in 
 pub overflow_add-result : goal.overflow_add-result
 overflow_add-result c =
     let r = real c.args.y c.args.m c.args.d c.requires.1 in
-    record { fits = omega (arith, day-found c.args.y c.args.m c.args.d r) }
+    record { fits = omega (arith, day_found c.args.y c.args.m c.args.d r) }
 
 pub returns : goal.returns
 returns c =
     let r = real c.args.y c.args.m c.args.d c.requires.1 in
-    (ap (λ (x : ℕ). x + (c.args.d - 1)) c.first_of.ensures.0, omega (arith, c.first_of.ensures.0, day-found c.args.y c.args.m c.args.d r))
+    (ap (λ (x : ℕ). x + (c.args.d - 1)) c.first_of.ensures.0, omega (arith, c.first_of.ensures.0, day_found c.args.y c.args.m c.args.d r))

@@ -1,7 +1,7 @@
 use mathlib.Core.Path.{◌≡◌, sym, ◌∙◌}
 use mathlib.Core.Bool.{true, false}
 use Rattle.days.specs.Quarters.{is_period}
-use Rattle.days.proofs.Periods.{period, first-real, last-real}
+use Rattle.days.proofs.Periods.{period, first_real, last_real}
 use native.Mathlib.Omega.{arith}
 use Rattle.days.proofs.quarters.quarter_days.Goals as goal
 
@@ -25,12 +25,12 @@ overflow_mul-last c =
 pub numbered-requires : goal.numbered-requires
 numbered-requires c =
     let p = period c.args.year c.args.quarter (sym c.is_period.ensures ∙ c.if-not-is_period.false) in
-    first-real c.args.year c.args.quarter p
+    first_real c.args.year c.args.quarter p
 
 pub numbered-requires-2 : goal.numbered-requires-2
 numbered-requires-2 c =
     let p = period c.args.year c.args.quarter (sym c.is_period.ensures ∙ c.if-not-is_period.false) in
-    rw c.month_length.ensures (last-real c.args.year c.args.quarter p)
+    rw c.month_length.ensures (last_real c.args.year c.args.quarter p)
 
 pub returns : goal.returns
 returns c =

@@ -1,7 +1,7 @@
 use mathlib.Core.Path.{◌≡◌, sym, ◌∙◌}
 use mathlib.Core.Bool.{true, false}
 use Rattle.days.specs.Quarters.{is_period}
-use Rattle.days.proofs.Periods.{period, first-real, last-real}
+use Rattle.days.proofs.Periods.{period, first_real, last_real}
 use native.Mathlib.Omega.{arith}
 use Rattle.days.proofs.quarters.quarter_in.Goals as goal
 
@@ -25,12 +25,12 @@ overflow_mul-last c =
 pub day_number-requires : goal.day_number-requires
 day_number-requires c =
     let p = period c.args.year c.args.quarter (sym c.is_period.ensures ∙ c.if-not-is_period.false) in
-    (c.requires, first-real c.args.year c.args.quarter p)
+    (c.requires, first_real c.args.year c.args.quarter p)
 
 pub day_number-requires-2 : goal.day_number-requires-2
 day_number-requires-2 c =
     let p = period c.args.year c.args.quarter (sym c.is_period.ensures ∙ c.if-not-is_period.false) in
-    (c.requires, rw c.month_length.ensures (last-real c.args.year c.args.quarter p))
+    (c.requires, rw c.month_length.ensures (last_real c.args.year c.args.quarter p))
 
 pub returns : goal.returns
 returns c =

@@ -1,7 +1,7 @@
 use mathlib.Core.Path.{refl}
 use Rattle.register.specs.Search.{probe_key}
 use Rattle.home_care.specs.Row.{row_bytes, key_bits}
-use Rattle.evaluation.proofs.FieldsInForce.{rows_inside, place_inside, kept-inside, kept-fields, own-fields}
+use Rattle.evaluation.proofs.FieldsInForce.{rows_inside, place_inside, kept_inside, kept_fields, own_fields}
 use borrow.Author.Rules.{rules}
 use Rattle.evaluation.proofs.in_force.put_fields.Goals as goal
 
@@ -10,7 +10,7 @@ case_events-rows-requires c = let r = rows_inside c.args.reg.now c.requires.0.so
 
 pub row_at-requires : goal.row_at-requires
 row_at-requires c =
-    kept-inside c.args.reg.now (probe_key row_bytes key_bits c.args.probe.now) c.args.place c.requires.0 c.args.day _ _ c.case_events-rows.ensures c.latest.result c.latest.ensures _ c.in-At.is
+    kept_inside c.args.reg.now (probe_key row_bytes key_bits c.args.probe.now) c.args.place c.requires.0 c.args.day _ _ c.case_events-rows.ensures c.latest.result c.latest.ensures _ c.in-At.is
 
 pub overflow_add-place : goal.overflow_add-place
 overflow_add-place c =
@@ -21,8 +21,8 @@ slice_bounds-read_fields-end c = place_inside c.args.reg.now (probe_key row_byte
 
 pub returns-in-At : goal.returns-in-At
 returns-in-At c =
-    kept-fields c.args.reg.now (probe_key row_bytes key_bits c.args.probe.now) c.args.place c.requires.0 c.args.day _ _ c.case_events-rows.ensures c.latest.result c.latest.ensures _ c.in-At.is c.read_fields.new.fields _ c.row_at.ensures.0 c.read_fields.ensures
+    kept_fields c.args.reg.now (probe_key row_bytes key_bits c.args.probe.now) c.args.place c.requires.0 c.args.day _ _ c.case_events-rows.ensures c.latest.result c.latest.ensures _ c.in-At.is c.read_fields.new.fields _ c.row_at.ensures.0 c.read_fields.ensures
 
 pub returns-in-Never : goal.returns-in-Never
 returns-in-Never c =
-    own-fields c.args.reg.now (probe_key row_bytes key_bits c.args.probe.now) c.args.place c.requires.0 c.args.day _ _ c.case_events-rows.ensures c.latest.result c.latest.ensures c.in-Never.is c.read_fields-in-Never.new.fields _ refl c.read_fields-in-Never.ensures
+    own_fields c.args.reg.now (probe_key row_bytes key_bits c.args.probe.now) c.args.place c.requires.0 c.args.day _ _ c.case_events-rows.ensures c.latest.result c.latest.ensures c.in-Never.is c.read_fields-in-Never.new.fields _ refl c.read_fields-in-Never.ensures

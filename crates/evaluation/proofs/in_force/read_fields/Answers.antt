@@ -1,14 +1,14 @@
 use mathlib.Core.Path.{sym}
 use native.Mathlib.Omega.{arith}
-use Rattle.evaluation.proofs.FieldsRead.{first-six, fields_read}
+use Rattle.evaluation.proofs.FieldsRead.{first_six, fields_read}
 use Rattle.evaluation.proofs.in_force.read_fields.Goals as goal
 
 pub slice_bounds-read_run-end-2 : goal.slice_bounds-read_run-end-2
-slice_bounds-read_run-end-2 c = sym (first-six c.args.fields.now c.requires.1)
+slice_bounds-read_run-end-2 c = sym (first_six c.args.fields.now c.requires.1)
 
 pub read_run-requires : goal.read_run-requires
 read_run-requires c =
-    (omega (arith, c.requires.0), omega arith, omega (arith, c.requires.0, c.requires.2, first-six c.args.fields.now c.requires.1))
+    (omega (arith, c.requires.0), omega arith, omega (arith, c.requires.0, c.requires.2, first_six c.args.fields.now c.requires.1))
 
 pub returns : goal.returns
 returns c =

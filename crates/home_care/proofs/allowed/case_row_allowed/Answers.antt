@@ -2,17 +2,17 @@ use mathlib.Core.Path.{◌∙◌, ap}
 use Rattle.days.specs.DayNumbers.{year_of}
 use Rattle.home_care.specs.Row.{key_in}
 use Rattle.home_care.specs.Fits.{as_case}
-use Rattle.home_care.proofs.RowFields.{taken_is, taken-day, case-bad, case-good}
+use Rattle.home_care.proofs.RowFields.{taken_is, taken_day, case_bad, case_good}
 use Rattle.home_care.proofs.allowed.case_row_allowed.Goals as goal
 
 pub returns-then-not-key_allowed : goal.returns-then-not-key_allowed
-returns-then-not-key_allowed c = case-bad c.args.row.now c.requires.1 _ c.key_allowed.ensures (c.if-not-key_allowed.true)
+returns-then-not-key_allowed c = case_bad c.args.row.now c.requires.1 _ c.key_allowed.ensures (c.if-not-key_allowed.true)
 
 pub year_of-year-requires : goal.year_of-year-requires
 year_of-year-requires c =
-    (c.requires.0, rw (taken_is c.args.row.now c.requires.1 _ c.get-taken.ensures.value) (taken-day c.args.row.now c.requires.1 _ c.key_allowed.ensures (c.if-not-key_allowed.false)))
+    (c.requires.0, rw (taken_is c.args.row.now c.requires.1 _ c.get-taken.ensures.value) (taken_day c.args.row.now c.requires.1 _ c.key_allowed.ensures (c.if-not-key_allowed.false)))
 
 pub returns : goal.returns
 returns c =
-    case-good c.args.row.now c.requires.1 _ _ c.key_allowed.ensures (c.if-not-key_allowed.false)
+    case_good c.args.row.now c.requires.1 _ _ c.key_allowed.ensures (c.if-not-key_allowed.false)
     (c.rest_allowed.ensures (key_in (as_case c.args.row.now).key) (c.year_of-year.ensures ∙ ap year_of (taken_is c.args.row.now c.requires.1 _ c.get-taken.ensures.value)))

@@ -1,9 +1,9 @@
 use lib.ListN.{length}
 use Rattle.home_care.specs.Fits.{case_with}
-use Rattle.home_care.proofs.Packed.{case-set}
+use Rattle.home_care.proofs.Packed.{case_set}
 use Rattle.home_care.proofs.pack.set_case.Goals as goal
 
 pub returns : goal.returns
 returns c =
-    case-set c.args.out.now c.put_case-t.new.out c.finish.new.out c.args.s c.put_case-t.result (case_with c.args.birth c.args.prevalente.now c.args.scales.now) (length c.args.out.now) c.requires.1
+    case_set c.args.out.now c.put_case-t.new.out c.finish.new.out c.args.s c.put_case-t.result (case_with c.args.birth c.args.prevalente.now c.args.scales.now) (length c.args.out.now) c.requires.1
     c.put_case-t.ensures.wrote c.put_case-t.auto.out c.finish.ensures

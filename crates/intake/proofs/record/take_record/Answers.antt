@@ -1,6 +1,6 @@
 use borrow.Author.Tests.{eq-eqb, ne_eqb}
 use Rattle.judge.specs.View.{context_in}
-use Rattle.intake.proofs.RecordRead.{same_here, same-took}
+use Rattle.intake.proofs.RecordRead.{same_here, same_took}
 use Rattle.intake.proofs.record.take_record.Goals as goal
 
 pub take_admission-requires : goal.take_admission-requires
@@ -16,9 +16,9 @@ take_events-requires c =
 pub returns-then-track-eq1 : goal.returns-then-track-eq1
 returns-then-track-eq1 c =
     let e = eq-eqb _ 1 c.if-track-eq1.true in
-    λ a x. same-took _ 1 e a (context_in c.args.l) (c.take_admission.ensures a (same_here _ 1 e a x))
+    λ a x. same_took _ 1 e a (context_in c.args.l) (c.take_admission.ensures a (same_here _ 1 e a x))
 
 pub returns-else-track-eq1 : goal.returns-else-track-eq1
 returns-else-track-eq1 c =
     let e = ne_eqb _ 1 c.if-track-eq1.false in
-    λ a x. same-took _ 2 e a (context_in c.args.l) (c.take_events.ensures a (same_here _ 2 e a x))
+    λ a x. same_took _ 2 e a (context_in c.args.l) (c.take_events.ensures a (same_here _ 2 e a x))

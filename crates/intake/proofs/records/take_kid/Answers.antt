@@ -4,7 +4,7 @@ use native.Mathlib.Omega.{arith}
 use Rattle.reading.specs.Many.{below_root}
 use Rattle.judge.specs.View.{context_in}
 use Rattle.intake.specs.Taking.{siad_driver}
-use Rattle.intake.proofs.Along.{kid-passed, kid-accepted, kid-discarded}
+use Rattle.intake.proofs.Along.{kid_passed, kid_accepted, kid_discarded}
 use Rattle.intake.proofs.SiadDriver.{next_here, next_fits}
 use Rattle.intake.proofs.records.take_kid.Goals as goal
 
@@ -12,7 +12,7 @@ use Rattle.intake.proofs.records.take_kid.Goals as goal
 
 pub returns-then-not-is_named : goal.returns-then-not-is_named
 returns-then-not-is_named c =
-    λ a k. kid-passed ((siad_driver c.args.track (context_in c.args.l))) c.args.before c.args.reg.now c.args.answers.now a ((c.is_named.ensures below_root a k.tops.after k.tops.reads)) (c.if-not-is_named.true)
+    λ a k. kid_passed ((siad_driver c.args.track (context_in c.args.l))) c.args.before c.args.reg.now c.args.answers.now a ((c.is_named.ensures below_root a k.tops.after k.tops.reads)) (c.if-not-is_named.true)
 
 pub take_record-answer-requires : goal.take_record-answer-requires
 take_record-answer-requires c =
@@ -45,7 +45,7 @@ overflow_add-result-then-answer-eq0 c =
 pub returns-then-answer-eq0 : goal.returns-then-answer-eq0
 returns-then-answer-eq0 c =
     let r = c.take_record-answer in
-    λ a k. kid-accepted ((siad_driver c.args.track (context_in c.args.l))) c.args.before c.args.reg.now c.args.answers.now a ((c.is_named.ensures below_root a k.tops.after k.tops.reads)) ((c.if-not-is_named.false)) r.result (r.ensures a ((next_here c.args.track c.args.before a ((c.is_named.ensures below_root a k.tops.after k.tops.reads)) k (c.if-not-is_named.false)))) c.if-answer-eq0.true
+    λ a k. kid_accepted ((siad_driver c.args.track (context_in c.args.l))) c.args.before c.args.reg.now c.args.answers.now a ((c.is_named.ensures below_root a k.tops.after k.tops.reads)) ((c.if-not-is_named.false)) r.result (r.ensures a ((next_here c.args.track c.args.before a ((c.is_named.ensures below_root a k.tops.after k.tops.reads)) k (c.if-not-is_named.false)))) c.if-answer-eq0.true
 
 pub overflow_add-result-2 : goal.overflow_add-result-2
 overflow_add-result-2 c =
@@ -58,4 +58,4 @@ overflow_add-result-2 c =
 pub returns : goal.returns
 returns c =
     let r = c.take_record-answer in
-    λ a k. kid-discarded ((siad_driver c.args.track (context_in c.args.l))) c.args.before c.args.reg.now c.args.answers.now a ((c.is_named.ensures below_root a k.tops.after k.tops.reads)) ((c.if-not-is_named.false)) r.result (r.ensures a ((next_here c.args.track c.args.before a ((c.is_named.ensures below_root a k.tops.after k.tops.reads)) k (c.if-not-is_named.false)))) c.if-answer-eq0.false
+    λ a k. kid_discarded ((siad_driver c.args.track (context_in c.args.l))) c.args.before c.args.reg.now c.args.answers.now a ((c.is_named.ensures below_root a k.tops.after k.tops.reads)) ((c.if-not-is_named.false)) r.result (r.ensures a ((next_here c.args.track c.args.before a ((c.is_named.ensures below_root a k.tops.after k.tops.reads)) k (c.if-not-is_named.false)))) c.if-answer-eq0.false

@@ -4,12 +4,12 @@ use Rattle.register.specs.Layout.{event_rest}
 use Rattle.register.specs.State.{split_by}
 use Rattle.home_care.specs.Row.{row_bytes, home_care, event_number_in_wide}
 use Rattle.home_care.specs.Fits.{RowWidth}
-use Rattle.home_care.proofs.Laid.{row-width}
+use Rattle.home_care.proofs.Laid.{row_width}
 use Rattle.soundness.proofs.CaseWalk.{row_number}
 use Rattle.judge.proofs.standing.event_at.Goals as goal
 
 pub event_of-requires : goal.event_of-requires
-event_of-requires c = subst RowWidth (sym c.row_at.ensures.1) row-width
+event_of-requires c = subst RowWidth (sym c.row_at.ensures.1) row_width
 
 pub returns : goal.returns
 returns c = (

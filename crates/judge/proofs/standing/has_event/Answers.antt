@@ -2,13 +2,13 @@ use Prim.Native.Nat.{ℕ}
 use mathlib.Core.Path.{ap, ◌∙◌}
 use lib.Dec.{eqb}
 use Rattle.home_care.specs.Row.{event_key_of}
-use Rattle.judge.proofs.Rows.{has-none, has_here}
+use Rattle.judge.proofs.Rows.{has_none, has_here}
 use Rattle.judge.proofs.standing.has_event.Goals as goal
 
 pub returns-then-hi-i : goal.returns-then-hi-i
 returns-then-hi-i c =
     let a = c.args in
-    λ up. has-none a.reg.now a.lo a.hi up a.e _ c.place_event-i.ensures c.if-hi-i.true
+    λ up. has_none a.reg.now a.lo a.hi up a.e _ c.place_event-i.ensures c.if-hi-i.true
 
 pub returns : goal.returns
 returns c =

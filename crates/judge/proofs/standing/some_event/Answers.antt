@@ -1,4 +1,4 @@
-use Rattle.judge.proofs.OneEvent.{as-asked}
+use Rattle.judge.proofs.OneEvent.{as_asked}
 use mathlib.Core.Path.{refl}
 use lib.ListN.{drop, drop_of_length-le}
 use Rattle.laws.proofs.Places.{front}
@@ -10,11 +10,11 @@ loop-i-init c = λ up. refl
 
 pub returns-then-has_event-standing : goal.returns-then-has_event-standing
 returns-then-has_event-standing c =
-    λ up. hit _ _ (drop c.loop-i.i c.args.evs.now) (c.loop-i.invariant up) _ _ (front c.args.evs.now c.loop-i.i c.loop-i-test.true) _ (as-asked _ _ c.args.standing (c.has_event.ensures up)) c.if-has_event-standing.true
+    λ up. hit _ _ (drop c.loop-i.i c.args.evs.now) (c.loop-i.invariant up) _ _ (front c.args.evs.now c.loop-i.i c.loop-i-test.true) _ (as_asked _ _ c.args.standing (c.has_event.ensures up)) c.if-has_event-standing.true
 
 pub loop-i-preserved : goal.loop-i-preserved
 loop-i-preserved c =
-    λ up. miss _ _ (drop c.loop-i.i c.args.evs.now) (c.loop-i.invariant up) _ _ (front c.args.evs.now c.loop-i.i c.loop-i-test.true) _ (as-asked _ _ c.args.standing (c.has_event.ensures up)) c.if-has_event-standing.false
+    λ up. miss _ _ (drop c.loop-i.i c.args.evs.now) (c.loop-i.invariant up) _ _ (front c.args.evs.now c.loop-i.i c.loop-i-test.true) _ (as_asked _ _ c.args.standing (c.has_event.ensures up)) c.if-has_event-standing.false
 
 pub returns : goal.returns
 returns c =

@@ -1,6 +1,6 @@
 use native.Mathlib.Omega.{arith}
 use Rattle.markup.specs.Comments.{dashed}
-use Rattle.markup.proofs.AtNames.{ok_move-back}
+use Rattle.markup.proofs.AtNames.{ok_move_back}
 use Rattle.markup.proofs.Cursor.dashed.Goals as goal
 
 pub returns-in_default : goal.returns-in_default
@@ -21,4 +21,4 @@ unfolding dashed
 returns c =
     let x = rw c.in-To.is at c.expect.ensures in
     let y = rw c.in-To-expect.is at c.expect-2.ensures in
-    (rw (← x.0, ← y.0) c.comment.ensures.0, ok_move-back c.args.s.now c.args.self.at _ c.comment.result (omega arith) c.comment.ensures.1)
+    (rw (← x.0, ← y.0) c.comment.ensures.0, ok_move_back c.args.s.now c.args.self.at _ c.comment.result (omega arith) c.comment.ensures.1)

@@ -1,16 +1,16 @@
 use mathlib.Core.Path.{sym}
 use lib.ListN.{length-drop}
 use native.Mathlib.Omega.{arith}
-use Rattle.laws.proofs.Reach.{reach-start, reach-next, reach-stop}
+use Rattle.laws.proofs.Reach.{reach_start, reach_next, reach_stop}
 use Rattle.markup.specs.Document.{misc}
-use Rattle.markup.proofs.AtFile.{ok_past-back}
+use Rattle.markup.proofs.AtFile.{ok_past_back}
 use Rattle.markup.proofs.Cursor.misc.Goals as goal
 
 -- The invariant: what white space and comments leave from `at` on is what they leave from the start.
 
 pub loop-next-init : goal.loop-next-init
 unfolding misc
-loop-next-init c = (omega arith, reach-start _ _ _ _, omega arith)
+loop-next-init c = (omega arith, reach_start _ _ _ _, omega arith)
 
 pub loop-next-smaller : goal.loop-next-smaller
 loop-next-smaller c =
@@ -20,9 +20,9 @@ loop-next-smaller c =
 pub loop-next-preserved : goal.loop-next-preserved
 loop-next-preserved c =
     let x = rw c.in-More.is at c.misc_step.ensures in
-    (omega arith, reach-next c.loop-next.invariant.1 (sym x.0) (simp length-drop (omega arith)), omega arith)
+    (omega arith, reach_next c.loop-next.invariant.1 (sym x.0) (simp length-drop (omega arith)), omega arith)
 
 pub returns-in-Done : goal.returns-in-Done
 returns-in-Done c =
     let x = rw c.in-Done.is at c.misc_step.ensures in
-    (sym (reach-stop c.loop-next.invariant.1 (sym x.0)), ok_past-back _ c.args.self.at c.loop-next.at c.in-Done.end (c.loop-next.invariant.0, c.loop-next.invariant.2) x.1)
+    (sym (reach_stop c.loop-next.invariant.1 (sym x.0)), ok_past_back _ c.args.self.at c.loop-next.at c.in-Done.end (c.loop-next.invariant.0, c.loop-next.invariant.2) x.1)

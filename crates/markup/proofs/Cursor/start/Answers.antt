@@ -4,7 +4,7 @@ use native.Mathlib.Omega.{arith}
 use Rattle.markup.specs.Tags.{attributes, differ, tag}
 use Rattle.markup.specs.View.{part, view_ending}
 use Rattle.markup.specs.declared.Ending.TheVariants as end
-use Rattle.markup.proofs.AtTags.{attributes-none, tag-end, tag-bad}
+use Rattle.markup.proofs.AtTags.{attributes_none, tag_end, tag_bad}
 use Rattle.markup.proofs.Cursor.start.Goals as goal
 
 pub returns-in_default : goal.returns-in_default
@@ -25,7 +25,7 @@ unfolding tag differ
 returns-then-peek-eq62 c =
     let x = rw c.in-To.is at c.expect.ensures in
     let n = rw c.in-Text.is at c.name.ensures in
-    let f = attributes-none c.args.s.now c.in-Text.next.at c.peek.result c.peek.ensures c.if-peek-eq62.true in
+    let f = attributes_none c.args.s.now c.in-Text.next.at c.peek.result c.peek.ensures c.if-peek-eq62.true in
     (rw (← x.0, ← n.0, f.0), omega arith)
 
 pub returns-in-Refused : goal.returns-in-Refused
@@ -35,7 +35,7 @@ returns-in-Refused c =
     let x = rw c.in-To.is at c.expect.ensures in
     let n = rw c.in-Text.is at c.name.ensures in
     let y = rw c.in-Refused.is at c.attributes-ending.ensures in
-    (rw (← x.0, ← n.0) (tag-bad (part s c.in-Text.start c.in-Text.end) (attributes (drop c.in-Text.next.at s)) y.0), tt)
+    (rw (← x.0, ← n.0) (tag_bad (part s c.in-Text.start c.in-Text.end) (attributes (drop c.in-Text.next.at s)) y.0), tt)
 
 pub returns-then-not-differ : goal.returns-then-not-differ
 unfolding tag
@@ -44,7 +44,7 @@ returns-then-not-differ c =
     let x = rw c.in-To.is at c.expect.ensures in
     let n = rw c.in-Text.is at c.name.ensures in
     let y = c.attributes-ending.ensures in
-    let t = tag-end (part s c.in-Text.start c.in-Text.end) (attributes (drop c.in-Text.next.at s)) (view_ending s c.attributes-ending.result) c.differ.result y.0 c.differ.ensures in
+    let t = tag_end (part s c.in-Text.start c.in-Text.end) (attributes (drop c.in-Text.next.at s)) (view_ending s c.attributes-ending.result) c.differ.result y.0 c.differ.ensures in
     (rw (← x.0, ← n.0, t, not-true c.differ.result c.if-not-differ.true-raw), tt)
 
 pub returns-in-Open : goal.returns-in-Open
@@ -54,7 +54,7 @@ returns-in-Open c =
     let x = rw c.in-To.is at c.expect.ensures in
     let n = rw c.in-Text.is at c.name.ensures in
     let y = rw c.in-Open.is at c.attributes-ending.ensures in
-    let t = tag-end (part s c.in-Text.start c.in-Text.end) (attributes (drop c.in-Text.next.at s)) (view_ending s (end.Open c.in-Open.done)) c.differ.result y.0 c.differ.ensures in
+    let t = tag_end (part s c.in-Text.start c.in-Text.end) (attributes (drop c.in-Text.next.at s)) (view_ending s (end.Open c.in-Open.done)) c.differ.result y.0 c.differ.ensures in
     (rw (← x.0, ← n.0, t, not-false c.differ.result c.if-not-differ.false-raw), omega arith)
 
 pub returns-in-Shut : goal.returns-in-Shut
@@ -64,7 +64,7 @@ returns-in-Shut c =
     let x = rw c.in-To.is at c.expect.ensures in
     let n = rw c.in-Text.is at c.name.ensures in
     let y = rw c.in-Shut.is at c.attributes-ending.ensures in
-    let t = tag-end (part s c.in-Text.start c.in-Text.end) (attributes (drop c.in-Text.next.at s)) (view_ending s (end.Shut c.in-Shut.done)) c.differ.result y.0 c.differ.ensures in
+    let t = tag_end (part s c.in-Text.start c.in-Text.end) (attributes (drop c.in-Text.next.at s)) (view_ending s (end.Shut c.in-Shut.done)) c.differ.result y.0 c.differ.ensures in
     (rw (← x.0, ← n.0, t, not-false c.differ.result c.if-not-differ.false-raw), omega arith)
 
 pub returns-in-Refused-ending : goal.returns-in-Refused-ending
@@ -74,5 +74,5 @@ returns-in-Refused-ending c =
     let x = rw c.in-To.is at c.expect.ensures in
     let n = rw c.in-Text.is at c.name.ensures in
     let y = rw c.in-Refused-ending.is at c.attributes-ending.ensures in
-    let t = tag-end (part s c.in-Text.start c.in-Text.end) (attributes (drop c.in-Text.next.at s)) (view_ending s end.Refused) c.differ.result y.0 c.differ.ensures in
+    let t = tag_end (part s c.in-Text.start c.in-Text.end) (attributes (drop c.in-Text.next.at s)) (view_ending s end.Refused) c.differ.result y.0 c.differ.ensures in
     (rw (← x.0, ← n.0, t, not-false c.differ.result c.if-not-differ.false-raw), tt)

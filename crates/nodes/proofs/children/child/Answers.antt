@@ -1,4 +1,4 @@
-use Rattle.nodes.proofs.Naming.{first-in}
+use Rattle.nodes.proofs.Naming.{first_in}
 use Rattle.nodes.specs.Stands.{lacks}
 use mathlib.Core.Path.{refl}
 use Rattle.nodes.proofs.children.child.Goals as goal
@@ -6,7 +6,7 @@ use Rattle.nodes.proofs.children.child.Goals as goal
 pub returns-in_default : goal.returns-in_default
 returns-in_default c =
     let x = rw c.in_default.is at c.enter.ensures.0 in
-    λ t h. lacks refl (first-in c.args.x.now (x t h))
+    λ t h. lacks refl (first_in c.args.x.now (x t h))
 
 pub returns : goal.returns
 returns c =

@@ -1,8 +1,8 @@
 use mathlib.Core.Path.{◌∙◌, refl, sym}
 use native.Mathlib.Omega.{arith}
 use Rattle.markup.specs.Elements.{kids}
-use Rattle.nodes.proofs.Naming.{first-hit, first-none, first_on}
-use Rattle.nodes.proofs.Walking.{look-gone, look-here, look-past, look-start, look-stuck}
+use Rattle.nodes.proofs.Naming.{first_hit, first_none, first_on}
+use Rattle.nodes.proofs.Walking.{look_gone, look_here, look_past, look_start, look_stuck}
 use Rattle.nodes.specs.Lookup.{first_named}
 use Rattle.nodes.specs.Stands.{lacks, stands}
 use Rattle.nodes.proofs.children.child_from.Goals as goal
@@ -10,25 +10,25 @@ use Rattle.nodes.proofs.children.child_from.Goals as goal
 -- The invariant: the first of the name among the children ahead is the first of all.
 
 pub loop-q-init : goal.loop-q-init
-loop-q-init c = (omega arith, λ i w. look-start (first_named c.args.x.now) w)
+loop-q-init c = (omega arith, λ i w. look_start (first_named c.args.x.now) w)
 
 pub returns-in_default : goal.returns-in_default
 returns-in_default c =
     let n = rw c.in_default.is at c.next_kid.ensures in
-    λ i w. let k = c.loop-q.invariant.1 i w in lacks refl (look-gone k (n.0 _ _ k.holds) ∙ first-none c.args.x.now)
+    λ i w. let k = c.loop-q.invariant.1 i w in lacks refl (look_gone k (n.0 _ _ k.holds) ∙ first_none c.args.x.now)
 
 pub returns-then-is_named : goal.returns-then-is_named
 returns-then-is_named c =
     let n = rw c.in-At.is at c.next_kid.ensures in
     let x = c.args.x.now in
     λ i w. let k = c.loop-q.invariant.1 i w in let a = n.0 _ _ k.holds in
-    rw (look-here k a (first-hit x a.tree (kids a.more) (sym c.if-is_named.true ∙ c.is_named.ensures _ a.tree a.after a.reads))) (stands a.after a.reads)
+    rw (look_here k a (first_hit x a.tree (kids a.more) (sym c.if-is_named.true ∙ c.is_named.ensures _ a.tree a.after a.reads))) (stands a.after a.reads)
 
 pub returns-in_default-skip : goal.returns-in_default-skip
 returns-in_default-skip c =
     let n = rw c.in-At.is at c.next_kid.ensures in
     let e = rw c.in_default-skip.is at c.skip.ensures in
-    λ i w. let k = c.loop-q.invariant.1 i w in let a = n.0 _ _ k.holds in look-stuck k a (e.0 _ a.tree a.after a.reads)
+    λ i w. let k = c.loop-q.invariant.1 i w in let a = n.0 _ _ k.holds in look_stuck k a (e.0 _ a.tree a.after a.reads)
 
 pub loop-q-smaller : goal.loop-q-smaller
 loop-q-smaller c =
@@ -43,5 +43,5 @@ loop-q-preserved c =
     let x = c.args.x.now in (
       omega arith,
       λ i w. let k = c.loop-q.invariant.1 i w in let a = n.0 _ _ k.holds in
-          look-past k a (λ ts. first_on x a.tree ts (sym c.if-is_named.false ∙ c.is_named.ensures _ a.tree a.after a.reads)) (e.0 _ a.tree a.after a.reads),
+          look_past k a (λ ts. first_on x a.tree ts (sym c.if-is_named.false ∙ c.is_named.ensures _ a.tree a.after a.reads)) (e.0 _ a.tree a.after a.reads),
     )

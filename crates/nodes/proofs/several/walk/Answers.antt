@@ -1,13 +1,13 @@
 use mathlib.Core.Path.{ap}
 use native.Mathlib.Omega.{arith}
 use Rattle.markup.specs.Elements.{kids}
-use Rattle.nodes.proofs.Seeking.{six-none}
+use Rattle.nodes.proofs.Seeking.{six_none}
 use Rattle.nodes.proofs.several.walk.Goals as goal
 
 pub returns-in_default : goal.returns-in_default
 returns-in_default c =
     let x = rw c.in_default.is at c.enter.ensures in
-    (λ t h. six-none c.args.s.now c.args.xa.now c.args.xb.now c.args.xc.now c.args.xd.now c.args.xe.now c.args.xf.now c.none_there.ensures (ap kids (x.0 t h)), λ t m e z. absurd (omega arith), λ z. absurd (omega arith))
+    (λ t h. six_none c.args.s.now c.args.xa.now c.args.xb.now c.args.xc.now c.args.xd.now c.args.xe.now c.args.xf.now c.none_there.ensures (ap kids (x.0 t h)), λ t m e z. absurd (omega arith), λ z. absurd (omega arith))
 
 pub returns : goal.returns
 returns c =

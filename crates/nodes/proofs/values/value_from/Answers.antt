@@ -1,5 +1,5 @@
 use Rattle.markup.specs.View.{view_ending}
-use Rattle.nodes.proofs.Valuing.{of-done, of-next, valued-here, valued-none, valued-on}
+use Rattle.nodes.proofs.Valuing.{of_done, of_next, valued_here, valued_none, valued_on}
 use Rattle.nodes.specs.Stands.{Valued}
 use lib.ListN.{drop}
 use native.Mathlib.Omega.{arith}
@@ -16,7 +16,7 @@ returns-in_default c =
     let y = rw c.in_default.is at c.attributes_step.ensures in
     let s = c.args.s.now in
     let x = c.args.x.now in
-    (c.loop-name.invariant value.Missing (of-done (λ ps. Valued s x ps value.Missing) (drop c.loop-name.at s) (view_ending s c.in_default.field-0) y.0 (valued-none s x)), tt)
+    (c.loop-name.invariant value.Missing (of_done (λ ps. Valued s x ps value.Missing) (drop c.loop-name.at s) (view_ending s c.in_default.field-0) y.0 (valued_none s x)), tt)
 
 pub returns-then-same : goal.returns-then-same
 returns-then-same c =
@@ -25,7 +25,7 @@ returns-then-same c =
     let s = c.args.s.now in
     let x = c.args.x.now in
     let v = value.Text c.in-More.value c.in-More.value_end in
-    (c.loop-name.invariant v (of-next (λ ps. Valued s x ps v) (drop c.loop-name.at s) y.0 (λ a m i. valued-here s x c.in-More.name c.in-More.name_end c.in-More.value c.in-More.value_end a.pairs e)), omega arith)
+    (c.loop-name.invariant v (of_next (λ ps. Valued s x ps v) (drop c.loop-name.at s) y.0 (λ a m i. valued_here s x c.in-More.name c.in-More.name_end c.in-More.value c.in-More.value_end a.pairs e)), omega arith)
 
 pub loop-name-smaller : goal.loop-name-smaller
 loop-name-smaller c =
@@ -38,4 +38,4 @@ loop-name-preserved c =
     let e = rw (c.part.ensures, c.if-same.false) at c.same.ensures in
     let s = c.args.s.now in
     let x = c.args.x.now in
-    λ r h. c.loop-name.invariant r (of-next _ _ y.0 (λ a m i. valued-on s x _ a.pairs r e (h a m i)))
+    λ r h. c.loop-name.invariant r (of_next _ _ y.0 (λ a m i. valued_on s x _ a.pairs r e (h a m i)))

@@ -1,5 +1,5 @@
-use Rattle.register.proofs.Gaps.{field-got}
+use Rattle.register.proofs.Gaps.{field_got}
 use Rattle.register.proofs.search.field_in.Goals as goal
 
 pub returns : goal.returns
-returns c = field-got c.args.w c.args.i c.args.at c.args.wide c.get.result c.args.reg.now c.requires.0 c.get.ensures
+returns c = field_got c.args.w c.args.i c.args.at c.args.wide c.get.result c.args.reg.now c.requires.0 c.get.ensures

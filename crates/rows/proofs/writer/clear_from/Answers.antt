@@ -5,7 +5,7 @@ use lib.ListN.{length, take, length-set}
 use lib.Seq.{take_all}
 use native.Mathlib.Omega.{arith}
 use Rattle.rows.specs.Packing.{num}
-use Rattle.rows.proofs.Steps.{stored, more-zero}
+use Rattle.rows.proofs.Steps.{stored, more_zero}
 use Rattle.rows.proofs.writer.clear_from.Goals as goal
 
 pub loop-i-init : goal.loop-i-init
@@ -22,7 +22,7 @@ loop-i-preserved c =
       simp length-set l.invariant.0,
       simp length-set (omega arith),
       omega arith,
-      rw (e, stored l.out l.i 0 h, l.invariant.3) (more-zero (num (take a.at a.out.now)) (8 * (l.i - a.at))),
+      rw (e, stored l.out l.i 0 h, l.invariant.3) (more_zero (num (take a.at a.out.now)) (8 * (l.i - a.at))),
     )
 
 pub shape_of-out : goal.shape_of-out

@@ -6,7 +6,7 @@ use lib.Seq.{take-set-le, drop-set-lt}
 use lib.Pow.{pow_pos, shr_lt}
 use native.Mathlib.Omega.{arith}
 use Rattle.rows.specs.Packing.{num, packs}
-use Rattle.rows.proofs.Steps.{one_shl, more, stored, flushed, shl-add, shl-add-lt, within}
+use Rattle.rows.proofs.Steps.{one_shl, more, stored, flushed, shl_add, shl_add_lt, within}
 use Rattle.rows.proofs.Writing.{later}
 use Rattle.rows.proofs.writer.put.Goals as goal
 
@@ -15,14 +15,14 @@ overflow_add-acc c =
     let a = c.args in
     let p = c.requires in
     let room : a.s.have + a.w ≤ 63 = omega (arith, p.tidy.few, p.w_bound) in
-    omega (arith, within _ (a.s.have + a.w) 63 (shl-add-lt 64 a.s.acc a.v a.s.have a.w p.tidy.small p.w_bound.1 (omega arith)) room)
+    omega (arith, within _ (a.s.have + a.w) 63 (shl_add_lt 64 a.s.acc a.v a.s.have a.w p.tidy.small p.w_bound.1 (omega arith)) room)
 
 pub loop-have-init : goal.loop-have-init
 loop-have-init c =
     let a = c.args in
     let p = c.requires in
     let room : a.s.have + a.w ≤ 63 = omega (arith, p.tidy.few, p.w_bound) in
-    (refl, room, refl, omega arith, shl-add-lt 64 a.s.acc a.v a.s.have a.w p.tidy.small p.w_bound.1 (omega arith), refl, omega arith, refl, refl)
+    (refl, room, refl, omega arith, shl_add_lt 64 a.s.acc a.v a.s.have a.w p.tidy.small p.w_bound.1 (omega arith), refl, omega arith, refl, refl)
 
 pub overflow_cast-out : goal.overflow_cast-out
 overflow_cast-out c =
@@ -65,7 +65,7 @@ returns c =
       wrote = record {
         tidy = record { few = c.loop-have-test.false; small = l.invariant.4 };
         bits = omega arith;
-        holds = l.invariant.5 ∙ ap (λ (z : ℕ). num (take a.s.at a.out.now) * 2 ^ (a.s.have + a.w) + z) (shl-add 64 a.s.acc a.v a.s.have a.w p.tidy.small room)
+        holds = l.invariant.5 ∙ ap (λ (z : ℕ). num (take a.s.at a.out.now) * 2 ^ (a.s.have + a.w) + z) (shl_add 64 a.s.acc a.v a.s.have a.w p.tidy.small room)
             ∙ more (num (take a.s.at a.out.now)) a.s.acc a.v a.s.have a.w;
         same = l.invariant.0;
         before = l.invariant.7;

@@ -1,19 +1,19 @@
-use Rattle.schema.proofs.Pairs.{attrs-start, attrs-end, attrs-no, attrs-pass}
+use Rattle.schema.proofs.Pairs.{attrs_start, attrs_end, attrs_no, attrs_pass}
 use Rattle.schema.specs.Shape.{attr_fits}
 use mathlib.Core.Path.{sym, ◌∙◌}
 use Rattle.schema.proofs.attrs.all_attrs.Goals as goal
 
 pub loop-k-init : goal.loop-k-init
-loop-k-init c = λ a m i. rw (← attrs-start c.args.table.now c.args.pool.now c.args.ranges.now c.args.first c.args.n)
+loop-k-init c = λ a m i. rw (← attrs_start c.args.table.now c.args.pool.now c.args.ranges.now c.args.first c.args.n)
 
 pub returns-then-not-attr_fits : goal.returns-then-not-attr_fits
 returns-then-not-attr_fits c =
-    λ a m i. attrs-no c.args.table.now c.args.pool.now c.args.ranges.now _ _ (attr_fits a.pairs) _ c.loop-k-test.true (sym (c.attr_fits.ensures a m i) ∙ c.if-not-attr_fits.true) ∙ c.loop-k.invariant a m i
+    λ a m i. attrs_no c.args.table.now c.args.pool.now c.args.ranges.now _ _ (attr_fits a.pairs) _ c.loop-k-test.true (sym (c.attr_fits.ensures a m i) ∙ c.if-not-attr_fits.true) ∙ c.loop-k.invariant a m i
 
 pub loop-k-preserved : goal.loop-k-preserved
 loop-k-preserved c =
-    λ a m i. sym (attrs-pass c.args.table.now c.args.pool.now c.args.ranges.now _ _ (attr_fits a.pairs) _ c.loop-k-test.true (sym (c.attr_fits.ensures a m i) ∙ c.if-not-attr_fits.false)) ∙ c.loop-k.invariant a m i
+    λ a m i. sym (attrs_pass c.args.table.now c.args.pool.now c.args.ranges.now _ _ (attr_fits a.pairs) _ c.loop-k-test.true (sym (c.attr_fits.ensures a m i) ∙ c.if-not-attr_fits.false)) ∙ c.loop-k.invariant a m i
 
 pub returns : goal.returns
 returns c =
-    λ a m i. sym (attrs-end c.args.table.now c.args.pool.now c.args.ranges.now _ _ (attr_fits a.pairs) _ c.loop-k-test.false) ∙ c.loop-k.invariant a m i
+    λ a m i. sym (attrs_end c.args.table.now c.args.pool.now c.args.ranges.now _ _ (attr_fits a.pairs) _ c.loop-k-test.false) ∙ c.loop-k.invariant a m i

@@ -1,6 +1,6 @@
-use Rattle.schema.proofs.Pairs.{pairs-pass, pairs-no, all_taken}
+use Rattle.schema.proofs.Pairs.{pairs_pass, pairs_no, all_taken}
 use Rattle.schema.specs.Table.{names_at}
-use Rattle.markup.proofs.AtTags.{of-done, of-next, of_none}
+use Rattle.markup.proofs.AtTags.{of_done, of_next, of_none}
 use Rattle.markup.specs.View.{view_ending}
 use Rattle.laws.specs.Lists.{all}
 use mathlib.Core.Bool.{true, false}
@@ -20,7 +20,7 @@ pub returns-in_default : goal.returns-in_default
 unfolding all
 returns-in_default c =
     let x = rw c.in_default.is at c.attributes_step.ensures in
-    λ r. c.loop-name.invariant r true (of-done (all (all_taken c.args.free (names_at c.args.table.now c.args.pool.now r c.args.first c.args.n))) _ (view_ending c.args.s.now c.in_default.field-0) x.0)
+    λ r. c.loop-name.invariant r true (of_done (all (all_taken c.args.free (names_at c.args.table.now c.args.pool.now r c.args.first c.args.n))) _ (view_ending c.args.s.now c.in_default.field-0) x.0)
 
 pub returns-then-not-is_known : goal.returns-then-not-is_known
 returns-then-not-is_known c =
@@ -28,7 +28,7 @@ returns-then-not-is_known c =
     λ r.
     let q = all_taken c.args.free (names_at c.args.table.now c.args.pool.now r c.args.first c.args.n) in
     let e = rw c.part.ensures at (c.is_known.ensures r) in
-    c.loop-name.invariant r false (of-next (all q) _ x.0 (λ a m i. pairs-no q _ a.pairs (sym e ∙ c.if-not-is_known.true)))
+    c.loop-name.invariant r false (of_next (all q) _ x.0 (λ a m i. pairs_no q _ a.pairs (sym e ∙ c.if-not-is_known.true)))
 
 pub loop-name-smaller : goal.loop-name-smaller
 loop-name-smaller c =
@@ -41,4 +41,4 @@ loop-name-preserved c =
     λ r b h.
     let q = all_taken c.args.free (names_at c.args.table.now c.args.pool.now r c.args.first c.args.n) in
     let e = rw c.part.ensures at (c.is_known.ensures r) in
-    c.loop-name.invariant r b (of-next (all q) _ x.0 (λ a m i. h a m i ∙ sym (pairs-pass q _ a.pairs (sym e ∙ c.if-not-is_known.false))))
+    c.loop-name.invariant r b (of_next (all q) _ x.0 (λ a m i. h a m i ∙ sym (pairs_pass q _ a.pairs (sym e ∙ c.if-not-is_known.false))))

@@ -1,9 +1,9 @@
 use native.Mathlib.Omega.{arith}
 use Prim.Native.Nat.{◌-◌}
 use lib.ListN.{length}
-use Rattle.schema.proofs.Tagged.{has-levels}
-use Rattle.schema.proofs.Group.{walk-wrong, walk-on, walk-fault}
-use Rattle.schema.proofs.Counts.{count-quiet, count-start, count_past, count_next}
+use Rattle.schema.proofs.Tagged.{has_levels}
+use Rattle.schema.proofs.Group.{walk_wrong, walk_on, walk_fault}
+use Rattle.schema.proofs.Counts.{count_quiet, count_start, count_past, count_next}
 use Rattle.schema.proofs.elements.+fault.Goals as goal
 
 -- `fault` calls itself with one level less. The loop's invariant: the fault and the count of what is left in the group are those of the element.
@@ -11,7 +11,7 @@ use Rattle.schema.proofs.elements.+fault.Goals as goal
 pub returns-then-levels-eq0 : goal.returns-then-levels-eq0
 returns-then-levels-eq0 t c =
     let a = c.args in
-    record { tells = λ x m e n. absurd (has-levels a.levels a.s.now a.at x m e c.if-levels-eq0.true); places = tt }
+    record { tells = λ x m e n. absurd (has_levels a.levels a.s.now a.at x m e c.if-levels-eq0.true); places = tt }
 
 pub loop-next-init : goal.loop-next-init
 loop-next-init t c =
@@ -22,7 +22,7 @@ loop-next-init t c =
       omega arith,
       λ x m e n.
           let k = w.tells a.levels x m e n in
-          count-start a.table.now a.pool.now a.ranges.now (a.levels - 1) a.row c.cell-first.ensures.0 c.cell-n.ensures.0 (length a.s.now - a.at) k.0 k.1 k.2 k.3,
+          count_start a.table.now a.pool.now a.ranges.now (a.levels - 1) a.row c.cell-first.ensures.0 c.cell-n.ensures.0 (length a.s.now - a.at) k.0 k.1 k.2 k.3,
     )
 
 pub returns-in-Past : goal.returns-in-Past
@@ -48,7 +48,7 @@ returns-in-Wrong t c =
       tells = λ x m e n.
           let o = b.invariant.3 x m e n in
           let w = y.tells a.ranges.now (a.levels - 1) o.left m o.reads in
-          (walk-wrong o w, omega arith);
+          (walk_wrong o w, omega arith);
       places = tt;
     }
 
@@ -68,7 +68,7 @@ loop-next-preserved-in-On t c =
       λ x m e n.
           let o = b.invariant.3 x m e n in
           let w = y.tells a.ranges.now (a.levels - 1) o.left m o.reads in
-          walk-on o (count-quiet _ _ _) w.0 w.1 w.2,
+          walk_on o (count_quiet _ _ _) w.0 w.1 w.2,
     )
 
 pub returns-in_default : goal.returns-in_default
@@ -82,7 +82,7 @@ returns-in_default t c =
       tells = λ x m e n.
           let o = b.invariant.3 x m e n in
           let w = y.tells a.ranges.now (a.levels - 1) o.left m o.reads in
-          walk-fault a.table.now a.pool.now a.ranges.now a.s.now (a.levels - 1) b.here c.cell-first.result c.cell-n.result b.item o c.in-Child.now c.in-Child.before w y.places.0
+          walk_fault a.table.now a.pool.now a.ranges.now a.s.now (a.levels - 1) b.here c.cell-first.result c.cell-n.result b.item o c.in-Child.now c.in-Child.before w y.places.0
           (v.tells w.0 w.2 w.4);
       places = tt;
     }

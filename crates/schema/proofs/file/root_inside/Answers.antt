@@ -7,9 +7,9 @@ use Rattle.schema.specs.Schema.{Nodes}
 use Rattle.schema.specs.Shape.{fault_in}
 use Rattle.schema.specs.Table.{schema_at}
 use Rattle.schema.specs.View.{held_after}
-use Rattle.schema.proofs.Heads.{nodes-start}
-use Rattle.schema.proofs.Group.{walk-past, walk-wrong, walk-on, walk-fault, walk-child}
-use Rattle.schema.proofs.Whole.{inside-bad, inside-good, held-quiet, further-on}
+use Rattle.schema.proofs.Heads.{nodes_start}
+use Rattle.schema.proofs.Group.{walk_past, walk_wrong, walk_on, walk_fault, walk_child}
+use Rattle.schema.proofs.Whole.{inside_bad, inside_good, held_quiet, further_on}
 use Rattle.schema.proofs.file.root_inside.Goals as goal
 
 -- The loop's invariant: the fault in what is left is that in all that stands in the root, and what is known says of the children that are left what is said of
@@ -20,7 +20,7 @@ loop-next-init c =
     let a = c.args in (
       search rules,
       search rules,
-      λ i m e. record { left = i; reads = e; faulty = ap (λ (ns : Nodes). fault_in ns 0 a.from i) (sym (nodes-start a.table.now a.pool.now a.ranges.now below_root 0 c.cell-first.ensures.0 c.cell-n.ensures.0)); tells = refl },
+      λ i m e. record { left = i; reads = e; faulty = ap (λ (ns : Nodes). fault_in ns 0 a.from i) (sym (nodes_start a.table.now a.pool.now a.ranges.now below_root 0 c.cell-first.ensures.0 c.cell-n.ensures.0)); tells = refl },
     )
 
 pub returns-in-Past : goal.returns-in-Past
@@ -33,8 +33,8 @@ returns-in-Past c =
       tells = λ i m e h.
           let o = b.invariant.2 i m e in
           let w = y.tells a.ranges.now below_root o.left m o.reads in
-          let k = walk-past o w.0 w.1 in
-          inside-good sc a.from i k.0 (c.answer.ensures.tells sc ∙ k.1);
+          let k = walk_past o w.0 w.1 in
+          inside_good sc a.from i k.0 (c.answer.ensures.tells sc ∙ k.1);
       places = c.answer.ensures.places a.s.now b.at b.invariant.1 (omega arith);
     }
 
@@ -46,7 +46,7 @@ returns-in-Wrong c =
       tells = λ i m e h.
           let o = c.loop-next.invariant.2 i m e in
           let w = y.tells a.ranges.now below_root o.left m o.reads in
-          inside-bad (schema_at a.table.now a.pool.now a.ranges.now below_root) a.from i (walk-wrong o w) h;
+          inside_bad (schema_at a.table.now a.pool.now a.ranges.now below_root) a.from i (walk_wrong o w) h;
       places = search rules;
     }
 
@@ -61,11 +61,11 @@ loop-next-preserved-in-On c =
     let b = c.loop-next in
     let y = rw c.in-On.is at c.advance.ensures in (
       omega arith,
-      further-on b.seen (omega arith) b.invariant.1,
+      further_on b.seen (omega arith) b.invariant.1,
       λ i m e.
           let o = b.invariant.2 i m e in
           let w = y.tells a.ranges.now below_root o.left m o.reads in
-          walk-on o (held-quiet (schema_at a.table.now a.pool.now a.ranges.now below_root) b.seen) w.0 w.1 w.2,
+          walk_on o (held_quiet (schema_at a.table.now a.pool.now a.ranges.now below_root) b.seen) w.0 w.1 w.2,
     )
 
 pub hold_record-taken-requires : goal.hold_record-taken-requires
@@ -85,8 +85,8 @@ returns-in-Fault c =
           let o = b.invariant.2 i m e in
           let w = y.tells a.ranges.now below_root o.left m o.reads in
           let u = c.hold_record-taken.ensures.tells w.0 w.2 w.4 in
-          let f = walk-fault a.table.now a.pool.now a.ranges.now a.s.now below_root b.at c.cell-first.result c.cell-n.result b.item o c.in-Child.now c.in-Child.before w y.places.0 (λ n. v.tells w.0 w.2 w.4 n u.1) in
-          inside-bad (schema_at a.table.now a.pool.now a.ranges.now below_root) a.from i f.0 f.1;
+          let f = walk_fault a.table.now a.pool.now a.ranges.now a.s.now below_root b.at c.cell-first.result c.cell-n.result b.item o c.in-Child.now c.in-Child.before w y.places.0 (λ n. v.tells w.0 w.2 w.4 n u.1) in
+          inside_bad (schema_at a.table.now a.pool.now a.ranges.now below_root) a.from i f.0 f.1;
       places = search rules;
     }
 
@@ -109,10 +109,10 @@ loop-next-preserved c =
     let y = rw c.in-Child.is at c.advance.ensures in
     let v = rw c.in-Past-past_child.is at c.past_child.ensures in (
       omega arith,
-      further-on r (omega arith) c.hold_record-taken.ensures.counts,
+      further_on r (omega arith) c.hold_record-taken.ensures.counts,
       λ i m e.
           let o = b.invariant.2 i m e in
           let w = y.tells a.ranges.now below_root o.left m o.reads in
           let u = c.hold_record-taken.ensures.tells w.0 w.2 w.4 in
-          walk-child a.table.now a.pool.now a.ranges.now a.s.now below_root b.at c.cell-first.result c.cell-n.result b.item o c.in-Child.now c.in-Child.before w y.places.0 (λ j. held_after (schema_at a.table.now a.pool.now a.ranges.now below_root) r (kids j)) (λ n. v.tells w.0 w.2 w.4 n u.1) (λ _. sym (u.0 (kids w.1))),
+          walk_child a.table.now a.pool.now a.ranges.now a.s.now below_root b.at c.cell-first.result c.cell-n.result b.item o c.in-Child.now c.in-Child.before w y.places.0 (λ j. held_after (schema_at a.table.now a.pool.now a.ranges.now below_root) r (kids j)) (λ n. v.tells w.0 w.2 w.4 n u.1) (λ _. sym (u.0 (kids w.1))),
     )

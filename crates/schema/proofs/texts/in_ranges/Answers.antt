@@ -1,17 +1,17 @@
-use Rattle.schema.proofs.Ranges.{ranges-start, ranges-end, ranges-hit, ranges-pass}
+use Rattle.schema.proofs.Ranges.{ranges_start, ranges_end, ranges_hit, ranges_pass}
 use mathlib.Core.Path.{sym, ◌∙◌}
 use Rattle.schema.proofs.texts.in_ranges.Goals as goal
 
 pub loop-k-init : goal.loop-k-init
-loop-k-init c = λ t p y h. rw (← ranges-start t p _ _ _)
+loop-k-init c = λ t p y h. rw (← ranges_start t p _ _ _)
 
 pub returns-then-from-x : goal.returns-then-from-x
 returns-then-from-x c =
-    λ t p y h. ranges-hit t p _ _ _ _ _ _ c.loop-k-test.true c.number_at-from.ensures.0 c.number_at-to.ensures.0 c.number_at-to.ensures.1 h c.if-from-x.true ∙ c.loop-k.invariant t p y h
+    λ t p y h. ranges_hit t p _ _ _ _ _ _ c.loop-k-test.true c.number_at-from.ensures.0 c.number_at-to.ensures.0 c.number_at-to.ensures.1 h c.if-from-x.true ∙ c.loop-k.invariant t p y h
 
 pub loop-k-preserved : goal.loop-k-preserved
 loop-k-preserved c =
-    λ t p y h. sym (ranges-pass t p _ _ _ _ _ _ c.loop-k-test.true c.number_at-from.ensures.0 c.number_at-to.ensures.0 c.number_at-to.ensures.1 h c.if-from-x.false) ∙ c.loop-k.invariant t p y h
+    λ t p y h. sym (ranges_pass t p _ _ _ _ _ _ c.loop-k-test.true c.number_at-from.ensures.0 c.number_at-to.ensures.0 c.number_at-to.ensures.1 h c.if-from-x.false) ∙ c.loop-k.invariant t p y h
 
 pub returns : goal.returns
-returns c = λ t p y h. sym (ranges-end t p _ _ _ _ y c.loop-k-test.false) ∙ c.loop-k.invariant t p y h
+returns c = λ t p y h. sym (ranges_end t p _ _ _ _ y c.loop-k-test.false) ∙ c.loop-k.invariant t p y h

@@ -1,4 +1,4 @@
-use Rattle.soundness.proofs.FindPlace.{found_at, found-not}
+use Rattle.soundness.proofs.FindPlace.{found_at, found_not}
 use native.Mathlib.Omega.{arith}
 use Rattle.soundness.proofs.find.find_key.Goals as goal
 
@@ -10,7 +10,7 @@ stands-requires c = (rw c.count-cases.ensures.0 c.requires.2, c.requires.3, omeg
 
 pub returns-then-not-stands : goal.returns-then-not-stands
 returns-then-not-stands c =
-    λ u. found-not c.args.w c.args.reg.now c.args.probe.now _ _ _ c.count-cases.ensures.0 c.place-i.ensures c.stands.ensures u (c.if-not-stands.true)
+    λ u. found_not c.args.w c.args.reg.now c.args.probe.now _ _ _ c.count-cases.ensures.0 c.place-i.ensures c.stands.ensures u (c.if-not-stands.true)
 
 pub returns : goal.returns
 returns c =

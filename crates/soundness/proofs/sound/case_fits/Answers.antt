@@ -1,5 +1,5 @@
 use Rattle.soundness.proofs.CaseWalk.{row_number}
-use Rattle.soundness.proofs.OnePass.{case-out, case-first, case-next}
+use Rattle.soundness.proofs.OnePass.{case_out, case_first, case_next}
 use Prim.Native.Nat.{◌+◌, ◌-◌}
 use native.Mathlib.Omega.{arith}
 use Rattle.soundness.proofs.Within.{rows_before}
@@ -7,11 +7,11 @@ use Rattle.soundness.proofs.sound.case_fits.Goals as goal
 
 pub returns-then-not-case_row_allowed : goal.returns-then-not-case_row_allowed
 returns-then-not-case_row_allowed c =
-    case-out c.args.w c.args.reg.now c.row_at-row.result.now c.args.i _ (row_number _ _ _ _ c.row_at-row.ensures.0) c.row_at-row.ensures.1 c.case_row_allowed.ensures (c.if-not-case_row_allowed.true)
+    case_out c.args.w c.args.reg.now c.row_at-row.result.now c.args.i _ (row_number _ _ _ _ c.row_at-row.ensures.0) c.row_at-row.ensures.1 c.case_row_allowed.ensures (c.if-not-case_row_allowed.true)
 
 pub returns-then-i-eq0 : goal.returns-then-i-eq0
 returns-then-i-eq0 c =
-    case-first c.args.w c.args.reg.now c.row_at-row.result.now c.args.i _ (row_number _ _ _ _ c.row_at-row.ensures.0) c.row_at-row.ensures.1 c.case_row_allowed.ensures (c.if-not-case_row_allowed.false) c.if-i-eq0.true
+    case_first c.args.w c.args.reg.now c.row_at-row.result.now c.args.i _ (row_number _ _ _ _ c.row_at-row.ensures.0) c.row_at-row.ensures.1 c.case_row_allowed.ensures (c.if-not-case_row_allowed.false) c.if-i-eq0.true
 
 pub below-requires : goal.below-requires
 below-requires c =
@@ -19,4 +19,4 @@ below-requires c =
 
 pub returns : goal.returns
 returns c =
-    case-next c.args.w c.args.reg.now c.row_at-row.result.now c.args.i _ (row_number _ _ _ _ c.row_at-row.ensures.0) c.row_at-row.ensures.1 c.case_row_allowed.ensures _ (c.if-not-case_row_allowed.false) c.if-i-eq0.false c.below.ensures
+    case_next c.args.w c.args.reg.now c.row_at-row.result.now c.args.i _ (row_number _ _ _ _ c.row_at-row.ensures.0) c.row_at-row.ensures.1 c.case_row_allowed.ensures _ (c.if-not-case_row_allowed.false) c.if-i-eq0.false c.below.ensures

@@ -1,11 +1,11 @@
 use Prim.Native.Nat.{◌+◌}
-use Rattle.soundness.proofs.OnePass.{rest-start, case-not, run-bad, run_on, pass-done}
+use Rattle.soundness.proofs.OnePass.{rest_start, case_not, run_bad, run_on, pass_done}
 use Rattle.soundness.proofs.Within.{rows_before}
 use native.Mathlib.Omega.{arith}
 use Rattle.soundness.proofs.sound.rows_valid.Goals as goal
 
 pub loop-i-init : goal.loop-i-init
-loop-i-init c = (omega arith, omega arith, omega arith, rest-start c.args.w c.args.reg.now c.args.cases c.args.rows)
+loop-i-init c = (omega arith, omega arith, omega arith, rest_start c.args.w c.args.reg.now c.args.cases c.args.rows)
 
 pub case_fits-requires : goal.case_fits-requires
 case_fits-requires c =
@@ -13,11 +13,11 @@ case_fits-requires c =
 
 pub returns-then-not-case_fits : goal.returns-then-not-case_fits
 returns-then-not-case_fits c =
-    case-not c.args.w c.args.reg.now c.args.cases c.args.rows _ c.requires.3 c.requires.2 c.loop-i.i c.loop-i.j c.loop-i.invariant.3 c.loop-i-test.true _ c.case_fits.ensures (c.if-not-case_fits.true)
+    case_not c.args.w c.args.reg.now c.args.cases c.args.rows _ c.requires.3 c.requires.2 c.loop-i.i c.loop-i.j c.loop-i.invariant.3 c.loop-i-test.true _ c.case_fits.ensures (c.if-not-case_fits.true)
 
 pub returns-in_default : goal.returns-in_default
 returns-in_default c =
-    run-bad c.args.w c.args.reg.now c.args.cases c.args.rows _ c.requires.3 c.requires.2 c.loop-i.i c.loop-i.j c.loop-i.invariant.3 c.loop-i-test.true _ c.case_events.ensures c.in_default.is
+    run_bad c.args.w c.args.reg.now c.args.cases c.args.rows _ c.requires.3 c.requires.2 c.loop-i.i c.loop-i.j c.loop-i.invariant.3 c.loop-i-test.true _ c.case_events.ensures c.in_default.is
 
 pub loop-i-preserved : goal.loop-i-preserved
 loop-i-preserved c =
@@ -26,4 +26,4 @@ loop-i-preserved c =
 
 pub returns : goal.returns
 returns c =
-    pass-done c.args.w c.args.reg.now c.args.cases c.args.rows _ c.requires.3 c.requires.2 c.loop-i.i c.loop-i.j c.loop-i.invariant.3 c.loop-i-test.false c.loop-i.invariant.2
+    pass_done c.args.w c.args.reg.now c.args.cases c.args.rows _ c.requires.3 c.requires.2 c.loop-i.i c.loop-i.j c.loop-i.invariant.3 c.loop-i-test.false c.loop-i.invariant.2

@@ -2,33 +2,33 @@ use lib.ListN.{length}
 use mathlib.Core.Path.{◌∙◌, ap, refl}
 use native.Mathlib.Omega.{arith}
 use Rattle.markup.specs.Elements.{kids}
-use Rattle.nodes.proofs.Walking.{look-gone, look-past, look-start, look-stuck}
-use Rattle.tracks.proofs.Gathering.{gather, gather-all, gather-end, gather-on, kept-length, ready-here, ready-past}
+use Rattle.nodes.proofs.Walking.{look_gone, look_past, look_start, look_stuck}
+use Rattle.tracks.proofs.Gathering.{gather, gather_all, gather_end, gather_on, kept-length, ready_here, ready_past}
 use Rattle.tracks.proofs.events.events_from.Goals as goal
 
 -- The invariant: the tally and the buffers, moved on by the children ahead, are those of all the children; and those ahead can be read.
 
 pub loop-q-init : goal.loop-q-init
 loop-q-init c =
-    (omega arith, omega arith, refl, refl, (let k = c.requires.1 in record { inside = k.0; holds = k.1; worded = k.2 }), λ i w. look-start (gather _ c.args.out.now c.args.beside.now) w)
+    (omega arith, omega arith, refl, refl, (let k = c.requires.1 in record { inside = k.0; holds = k.1; worded = k.2 }), λ i w. look_start (gather _ c.args.out.now c.args.beside.now) w)
 
 pub returns-in_default : goal.returns-in_default
 returns-in_default c =
     let k = rw c.in_default.is at c.next_kid.ensures in
-    λ i w. let v = c.loop-q.invariant.5 i w in gather-all c.args.out.now c.args.beside.now (kids i) (look-gone v (k.0 _ _ v.holds) ∙ gather-end _ _ _)
+    λ i w. let v = c.loop-q.invariant.5 i w in gather_all c.args.out.now c.args.beside.now (kids i) (look_gone v (k.0 _ _ v.holds) ∙ gather_end _ _ _)
 
 pub returns-in_default-skip : goal.returns-in_default-skip
 returns-in_default-skip c =
     let k = rw c.in-At.is at c.next_kid.ensures in
     let y = rw c.in_default-skip.is at c.skip.ensures in
-    λ i w. let v = c.loop-q.invariant.5 i w in let a = k.0 _ _ v.holds in look-stuck v a (y.0 _ a.tree a.after a.reads)
+    λ i w. let v = c.loop-q.invariant.5 i w in let a = k.0 _ _ v.holds in look_stuck v a (y.0 _ a.tree a.after a.reads)
 
 pub event_at-h-requires : goal.event_at-h-requires
 event_at-h-requires c =
     let k = rw c.in-At.is at c.next_kid.ensures in
     let r = c.loop-q.invariant.4 in
     let a = k.0 _ _ r.holds in
-    (c.requires.0, (a.tree, a.after, a.reads, ready-here r a))
+    (c.requires.0, (a.tree, a.after, a.reads, ready_here r a))
 
 pub keep-tally-requires : goal.keep-tally-requires
 keep-tally-requires c =
@@ -50,7 +50,7 @@ loop-q-preserved c =
       omega arith,
       ap length c.keep-tally.ensures.1 ∙ (kept-length c.event_at-h.result c.loop-q.tally.count c.loop-q.out).0 ∙ c.loop-q.invariant.2,
       ap length c.keep-tally.ensures.2 ∙ (kept-length c.event_at-h.result c.loop-q.tally.count c.loop-q.beside).1 ∙ c.loop-q.invariant.3,
-      (let r = c.loop-q.invariant.4 in ready-past r (k.0 _ _ r.holds) (y.0 _ (k.0 _ _ r.holds).tree (k.0 _ _ r.holds).after (k.0 _ _ r.holds).reads)),
+      (let r = c.loop-q.invariant.4 in ready_past r (k.0 _ _ r.holds) (y.0 _ (k.0 _ _ r.holds).tree (k.0 _ _ r.holds).after (k.0 _ _ r.holds).reads)),
       λ i w. let v = c.loop-q.invariant.5 i w in let a = k.0 _ _ v.holds in
-          look-past v a (λ ts. gather-on _ _ _ a.tree ts (c.event_at-h.ensures a.tree a.after a.reads) c.keep-tally.ensures.0 c.keep-tally.ensures.1 c.keep-tally.ensures.2) (y.0 _ a.tree a.after a.reads),
+          look_past v a (λ ts. gather_on _ _ _ a.tree ts (c.event_at-h.ensures a.tree a.after a.reads) c.keep-tally.ensures.0 c.keep-tally.ensures.1 c.keep-tally.ensures.2) (y.0 _ a.tree a.after a.reads),
     )

@@ -2,21 +2,21 @@ use mathlib.Core.Path.{◌∙◌, ap}
 use lib.ListN.{drop}
 use Rattle.reading.specs.Many.{below_root}
 use Rattle.home_care.specs.Record.{padded}
-use Rattle.tracks.proofs.ShapedAdmissions.{case-shaped}
+use Rattle.tracks.proofs.ShapedAdmissions.{case_shaped}
 use Rattle.tracks.proofs.record.admission.Goals as goal
 
 pub valued-v-requires : goal.valued-v-requires
 valued-v-requires c =
     let k = c.requires in
     let x = k.1 in
-    let h = case-shaped k.0 below_root (drop x.at c.args.s.now) x.tops.after x.tops.reads x.clean in
+    let h = case_shaped k.0 below_root (drop x.at c.args.s.now) x.tops.after x.tops.reads x.clean in
     (_, c.child.ensures _ x.tops.found.d, h.scales)
 
 pub text_number-requires : goal.text_number-requires
 text_number-requires c =
     let k = c.requires in
     let x = k.1 in
-    let h = case-shaped k.0 below_root (drop x.at c.args.s.now) x.tops.after x.tops.reads x.clean in
+    let h = case_shaped k.0 below_root (drop x.at c.args.s.now) x.tops.after x.tops.reads x.clean in
     let p = c.several-p.ensures _ (c.child-person.ensures _ x.tops.found.b) in
     (_, p.a, h.birth)
 

@@ -1,5 +1,5 @@
 use mathlib.Core.Path.{◌∙◌}
-use Rattle.widening.proofs.Answers.{not_sound, sound-long, no_header, no_room, rows_fit, laid}
+use Rattle.widening.proofs.Answers.{not_sound, sound_long, no_header, no_room, rows_fit, laid}
 use native.Mathlib.Omega.{arith}
 use Rattle.widening.proofs.convert.convert.Goals as goal
 
@@ -8,11 +8,11 @@ returns-then-not-sound_wide c = not_sound c.args.old.now c.args.new.now c.sound_
 
 pub count-requires : goal.count-requires
 count-requires c =
-    omega (arith, sound-long c.args.old.now c.args.new.now c.sound_wide.result c.sound_wide.ensures c.if-not-sound_wide.false-raw)
+    omega (arith, sound_long c.args.old.now c.args.new.now c.sound_wide.result c.sound_wide.ensures c.if-not-sound_wide.false-raw)
 
 pub count-requires-2 : goal.count-requires-2
 count-requires-2 c =
-    omega (arith, sound-long c.args.old.now c.args.new.now c.sound_wide.result c.sound_wide.ensures c.if-not-sound_wide.false-raw)
+    omega (arith, sound_long c.args.old.now c.args.new.now c.sound_wide.result c.sound_wide.ensures c.if-not-sound_wide.false-raw)
 
 pub returns-then-new-lt4 : goal.returns-then-new-lt4
 returns-then-new-lt4 c =

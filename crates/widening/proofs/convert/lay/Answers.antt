@@ -3,7 +3,7 @@ use mathlib.Core.List.{List, ◌++◌}
 use mathlib.Core.Path.{sym, ap, ◌∙◌}
 use lib.ListN.{length-take}
 use lib.Seq.{length-take-le}
-use Rattle.widening.proofs.Laying.{laid_none, laid_next, laid-all, behind}
+use Rattle.widening.proofs.Laying.{laid_none, laid_next, laid_all, behind}
 use native.Mathlib.Omega.{arith}
 use Rattle.widening.proofs.convert.lay.Goals as goal
 
@@ -22,4 +22,4 @@ loop-i-preserved c =
 
 pub returns : goal.returns
 returns c =
-    laid-all c.args.old.now c.args.rows c.requires.1 c.put_row.new.part c.loop-i.new c.clear.new.part c.loop-i.i c.loop-i.invariant _ c.put_row.auto.part c.requires.2 c.requires.0 (omega arith) c.clear.ensures
+    laid_all c.args.old.now c.args.rows c.requires.1 c.put_row.new.part c.loop-i.new c.clear.new.part c.loop-i.i c.loop-i.invariant _ c.put_row.auto.part c.requires.2 c.requires.0 (omega arith) c.clear.ensures
