@@ -35,6 +35,7 @@ pub fn is_region(n: u64) -> bool
 }
 
 // A code of the list of an event's kind; a number that is no kind has none.
+#[tactic(auto, unfolding(laws::specs::Lists::any))]
 pub fn is_code(kind: u64, code: u64) -> bool
     ensures { result ≡ in_ranges (codes_of kind) code }
 {

@@ -13,6 +13,7 @@ use markup::{Got, Move};
 use reading::skips::{head, skip};
 
 // A node that is missing is the child at a place where that has the name.
+#[tactic(auto, unfolding(crate::specs::Several::meets))]
 fn met(n: Node, named: bool, at: usize, levels: usize) -> Node
     ensures { result ≡ meets named at levels n }
 {
