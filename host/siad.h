@@ -1,17 +1,17 @@
 /* The calls of the SIAD intake (crates/exports_c), in C and C++. What each answers, and what every lent byte holds
    afterwards, is stated and proved in crates/exports_c/src/lib.rt. `rt lib` in crates/exports_c makes the archive, for
-   x86-64.
+   x86-64 processors from the level x86-64-v2 on.
 
    Lent: a slice is a pointer and a length, which must be that of the buffer. Buffers of one call must not overlap, and
    nobody else may write to them while it runs. Pass no NULL: the proved code's references are never null. With length 0
    NULL was tried for each slice (host/test.c), and was answered as an empty buffer is; nothing promises that.
    Threads: no state is kept between calls (the archive has no writable data) and no memory is taken but stack, so calls
    over buffers of their own may run at the same time.
-   Stack: measured, not proved, and of the archive that the older toolchain made (docs/PORT.md): siad_submit at most
-   15,752 bytes on the files that bench/stack makes, hostile ones among them; siad_sound 10,111 and siad_find 10,479,
-   each on a register of 4,096 rows, a case and its reassessments; siad_cancel_file 11,456, for 1 to 1,274 events
-   (bench/cancel); siad_evaluation 10,688 and siad_convert 10,096, for 1 to 4,095 events (bench/evaluation). Keep 16 KB
-   free. */
+   Stack: measured, not proved: siad_submit at most 14,824 bytes on the files that bench/stack makes, hostile ones among
+   them; siad_cancel_file 10,740, for 1 to 1,274 events (bench/cancel); siad_evaluation 10,485 and siad_convert 10,052,
+   for 1 to 4,095 events (bench/evaluation). Of the archive that the older toolchain made (docs/PORT.md), not measured
+   again: siad_sound 10,111 and siad_find 10,479, each on a register of 4,096 rows, a case and its reassessments. Keep
+   16 KB free. */
 #ifndef SIAD_H
 #define SIAD_H
 #include <stddef.h>

@@ -1,17 +1,19 @@
 #!/usr/bin/env python3
-"""Brings the definitions and lemmas of specs/ and proofs/ to snake case: `firstBits` becomes `first_bits`, `endTag-local` `end_tag-local`.
+"""Brings the definitions and lemmas of specs/ and proofs/ to snake case: `firstBits` becomes `first_bits`, `endTag-local` `end_tag_local`.
 
 usage: python3 tools/respell.py [--list]      at the top of the repository
 
 Types, facts and modules keep their capitals; functions of src/, exported C names, strings, inputs and outputs keep their names.
 A name is turned only if an .antt file has it; `getD` becomes the library's `get_or`. In .rt and .edit files it is turned outside strings
-and comments; in their comments and in pages only between backticks, and there and in comments of .antt files only where it is no name of
-the XML schemas. Where two turned names fall together, they are printed and nothing is written. With --list the names are printed, also
+and `//` comments; in these comments and in pages only between backticks, and there and in comments of .antt files only where it is no
+name of the XML schemas. Where two turned names fall together, they are printed and nothing is written. With --list the names are printed, also
 those whose new form some .antt file has already: a function or a parameter of another place, or a lemma to be renamed by hand.
 
 Lemmas, fields and constructors follow the list tools/respelled.tsv, old name and new: a dash stays between two names that stand in the
-statement, and a plain word is joined by `_`; where that would be the name of something else in one of the files, `_lem` is added. In the
-proofs of functions a step or a goal that the checker names (after `c.`, `w.`, `l.` or `goal.`) stays.
+statement, and a plain word is joined by `_` (by `_` throughout where a name is declared more than once and the two would differ). Where
+the new name would be that of something else in one of the files, `_lem` is added in every file. A name that some file took from a library
+is not in the list; no file may take one that is, since it would be turned too. In the proofs of functions a step or a goal that the
+checker names (after `c.`, `w.`, `l.` or `goal.`) stays.
 """
 
 import collections
@@ -161,7 +163,8 @@ def main():
     if bad:
         raise SystemExit(2)
     lemmas = listed()
-    pages = [p for top in ("docs", "bench", "host") for p in files(top, ".md")] + ["README.md"]
+    # The port's page has the old names beside the new.
+    pages = [p for top in ("docs", "bench", "host") for p in files(top, ".md") if p != os.path.join("docs", "PORT.md")] + ["README.md"]
     for path in [*files("crates", (".antt", ".rt", ".edit")), *pages]:
         text = read(path)
         turn = in_antt if path.endswith(".antt") else in_page if path.endswith(".md") else in_rt
