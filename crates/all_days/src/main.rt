@@ -3,10 +3,9 @@
 // What it must write was made by another tool (docs/CALENDAR.md).
 #![tactic(auto)]
 
-ghost use Rattle.days.specs.Table.{Firsts};
-
-use days::dates::Date;
+use days::dates::{Date, read_date};
 use days::quarters::Quarter;
+use days::table::Table;
 use std::io;
 
 #[derive(Clone, Copy)]
@@ -35,10 +34,8 @@ fn text(y: u32, m: u32, d: u32) -> [u8; 10] {
     ]
 }
 
-fn with_text(t: &[u32; 2400], sum: Sum, s: [u8; 10]) -> Sum
-    requires { Firsts t.now }
-{
-    let Date::Day { day, next: _ } = days::dates::read_date(t, &s, 0) else {
+fn with_text(t: &Table, sum: Sum, s: [u8; 10]) -> Sum {
+    let Some(Date { day, next: _ }) = read_date(t, &s, 0) else {
         return sum;
     };
     Sum {
@@ -50,9 +47,7 @@ fn with_text(t: &[u32; 2400], sum: Sum, s: [u8; 10]) -> Sum
     }
 }
 
-fn of_year(t: &[u32; 2400], y: u32) -> Sum
-    requires { Firsts t.now }
-{
+fn of_year(t: &Table, y: u32) -> Sum {
     let mut sum = Sum {
         dates: 0,
         days: 0,
@@ -70,17 +65,15 @@ fn put(rt: &impl Print, n: u64) -> io::Result<()> {
 
 fn quarter(rt: &impl Print, y: u32, q: u64) -> io::Result<()> {
     match days::quarters::quarter_days(y as u64, q) {
-        Quarter::Days { first, last } => {
+        Some(Quarter { first, last }) => {
             put(rt, first as u64)?;
             put(rt, last as u64)
         }
-        Quarter::Refused => print!(rt; " -"),
+        None => print!(rt; " -"),
     }
 }
 
-fn line(rt: &impl Print, t: &[u32; 2400], y: u32) -> io::Result<()>
-    requires { Firsts t.now }
-{
+fn line(rt: &impl Print, t: &Table, y: u32) -> io::Result<()> {
     print!(rt; "{y}")?;
     let sum = of_year(t, y);
     put(rt, sum.dates)?;

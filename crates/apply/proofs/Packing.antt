@@ -1,6 +1,6 @@
 -- A row packed behind the probe's key, and the bytes that the code cuts out for it.
 use Prim.Native.Nat.{ℕ, ◌+◌, ◌-◌, ◌*◌, ◌/◌, ◌%◌, ◌^◌, ◌≤◌, ◌<◌}
-use mathlib.Core.Path.{◌≡◌, refl, sym, ap, ap₂, subst, ◌∙◌}
+use mathlib.Core.Path.{◌≡◌, sym, ap, ap₂, subst, ◌∙◌}
 use mathlib.Core.List.{List, ◌++◌, append-nil}
 use native.Mathlib.Omega.{arith}
 use lib.ListN.{length, take, drop, length-drop, drop_of_length-le}
@@ -38,16 +38,16 @@ unfolding probe_key
 probe_small probe f l = shr_lt key_bits (case_rest siad) (rw l at (num_lt probe f))
 
 -- the writer that has written it
-pub key_held : (probe : List ℕ) (r : ℕ) → Fit (each 8 probe) → length probe ≡ row_bytes → HeldAt probe (8 * key_bytes) key_more r →
-    Keyed probe (record { acc = r; have = key_more; at = key_bytes }) (probe_key row_bytes key_bits probe)
+pub key_held : (probe : List ℕ) (s : Bits) → s.have ≡ key_more → s.at ≡ key_bytes → Fit (each 8 probe) → length probe ≡ row_bytes →
+    HeldAt probe (8 * key_bytes) key_more s.acc → Keyed probe s (probe_key row_bytes key_bits probe)
 unfolding probe_key
-key_held probe r f l h =
+key_held probe s more whole f l h =
     let p : num (take key_bytes probe) ≡ num probe / 2 ^ (8 * (row_bytes - key_bytes)) = sym (prefix probe key_bytes f) ∙ ap (λ (n : ℕ). num probe / 2 ^ (8 * (n - key_bytes))) l in
-    let v : r ≡ num probe / 2 ^ case_rest siad % 2 ^ key_more = h.value ∙ ap (λ (n : ℕ). num probe / 2 ^ (8 * n - key_bits) % 2 ^ key_more) l in
+    let v : s.acc ≡ num probe / 2 ^ case_rest siad % 2 ^ key_more = h.value ∙ ap (λ (n : ℕ). num probe / 2 ^ (8 * n - key_bits) % 2 ^ key_more) l in
     record {
-      tidy = record { few = omega arith; small = h.small };
-      bits = refl;
-      holds = ap₂ (λ (x y : ℕ). x * 2 ^ key_more + y) p v ∙ high_part (num probe);
+      tidy = record { few = s.few; small = s.small };
+      bits = omega arith;
+      holds = ap₂ (λ (at have : ℕ). num (take at probe) * 2 ^ have + s.acc) whole more ∙ ap₂ (λ (x y : ℕ). x * 2 ^ key_more + y) p v ∙ high_part (num probe);
       small = probe_small probe f l;
       wide = l;
     }

@@ -42,16 +42,13 @@ pub fn cancel_events(reg: &mut [u8], probe: &[u8], evs: &[u64])
     }
     let span = case_range(reg, ROW, c, n, probe, CASE_KEY);
     let lo = span.lo;
-    let k = evs.len();
     let mut i = span.hi;
-    let mut j = 0;
     let mut bound = OWN_KEYS;
-    while j < k {
+    for j in 0..evs.len() {
         // There is one, and its row stands in front of the gap.
-        let p = next_below(evs, bound);
-        if k <= p {
+        let Some(p) = next_below(evs, bound) else {
             return;
-        }
+        };
         let e = evs[p];
         bound = event_key_of(e);
         let r = place_event(reg, lo, i, e);
@@ -60,8 +57,7 @@ pub fn cancel_events(reg: &mut [u8], probe: &[u8], evs: &[u64])
         }
         widen(reg, r, i, j);
         i = r;
-        j += 1;
-        set_count(reg, 2, n - c - j);
+        set_count(reg, 2, n - c - (j + 1));
     }
-    remove_rows(reg, ROW, i, j, n);
+    remove_rows(reg, ROW, i, evs.len(), n);
 }

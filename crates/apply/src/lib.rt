@@ -25,50 +25,54 @@ ghost use Rattle.checks.specs.CheckOrder.{checks_of};
 ghost use Rattle.apply.specs.Events.{ListedIn};
 
 use crate::cancel::cancel_events;
-use crate::case::put_case;
+use crate::case::{Fields, put_case};
 use crate::insert::insert_events;
+use crate::probe::key_in;
 use crate::vary::vary_events;
 use checks::kinds::{cancels, inserts};
 use home_care::layout::{CASE_KEY, ROW};
 use register::remove::remove_case;
 
+// A record's events, each with the evaluation that is kept beside it, in as many bits as a row has for them.
+#[derive(Clone, Copy)]
+pub struct Listed<'a> {
+    pub evs: &'a [u64],
+    pub kept: &'a [u64],
+    ghost events_fit: { all (λ e. ltb e (2 ^ event_bits)) evs.now ≡ true },
+    ghost evaluations_fit: { all (λ v. ltb v (2 ^ evaluation_bits)) kept.now ≡ true },
+    ghost beside: { length kept.now ≡ length evs.now },
+}
+
 // An accepted record of Track 1: its case's row, with the key that the probe holds; a cancellation takes the case's events along.
-pub fn apply_case(
-    reg: &mut [u8],
-    tipo: u8,
-    probe: &[u8],
-    birth: u64,
-    prevalente: &[u8],
-    scales: &[u8],
-)
-    requires { (length probe.now ≡ row_bytes) × CaseFits (case_with birth prevalente.now scales.now) }
+pub fn apply_case(reg: &mut [u8], tipo: u8, probe: &[u8], f: &Fields)
+    requires { (length probe.now ≡ row_bytes) × CaseFits (case_with f.now.birth f.now.prevalente.now f.now.scales.now) }
     ensures { ((h : Head) (a : Admission) (s : State ℕ ℕ) (c : Context) → key_number h.key ≡ probe_key row_bytes key_bits probe.now → tipo ≡ h.tipo
-        → a.case ≡ case_with birth prevalente.now scales.now → c.room ≡ room siad (length reg.old)
+        → a.case ≡ case_with f.now.birth f.now.prevalente.now f.now.scales.now → c.room ≡ room siad (length reg.old)
         → Stored siad reg.old s → first (checks_of c (admission h a)) s ≡ 0 → Stored siad reg.new (next (admission h a) s))
         × (length reg.new ≡ length reg.old) }
 {
     if cancels(tipo) {
         remove_case(reg, ROW, CASE_KEY, probe);
     } else {
-        put_case(reg, probe, birth, prevalente, scales);
+        put_case(reg, &key_in(probe), f);
     }
 }
 
 // An accepted record of Track 2: its events' rows, with the case's key that the probe holds and the evaluations that are kept.
-pub fn apply_events(reg: &mut [u8], tipo: u8, probe: &[u8], evs: &[u64], kept: &[u64])
-    requires { (length probe.now ≡ row_bytes) × (all (λ e. ltb e (2 ^ event_bits)) evs.now ≡ true) × (all (λ v. ltb v (2 ^ evaluation_bits)) kept.now ≡ true) × (length kept.now ≡ length evs.now) }
+pub fn apply_events(reg: &mut [u8], tipo: u8, probe: &[u8], said: &Listed)
+    requires { length probe.now ≡ row_bytes }
     ensures { ((h : Head) (es : List Said) (s : State ℕ ℕ) (c : Context) → key_number h.key ≡ probe_key row_bytes key_bits probe.now
-        → tipo ≡ h.tipo → ListedIn evs.now kept.now es → c.room ≡ room siad (length reg.old)
+        → tipo ≡ h.tipo → ListedIn said.now.evs.now said.now.kept.now es → c.room ≡ room siad (length reg.old)
         → Stored siad reg.old s → first (checks_of c (events h es)) s ≡ 0 → Stored siad reg.new (next (events h es) s))
         × (length reg.new ≡ length reg.old) }
 {
     if inserts(tipo) {
-        insert_events(reg, probe, evs, kept);
+        insert_events(reg, &key_in(probe), said);
         return;
     }
     if cancels(tipo) {
-        cancel_events(reg, probe, evs);
+        cancel_events(reg, probe, said.evs);
         return;
     }
-    vary_events(reg, probe, evs, kept);
+    vary_events(reg, &key_in(probe), said);
 }

@@ -1,4 +1,4 @@
-// The key that a case's probe holds, as the writer that wrote it: a row takes it over with the probe's bytes, and no key is packed twice.
+// The key that a case's probe holds, with the writer that wrote it: a row takes it over with the probe's bytes, and no key is packed twice.
 ghost use Rattle.std.specs.Prelude.{◌≡◌, length};
 ghost use Rattle.register.specs.Search.{probe_key};
 ghost use Rattle.home_care.specs.Row.{row_bytes, key_bits};
@@ -12,14 +12,22 @@ const BYTES: usize = 82;
 
 const MORE: usize = 6;
 
-// The writer behind the probe's key.
-pub fn key_in(probe: &[u8]) -> Bits
-    requires { length probe.now ≡ row_bytes }
-    ensures { Keyed probe.now result (probe_key row_bytes key_bits probe.now) }
+// A row with a case's key, and the writer behind it.
+#[derive(Clone, Copy)]
+pub struct Probe<'a> {
+    pub row: &'a [u8],
+    pub key: Bits,
+    ghost keyed: { Keyed row.now key (probe_key row_bytes key_bits row.now) },
+}
+
+pub fn key_in(row: &[u8]) -> Probe
+    requires { length row.now ≡ row_bytes }
+    ensures { result.row.now ≡ row.now }
 {
-    Bits {
-        acc: get(probe, 8 * BYTES, MORE),
+    let key = Bits {
+        acc: get(row, 8 * BYTES, MORE),
         have: MORE,
         at: BYTES,
-    }
+    };
+    Probe { row, key }
 }

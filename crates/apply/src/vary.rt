@@ -1,12 +1,11 @@
 // A record's events over those with their keys.
-ghost use Rattle.std.specs.Prelude.{◌≡◌, true, ◌^◌, ltb, length};
-ghost use Rattle.laws.specs.Lists.{all};
 ghost use Rattle.register.specs.Search.{probe_key};
-ghost use Rattle.home_care.specs.Row.{row_bytes, key_bits, event_bits, evaluation_bits};
+ghost use Rattle.home_care.specs.Row.{row_bytes, key_bits};
 ghost use Rattle.apply.specs.Events.{AllOver};
 
+use crate::Listed;
 use crate::event_row::set_row;
-use crate::probe::key_in;
+use crate::probe::Probe;
 use home_care::event_rows::place_event;
 use home_care::layout::{CASE_KEY, ROW};
 use register::counts::count;
@@ -14,9 +13,8 @@ use register::room::room_for;
 use register::search::case_range;
 
 // The events of a record whose keys all stand (15): each is packed over the row with its key.
-pub fn vary_events(reg: &mut [u8], probe: &[u8], evs: &[u64], kept: &[u64])
-    requires { (length probe.now ≡ row_bytes) × (all (λ e. ltb e (2 ^ event_bits)) evs.now ≡ true) × (all (λ v. ltb v (2 ^ evaluation_bits)) kept.now ≡ true) × (length kept.now ≡ length evs.now) }
-    ensures { AllOver (probe_key row_bytes key_bits probe.now) evs.now kept.now reg.old reg.new }
+pub fn vary_events(reg: &mut [u8], probe: &Probe, said: &Listed)
+    ensures { AllOver (probe_key row_bytes key_bits probe.now.row.now) said.now.evs.now said.now.kept.now reg.old reg.new }
 {
     if reg.len() < 4 {
         return;
@@ -26,16 +24,15 @@ pub fn vary_events(reg: &mut [u8], probe: &[u8], evs: &[u64], kept: &[u64])
     if !room_for(reg, ROW, n) {
         return;
     }
-    let key = key_in(probe);
-    let span = case_range(reg, ROW, c, n, probe, CASE_KEY);
+    let span = case_range(reg, ROW, c, n, probe.row, CASE_KEY);
     let lo = span.lo;
     let hi = span.hi;
-    let mut i = evs.len();
-    while 0 < i {
-        i -= 1;
-        let r = place_event(reg, lo, hi, evs[i]);
+    // by places: from the back a `zip` first skips what one list has more, and its proof with it
+    for i in (0..said.evs.len()).rev() {
+        let e = said.evs[i];
+        let r = place_event(reg, lo, hi, e);
         if r < hi {
-            set_row(reg, r, probe, key, evs[i], kept[i]);
+            set_row(reg, r, probe, e, said.kept[i]);
         }
     }
 }

@@ -19,9 +19,9 @@ ghost use Rattle.apply.specs.Events.{ListedIn};
 use home_care::layout::ROW;
 
 // No event of 52 bits is so large, and no evaluation of 47.
-const PAST_EVENTS: u64 = 4503599627370496;
+const PAST_EVENTS: u64 = 1 << 52;
 
-const PAST_EVALUATIONS: u64 = 140737488355328;
+const PAST_EVALUATIONS: u64 = 1 << 47;
 
 #[unsafe(no_mangle)]
 pub extern "C" fn bench_in_markup(s: &[u8]) -> bool
@@ -34,13 +34,7 @@ pub extern "C" fn bench_in_markup(s: &[u8]) -> bool
 fn all_below(ns: &[u64], past: u64) -> bool
     ensures { result ≡ all (λ e. ltb e past) ns.now }
 {
-    let mut good = true;
-    let mut i = 0;
-    while i < ns.len() {
-        good = good & (ns[i] < past);
-        i += 1;
-    }
-    good
+    ns.iter().all(|n| *n < past)
 }
 
 // Whether each event has an event's 52 bits, and there is an evaluation of 47 bits for each.
@@ -73,6 +67,7 @@ pub extern "C" fn bench_store_events(
     if !storable(evs, kept) {
         return false;
     }
-    apply::apply_events(reg, tipo, probe, evs, kept);
+    let said = apply::Listed { evs, kept };
+    apply::apply_events(reg, tipo, probe, &said);
     true
 }

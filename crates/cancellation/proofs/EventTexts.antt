@@ -1,13 +1,14 @@
 -- An event's text (RULES.md, U13 to U15): put together from its parts, before what follows it, and how long it is.
 use Prim.Native.Nat.{ℕ, zero, suc, ◌+◌, ◌*◌, ◌/◌, ◌^◌, ◌≤◌, ◌<◌}
 use Prim.Native.Char.{code}
-use mathlib.Core.Path.{◌≡◌, refl, sym, ap, subst, ◌∙◌}
+use mathlib.Core.Path.{◌≡◌, refl, sym, ap, ◌∙◌}
+use Rattle.std.specs.Prelude.{Some}
+use Rattle.std.specs.Bool.{then_some}
 use mathlib.Core.Bool.{Bool, true, false, cond, not, ◌||◌, or-false, false≢true}
 use mathlib.Core.List.{List, [], ◌∷◌, ◌++◌, append_assoc}
-use mathlib.Core.Logic.{◌⊎◌, inl, inr}
 use native.Mathlib.Omega.{arith}
-use lib.Dec.{eqb, ltb, leb}
-use lib.ListN.{length, get_or, length-append}
+use lib.Dec.{eqb, ltb}
+use lib.ListN.{length, length-append}
 use borrow.Author.Tests.{leb-true}
 use Rattle.laws.specs.Lists.{all, any, bytes}
 use Rattle.laws.proofs.Truth.{and_left, and_right}
@@ -15,7 +16,7 @@ use Rattle.text.specs.Put.{Put}
 use Rattle.text.specs.Spelled.{spelled}
 use Rattle.text.proofs.PutLaws.{put_none, put_on}
 use Rattle.text.proofs.SpelledLaws.{spelled_one, spelled_tens, spelled_short}
-use Rattle.codes.specs.CodesAndCharacters.{in_ranges, revaluation, service, suspension, codes_of, confirmations}
+use Rattle.codes.specs.CodesAndCharacters.{in_ranges, codes_of, confirmations}
 use Rattle.codes.proofs.Ranges.{ranges_below}
 use Rattle.days.specs.DayNumbers.{day_count}
 use Rattle.days.specs.WrittenDates.{date_text}
@@ -27,9 +28,12 @@ use Rattle.reading.specs.Print.{pairs_on, end_on, print_on}
 use Rattle.reading.proofs.Round.{pairs_append, print_append}
 use Rattle.home_care.specs.Row.{Event, never, event_bits, kind_of, date_of, code_of, end_of, accesses_of, conferma_of, event_in}
 use Rattle.home_care.specs.Allowed.{end_allowed, accesses_allowed, conferma_allowed, event_allowed}
-use Rattle.tracks.specs.EventElements.{Wording, rivalutazione, erogazione, sospensione, conclusione}
+use Rattle.tracks.specs.declared.wordings.Wording.{Wording as Held}
+use Rattle.tracks.specs.EventElements.{Wording, worded_by, rivalutazione, erogazione, sospensione, conclusione}
 use Rattle.cancellation.specs.FileText.{given, text_on, attributes_by, event_worded, wording_of}
-use Rattle.cancellation.specs.View.{event_text}
+use Rattle.cancellation.specs.declared.event_text.Value.{Value}
+use Rattle.cancellation.specs.declared.event_text.Value.TheVariants.{Day, Number}
+use Rattle.cancellation.specs.View.{event_text, attribute_long, said, valued}
 
 -- ---- parts one after the other
 
@@ -55,23 +59,23 @@ five_before a b c d f r =
 
 -- ---- put
 
--- an attribute, where it stands
-pub put_given : {at a b r : ℕ} {x y z u v : List ℕ} {stands : Bool} (n : List ℕ) → stands ≡ true → Put at (bytes " " ++ (n ++ bytes "=\"")) x y a
-    → Put a v y z b → Put b (bytes "\"") z u r → Put at (pairs_on (given stands n v) []) x u r
-put_given {v = v} n e p q s = rw (e, ← append_assoc n (bytes "=\"") (v ++ bytes "\"")) (put_on p (put_on q s))
+-- an attribute that has a value
+pub put_valued : {at a b r : ℕ} {x y z u : List ℕ} (n : List ℕ) (v : Value) → Put at (bytes " " ++ (n ++ bytes "=\"")) x y a
+    → Put a (said v) y z b → Put b (bytes "\"") z u r → Put at (pairs_on (valued n (Some v)) []) x u r
+put_valued n v p q s = rw (← append_assoc n (bytes "=\"") (said v ++ bytes "\"")) (put_on p (put_on q s))
 
--- nothing, where it doesn't
-pub put_missing : {at : ℕ} {out : List ℕ} {stands : Bool} (n v : List ℕ) → stands ≡ false → Put at (pairs_on (given stands n v) []) out out at
-put_missing {at} {out} n v e = rw e (put_none at out)
+-- one that has a value where a test is passed
+valued_given : (n : List ℕ) (b : Bool) (v : Value) → valued n (then_some b v) ≡ given b n (said v)
+valued_given n true v = refl
+valued_given n false v = refl
 
--- a child, where it stands
-pub put_textual : {at a b c d r : ℕ} {x y z u o l v : List ℕ} {stands : Bool} (n : List ℕ) → stands ≡ true → Put at (bytes "<") x y a → Put a n y z b
-    → Put b (bytes ">") z u c → Put c v u o d → Put d (end_on n []) o l r → Put at (print_on (cond stands (text_on n v end) end) []) x l r
-put_textual n e p q s t w = rw e (put_on p (put_on q (put_on s (put_on t w))))
+-- a child that stands, and one that doesn't
+pub put_inside : {at r : ℕ} {x y : List ℕ} {stands : Bool} (n : List ℕ) (v : ℕ) → stands ≡ true → Put at (print_on (text_on n (spelled v) end) []) x y r
+    → Put at (print_on (cond stands (text_on n (spelled v) end) end) []) x y r
+put_inside n v e p = rw e p
 
--- nothing, where it doesn't
-pub put_childless : {at : ℕ} {out : List ℕ} {stands : Bool} (n v : List ℕ) → stands ≡ false → Put at (print_on (cond stands (text_on n v end) end) []) out out at
-put_childless {at} {out} n v e = rw e (put_none at out)
+pub put_nothing : {at : ℕ} {x : List ℕ} {stands : Bool} (n : List ℕ) (v : ℕ) → stands ≡ false → Put at (print_on (cond stands (text_on n (spelled v) end) end) []) x x at
+put_nothing {at} {x} n v e = rw e (put_none at x)
 
 -- an event, from its parts as the code puts them
 worded_is : (w : Wording) (e : ℕ) → print_on (event_worded w e end) [] ≡
@@ -89,37 +93,22 @@ worded_is w e =
     (given (not (eqb (conferma_of e) 0)) w.conferma (spelled (conferma_of e))) _)
 
 -- so it is put, part after part
-pub put_parts : (w : Wording) (e : ℕ) {date code ends to some accesses marked conferma again : ℕ} {at a b c d f g h i j r : ℕ} {o p q s t u v x y z l : List ℕ}
-    → date ≡ date_of e → code ≡ code_of e → ends ≡ end_of e → to ≡ end_of e → some ≡ accesses_of e → accesses ≡ accesses_of e
-    → marked ≡ conferma_of e → conferma ≡ conferma_of e → again ≡ code_of e
-    → Put at (bytes "<") o p a → Put a w.element p q b → Put b (pairs_on (given true w.date (date_text date)) []) q s c
-    → Put c (pairs_on (given (not w.child) w.code (spelled code)) []) s t d
-    → Put d (pairs_on (given (not (eqb ends never)) w.end (date_text to)) []) t u f
-    → Put f (pairs_on (given (not (eqb some 0)) w.accesses (spelled accesses)) []) u v g
-    → Put g (pairs_on (given (not (eqb marked 0)) w.conferma (spelled conferma)) []) v x h
-    → Put h (bytes ">") x y i → Put i (print_on (cond w.child (text_on w.code (spelled again) end) end) []) y z j → Put j (end_on w.element []) z l r
+pub put_parts : (held : Held) (e : ℕ) {date code ends to some accesses marked conferma : ℕ} {at a b c d f g h i j r : ℕ} {o p q s t u v x y z l : List ℕ}
+    → let w = worded_by held in date ≡ date_of e → code ≡ code_of e → ends ≡ end_of e → to ≡ end_of e → some ≡ accesses_of e → accesses ≡ accesses_of e
+    → marked ≡ conferma_of e → conferma ≡ conferma_of e
+    → Put at (bytes "<") o p a → Put a w.element p q b → Put b (pairs_on (valued w.date (Some (Day date))) []) q s c
+    → Put c (pairs_on (valued w.code (then_some (not w.child) (Number code))) []) s t d
+    → Put d (pairs_on (valued w.end (then_some (not (eqb ends never)) (Day to))) []) t u f
+    → Put f (pairs_on (valued w.accesses (then_some (not (eqb some 0)) (Number accesses))) []) u v g
+    → Put g (pairs_on (valued w.conferma (then_some (not (eqb marked 0)) (Number conferma))) []) v x h
+    → Put h (bytes ">") x y i → Put i (print_on (cond w.child (text_on w.code (spelled (code_of e)) end) end) []) y z j → Put j (end_on w.element []) z l r
     → Put at (print_on (event_worded w e end) []) o l r
-put_parts w e hd hc he ht hs ha hm hf hg pa pb pc pd pf pg ph pi pj pr =
+put_parts held e hd hc he ht hs ha hm hf pa pb pc pd pf pg ph pi pj pr =
+    let w = worded_by held in
+    let g = valued_given in
     rw (worded_is w e)
-    (put_on pa (put_on pb (put_on (rw hd at pc) (put_on (rw hc at pd) (put_on (rw (he, ht) at pf)
-    (put_on (rw (hs, ha) at pg) (put_on (rw (hm, hf) at ph) (put_on pi (put_on (rw hg at pj) pr)))))))))
-
--- an event of the last kind, and of a number that is no kind
-wording_last : (k : ℕ) → (k ≡ revaluation → ⊥) → (k ≡ service → ⊥) → (k ≡ suspension → ⊥) → conclusione ≡ wording_of k
-wording_last zero a b c = absurd (a refl)
-wording_last (suc zero) a b c = absurd (b refl)
-wording_last (suc (suc zero)) a b c = absurd (c refl)
-wording_last (suc (suc (suc zero))) a b c = refl
-wording_last (suc (suc (suc (suc k)))) a b c = refl
-
--- an event put as its kind is worded is put
-module _ {at r : ℕ} {x y : List ℕ} (e : ℕ) {kind : ℕ} (is : kind ≡ kind_of e) where
-  pub put_kind : (k : ℕ) → kind ≡ k → Put at (print_on (event_worded (wording_of k) e end) []) x y r → Put at (event_text e) x y r
-  put_kind k h p = rw (sym h ∙ is) at p
-
-  pub put_last : (kind ≡ revaluation → ⊥) → (kind ≡ service → ⊥) → (kind ≡ suspension → ⊥)
-      → Put at (print_on (event_worded conclusione e end) []) x y r → Put at (event_text e) x y r
-  put_last a b c p = put_kind kind refl (subst (λ (w : Wording). Put at (print_on (event_worded w e end) []) x y r) (wording_last kind a b c) p)
+    (put_on pa (put_on pb (put_on (rw hd at pc) (put_on (rw (g w.code (not w.child) _, hc) at pd) (put_on (rw (g w.end _ _, he, ht) at pf)
+    (put_on (rw (g w.accesses _ _, hs, ha) at pg) (put_on (rw (g w.conferma _ _, hm, hf) at ph) (put_on pi (put_on pj pr)))))))))
 
 -- ---- how long
 
@@ -134,10 +123,10 @@ pub three_digits : (n : ℕ) → 100 ≤ n → n < 1000 → length (spelled n) �
 three_digits n l h = omega (arith, spelled_tens n (omega arith), two_digits (n / 10) (omega arith) (omega arith))
 
 -- an attribute's length, by its name's and its value's
-abbrev pub attribute_long : Bool → ℕ → ℕ → ℕ
-attribute_long stands n v = cond stands (n + v + 4) 0
+abbrev pub given_long_by : Bool → ℕ → ℕ → ℕ
+given_long_by stands n v = cond stands (n + v + 4) 0
 
-given_long : (b : Bool) (n v : List ℕ) → length (pairs_on (given b n v) []) ≡ attribute_long b (length n) (length v)
+given_long : (b : Bool) (n v : List ℕ) → length (pairs_on (given b n v) []) ≡ given_long_by b (length n) (length v)
 given_long false n v = refl
 given_long true n v = simp length-append (omega arith)
 
@@ -152,10 +141,10 @@ parts_long n a b c d f i = simp length-append (omega arith)
 
 -- an event's length, by its wording
 pub worded_long : (w : Wording) (e : ℕ) → length (print_on (event_worded w e end) []) ≡
-    2 * length w.element + 5 + attribute_long true (length w.date) 10 + attribute_long (not w.child) (length w.code) (length (spelled (code_of e)))
-    + attribute_long (not (eqb (end_of e) never)) (length w.end) 10
-    + attribute_long (not (eqb (accesses_of e) 0)) (length w.accesses) (length (spelled (accesses_of e)))
-    + attribute_long (not (eqb (conferma_of e) 0)) (length w.conferma) (length (spelled (conferma_of e)))
+    2 * length w.element + 5 + given_long_by true (length w.date) 10 + given_long_by (not w.child) (length w.code) (length (spelled (code_of e)))
+    + given_long_by (not (eqb (end_of e) never)) (length w.end) 10
+    + given_long_by (not (eqb (accesses_of e) 0)) (length w.accesses) (length (spelled (accesses_of e)))
+    + given_long_by (not (eqb (conferma_of e) 0)) (length w.conferma) (length (spelled (conferma_of e)))
     + cond w.child (2 * length w.code + 5 + length (spelled (code_of e))) 0
 worded_long w e =
     let date : List Pair = given true w.date (date_text (date_of e)) in
@@ -177,98 +166,50 @@ worded_long w e =
       date_long (date_of e),
     )
 
--- the lengths of the names that the four kinds have
-abbrev pub element_names : List ℕ
-element_names = 13 ∷ 10 ∷ 11 ∷ 11 ∷ []
+-- how long the names of a kind are at most
+pub record NamesShort (w : Wording) : Type 0 where
+  pub element : length w.element ≤ 13
+  pub date : length w.date ≤ 10
+  pub code : length w.code ≤ 13
+  pub end : length w.end ≤ 8
+  pub accesses : length w.accesses ≤ 10
+  pub conferma : length w.conferma ≤ 18
 
-abbrev pub date_names : List ℕ
-date_names = 4 ∷ 4 ∷ 10 ∷ 6 ∷ []
+pub names_short : (k : ℕ) {w : Wording} → w ≡ wording_of k → NamesShort w
+names_short k e = rw e (of k)
+  where
+    of : (k : ℕ) → NamesShort (wording_of k)
+    of zero = record { element = omega arith; date = omega arith; code = omega arith; end = omega arith; accesses = omega arith; conferma = omega arith }
+    of (suc zero) = record { element = omega arith; date = omega arith; code = omega arith; end = omega arith; accesses = omega arith; conferma = omega arith }
+    of (suc (suc zero)) = record { element = omega arith; date = omega arith; code = omega arith; end = omega arith; accesses = omega arith; conferma = omega arith }
+    of (suc (suc (suc zero))) = record { element = omega arith; date = omega arith; code = omega arith; end = omega arith; accesses = omega arith; conferma = omega arith }
+    of (suc (suc (suc (suc k)))) = record { element = omega arith; date = omega arith; code = omega arith; end = omega arith; accesses = omega arith; conferma = omega arith }
 
-abbrev pub code_names : List ℕ
-code_names = 6 ∷ 13 ∷ 11 ∷ 11 ∷ []
-
-abbrev pub end_names : List ℕ
-end_names = 0 ∷ 0 ∷ 8 ∷ 0 ∷ []
-
-abbrev pub accesses_names : List ℕ
-accesses_names = 0 ∷ 10 ∷ 0 ∷ 0 ∷ []
-
-abbrev pub conferma_names : List ℕ
-conferma_names = 18 ∷ 0 ∷ 0 ∷ 0 ∷ []
-
--- how long they are at most
-pub record NamesShort (k : ℕ) : Type 0 where
-  pub element : get_or element_names k 0 ≤ 13
-  pub date : get_or date_names k 0 ≤ 10
-  pub code : get_or code_names k 0 ≤ 13
-  pub end : get_or end_names k 0 ≤ 8
-  pub accesses : get_or accesses_names k 0 ≤ 10
-  pub conferma : get_or conferma_names k 0 ≤ 18
-
--- no element of a list whose elements are at most m is above it
-at_most : (m : ℕ) (l : List ℕ) → all (λ n. leb n m) l ≡ true → (k : ℕ) → get_or l k 0 ≤ m
-unfolding all
-at_most m [] h k = omega arith
-at_most m (n ∷ l) h zero = leb-true n m (and_left (leb n m) _ h)
-at_most m (n ∷ l) h (suc k) = at_most m l (and_right (leb n m) _ h) k
-
-pub names_short : (k : ℕ) → NamesShort k
-unfolding all
-names_short k =
-    record {
-      element = at_most 13 element_names refl k;
-      date = at_most 10 date_names refl k;
-      code = at_most 13 code_names refl k;
-      end = at_most 8 end_names refl k;
-      accesses = at_most 10 accesses_names refl k;
-      conferma = at_most 18 conferma_names refl k;
-    }
-
--- an event's length, by its kind
-abbrev pub kind_long : ℕ → ℕ → ℕ
-kind_long k e =
-    2 * get_or element_names k 0 + 5 + attribute_long true (get_or date_names k 0) 10
-    + attribute_long (not (not (eqb k revaluation))) (get_or code_names k 0) (length (spelled (code_of e)))
-    + attribute_long (not (eqb (end_of e) never)) (get_or end_names k 0) 10
-    + attribute_long (not (eqb (accesses_of e) 0)) (get_or accesses_names k 0) (length (spelled (accesses_of e)))
-    + attribute_long (not (eqb (conferma_of e) 0)) (get_or conferma_names k 0) (length (spelled (conferma_of e)))
-    + cond (not (eqb k revaluation)) (2 * get_or code_names k 0 + 5 + length (spelled (code_of e))) 0
-
-kind_long_lem : (k e : ℕ) → k < 4 → length (print_on (event_worded (wording_of k) e end) []) ≡ kind_long k e
-kind_long_lem zero e h = worded_long rivalutazione e
-kind_long_lem (suc zero) e h = worded_long erogazione e
-kind_long_lem (suc (suc zero)) e h = worded_long sospensione e
-kind_long_lem (suc (suc (suc zero))) e h = worded_long conclusione e
-kind_long_lem (suc (suc (suc (suc k)))) e h = absurd (omega arith)
-
--- an event's length, by its own kind
-pub event_long : (e : ℕ) → e < 2 ^ event_bits → length (event_text e) ≡ kind_long (kind_of e) e
-event_long e h = kind_long_lem (kind_of e) e (omega arith)
-
--- a number that the code sets to n or to 0, by a test
-pub set_or_none : {T F : Type 0} {b : Bool} {n i : ℕ} → (T × (i ≡ n)) ⊎ (F × (i ≡ 0)) → (T → b ≡ true) → (F → b ≡ false) → i ≡ cond b n 0
-set_or_none (inl w) t f = rw (t w.0) w.1
-set_or_none (inr w) t f = rw (f w.0) w.1
+-- an attribute that has a value where a test is passed
+valued_long : (n : List ℕ) (b : Bool) (v : ℕ) → attribute_long n (then_some b v) ≡ given_long_by b (length n) v
+valued_long n true v = refl
+valued_long n false v = refl
 
 -- the length that the code adds up
-pub length_told : (e : ℕ) → e < 2 ^ event_bits → {kind again code c ends some accesses a marked conferma f : ℕ} {dates codes days numbers marks inside : ℕ}
-    → kind ≡ kind_of e → code ≡ code_of e → c ≡ length (spelled code) → again ≡ kind_of e → dates ≡ attribute_long true (get_or date_names kind 0) 10
-    → codes ≡ attribute_long (not (not (eqb again revaluation))) (get_or code_names kind 0) c
-    → ends ≡ end_of e → days ≡ attribute_long (not (eqb ends never)) (get_or end_names kind 0) 10
-    → some ≡ accesses_of e → accesses ≡ accesses_of e → a ≡ length (spelled accesses) → numbers ≡ attribute_long (not (eqb some 0)) (get_or accesses_names kind 0) a
-    → marked ≡ conferma_of e → conferma ≡ conferma_of e → f ≡ length (spelled conferma) → marks ≡ attribute_long (not (eqb marked 0)) (get_or conferma_names kind 0) f
-    → inside ≡ cond (not (eqb again revaluation)) (2 * get_or code_names kind 0 + 5 + c) 0
-    → 2 * get_or element_names kind 0 + 5 + dates + codes + days + numbers + marks + inside ≡ length (event_text e)
-length_told e h hk hc lc hg ld lk he le hs ha la ln hm hf lf lm li =
-    rw (ld, lk, le, ln, lm, li, lc, la, lf, hc, he, hs, ha, hm, hf, hk, hg) (sym (event_long e h))
+pub length_told : (e : ℕ) (w : Held) {k code c ends some accesses a marked conferma f dates codes days numbers marks inside : ℕ}
+    → k ≡ kind_of e → worded_by w ≡ wording_of k → code ≡ code_of e → c ≡ length (spelled code) → dates ≡ attribute_long w.date.now (Some 10)
+    → codes ≡ attribute_long w.code.now (then_some (not w.child) c)
+    → ends ≡ end_of e → days ≡ attribute_long w.end.now (then_some (not (eqb ends never)) 10)
+    → some ≡ accesses_of e → accesses ≡ accesses_of e → a ≡ length (spelled accesses) → numbers ≡ attribute_long w.accesses.now (then_some (not (eqb some 0)) a)
+    → marked ≡ conferma_of e → conferma ≡ conferma_of e → f ≡ length (spelled conferma) → marks ≡ attribute_long w.conferma.now (then_some (not (eqb marked 0)) f)
+    → inside ≡ cond w.child (2 * length w.code.now + 5 + c) 0
+    → 2 * length w.element.now + 5 + dates + codes + days + numbers + marks + inside ≡ length (event_text e)
+length_told e w hk hw hc lc ld lk he le hs ha la ln hm hf lf lm li =
+    rw (ld, lk, le, ln, lm, li, lc, la, lf, hc, he, hs, ha, hm, hf)
+    (simp valued_long (sym (worded_long (worded_by w) e) ∙ ap (λ (v : Wording). length (print_on (event_worded v e end) [])) (hw ∙ ap wording_of hk)))
 
 -- ---- at most 101 bytes
 
 -- an attribute that doesn't stand has no length, and none has more than its parts
-attribute_none : (t : Bool) (n v : ℕ) → t ≡ true → attribute_long (not t) n v ≡ 0
+attribute_none : (t : Bool) (n v : ℕ) → t ≡ true → given_long_by (not t) n v ≡ 0
 attribute_none t n v h = rw h
 
-attribute_most : (b : Bool) (n v : ℕ) → attribute_long b n v ≤ n + v + 4
+attribute_most : (b : Bool) (n v : ℕ) → given_long_by b n v ≤ n + v + 4
 attribute_most true n v = omega arith
 attribute_most false n v = omega arith
 
@@ -297,13 +238,13 @@ module _ (e : ℕ) where
       }
 
   -- an attribute that its kind has none of
-  no_end : (n : ℕ) → eqb (end_of e) never || false ≡ true → attribute_long (not (eqb (end_of e) never)) n 10 ≡ 0
+  no_end : (n : ℕ) → eqb (end_of e) never || false ≡ true → given_long_by (not (eqb (end_of e) never)) n 10 ≡ 0
   no_end n h = attribute_none (eqb (end_of e) never) n 10 (sym (or-false (eqb (end_of e) never)) ∙ h)
 
-  no_accesses : eqb (accesses_of e) 0 ≡ true → attribute_long (not (eqb (accesses_of e) 0)) 0 (length (spelled (accesses_of e))) ≡ 0
+  no_accesses : eqb (accesses_of e) 0 ≡ true → given_long_by (not (eqb (accesses_of e) 0)) 0 (length (spelled (accesses_of e))) ≡ 0
   no_accesses h = attribute_none (eqb (accesses_of e) 0) 0 (length (spelled (accesses_of e))) h
 
-  no_conferma : eqb (conferma_of e) 0 ≡ true → attribute_long (not (eqb (conferma_of e) 0)) 0 (length (spelled (conferma_of e))) ≡ 0
+  no_conferma : eqb (conferma_of e) 0 ≡ true → given_long_by (not (eqb (conferma_of e) 0)) 0 (length (spelled (conferma_of e))) ≡ 0
   no_conferma h = attribute_none (eqb (conferma_of e) 0) 0 (length (spelled (conferma_of e))) h
 
   most : (k : ℕ) → Fields k → length (print_on (event_worded (wording_of k) e end) []) ≤ 101

@@ -71,7 +71,7 @@ module _ {reg : List ℕ} {first last lo hi at : ℕ} {before : List ℕ} where
     share_full e = record { put = rw e at p.put; low = p.low; high = p.high; rest = p.rest ∙ ap (λ (k : ℕ). drop k (chosen_in reg first last lo hi)) e }
 
     -- no row is left
-    pub share_done : hi ≤ row → PutShare reg first last lo hi at before after events_text (record { row = row; at = next })
+    pub share_done : hi ≤ row → PutShare reg first last lo hi at before after events_text (record { row = hi; at = next })
     share_done h =
         let es = chosen_in reg first last lo hi in
         let z : drop n es ≡ [] = sym p.rest ∙ chosen_none reg first last row hi h in
@@ -80,9 +80,9 @@ module _ {reg : List ℕ} {first last lo hi at : ℕ} {before : List ℕ} where
         let k : take n es ≡ take most_events es = take_all n es l ∙ sym (take_all most_events es m) in
         record {
           put = rw k at p.put;
-          low = p.low;
-          high = p.high;
-          rest = chosen_none reg first last row hi h ∙ sym (drop_of_length-le es m);
+          low = omega (arith, p.low, p.high);
+          high = omega arith;
+          rest = chosen_none reg first last hi hi (omega arith) ∙ sym (drop_of_length-le es m);
         }
 
   -- what stands before the events, they, and what stands behind them

@@ -8,7 +8,7 @@ use lib.ListN.{length}
 use Rattle.days.specs.Quarters.{is_period, first_day, last_day}
 use Rattle.days.specs.View.{quarter_of}
 use Rattle.days.specs.declared.quarters.Quarter.{Quarter}
-use Rattle.days.specs.declared.quarters.Quarter.TheVariants as quarters
+use Rattle.std.specs.Prelude.{Option, None, Some}
 use Rattle.model.specs.Map.{Map}
 use Rattle.register.specs.Layout.{row_at, cases_held, events_held}
 use Rattle.home_care.specs.Row.{siad, event_number_in}
@@ -32,15 +32,6 @@ module _ (reg : List ℕ) (x : CaseTexts) where
 
   abbrev allowed : Bool
   allowed = texts_allowed x.region x.asl x.date x.id
-
-  module _ (first last : ℕ) (out : List ℕ) where
-    -- the register isn't sound
-    pub says_3 : {r long : ℕ} → record { answer = 3; place = 0 } ≡ looked → r ≡ 3 → long ≡ 0 → CancelTold (of_found reg x first last out) r long out
-    says_3 e = says_unwritten out 3 (rw (sym (ap (λ (f : Found). f.answer) e)))
-
-    -- no such case stands
-    pub says_30 : {r long : ℕ} → record { answer = 30; place = 0 } ≡ looked → r ≡ 30 → long ≡ 0 → CancelTold (of_found reg x first last out) r long out
-    says_30 e = says_unwritten out 30 (rw (sym (ap (λ (f : Found). f.answer) e)))
 
   -- the case stands: the register is sound, and the texts are allowed
   module _ {place : ℕ} (e : record { answer = 0; place = place } ≡ looked) where
@@ -91,24 +82,24 @@ module _ (reg : List ℕ) (x : CaseTexts) where
 -- ---- the period
 
 module _ (reg : List ℕ) (x : CaseTexts) (y q : ℕ) (out : List ℕ) where
-  abbrev of_quarter : Quarter → Written
-  of_quarter (quarters.Days a b) = of_found reg x a b out
-  of_quarter quarters.Refused = unwritten out 1
+  abbrev of_quarter : Option Quarter → Written
+  of_quarter (Some d) = of_found reg x d.first d.last out
+  of_quarter None = unwritten out 1
 
   by_period : (p : Bool) → cond (not p) (unwritten out 1) (of_found reg x (first_day y q) (last_day y q) out) ≡
-      of_quarter (cond p (quarters.Days (first_day y q) (last_day y q)) quarters.Refused)
+      of_quarter (cond p (Some (record { first = first_day y q; last = last_day y q })) None)
   by_period true = refl
   by_period false = refl
 
-  by_quarter : {d : Quarter} → d ≡ quarter_of y q → cancel_file reg x y q out ≡ of_quarter d
+  by_quarter : {d : Option Quarter} → d ≡ quarter_of y q → cancel_file reg x y q out ≡ of_quarter d
   unfolding cancel_file
   by_quarter e = by_period (is_period y q) ∙ ap of_quarter (sym e)
 
   -- a period that isn't allowed
-  pub says_1 : {r long : ℕ} → quarters.Refused ≡ quarter_of y q → r ≡ 1 → long ≡ 0 → CancelTold (cancel_file reg x y q out) r long out
+  pub says_1 : None ≡ quarter_of y q → CancelTold (cancel_file reg x y q out) 1 0 out
   says_1 e = says_unwritten out 1 (by_quarter e)
 
   -- the quarter's days
-  pub says_found : {a b r long : ℕ} {after : List ℕ} → quarters.Days a b ≡ quarter_of y q → CancelTold (of_found reg x a b out) r long after →
+  pub says_found : {d : Quarter} {r long : ℕ} {after : List ℕ} → Some d ≡ quarter_of y q → CancelTold (of_found reg x d.first d.last out) r long after →
       CancelTold (cancel_file reg x y q out) r long after
   says_found e s = says_as (by_quarter e) s

@@ -1,14 +1,15 @@
 -- Each way out of writing a cancellation file.
-use Prim.Native.Nat.{ℕ, ◌+◌, ◌*◌, ◌/◌, ◌≤◌, ◌<◌}
-use mathlib.Core.Path.{◌≡◌, refl, sym, ap, ap₂, ◌∙◌}
-use mathlib.Core.Bool.{true, false}
+use Prim.Native.Nat.{ℕ, ◌+◌, ◌*◌, ◌≤◌, ◌<◌}
+use mathlib.Core.Path.{◌≡◌, refl, sym, ap, ◌∙◌}
+use mathlib.Core.Bool.{false}
 use mathlib.Core.List.{List, ◌++◌}
 use native.Mathlib.Omega.{arith}
 use lib.ListN.{length, drop}
-use borrow.Author.Tests.{eq-eqb, ne_eqb, lt-ltb, le-ltb}
+use Rattle.std.specs.Int.{div_ceil}
+use borrow.Author.Tests.{ne_eqb, lt-ltb, le-ltb}
 use Rattle.text.specs.Put.{Put}
 use Rattle.text.proofs.PutLaws.{put_starts}
-use Rattle.cancellation.specs.FileText.{CaseTexts, record_count, file_text}
+use Rattle.cancellation.specs.FileText.{CaseTexts, file_text}
 use Rattle.cancellation.specs.CancelFile.{Written, unwritten, of_chosen, CancelTold}
 use Rattle.cancellation.specs.View.{Surveyed}
 use Rattle.cancellation.specs.declared.survey.Extent.{Extent}
@@ -19,8 +20,8 @@ pub says_as : {v w : Written} {answer long : ℕ} {out : List ℕ} → v ≡ w �
 says_as e s = rw e s
 
 -- it is an answer without a file
-pub says_unwritten : {v : Written} (out : List ℕ) (answer : ℕ) {r long : ℕ} → v ≡ unwritten out answer → r ≡ answer → long ≡ 0 → CancelTold v r long out
-says_unwritten out answer e a l = says_as e (record { answer_is = a; long_is = l; output_is = refl })
+pub says_unwritten : {v : Written} (out : List ℕ) (answer : ℕ) → v ≡ unwritten out answer → CancelTold v answer 0 out
+says_unwritten out answer e = says_as e (record { answer_is = refl; long_is = refl; output_is = refl })
 
 -- ---- of the events that are chosen
 
@@ -33,23 +34,13 @@ pub record Sized (x : CaseTexts) : Type 0 where
 
 module _ (x : CaseTexts) (es out : List ℕ) {s : Extent} (v : Surveyed es s) where
   -- the length from what was surveyed is the file's
-  pub measured : Sized x → 27 + 317 * ((s.events + 127) / 128) + s.bytes ≡ length (file_text x es)
-  measured z =
-      ap₂ (λ (n k : ℕ). 27 + 317 * record_count n + k) v.events v.bytes
-      ∙ sym (file_long x z.region z.asl z.date z.id es)
-
-  -- a Rivalutazione with conferma 2 is chosen
-  pub says_31 : {r long : ℕ} → s.replaced ≡ true → r ≡ 31 → long ≡ 0 → CancelTold (of_chosen x es out) r long out
-  says_31 h = says_unwritten out 31 (rw (sym v.replaced ∙ h))
+  pub measured : Sized x → 27 + 317 * div_ceil s.events 128 + s.bytes ≡ length (file_text x es)
+  measured z = omega (arith, file_long x z.region z.asl z.date z.id es, v.events, v.bytes)
 
   module _ (h : s.replaced ≡ false) where
-    -- no event is chosen
-    pub says_32 : {r long : ℕ} → s.events ≡ 0 → r ≡ 32 → long ≡ 0 → CancelTold (of_chosen x es out) r long out
-    says_32 n = says_unwritten out 32 (rw (sym v.replaced ∙ h, eq-eqb (length es) 0 (omega (arith, v.events))))
-
     module _ (some : s.events ≡ 0 → ⊥) where
       -- the file has no room
-      pub says_33 : {r long : ℕ} → length out < length (file_text x es) → r ≡ 33 → long ≡ 0 → CancelTold (of_chosen x es out) r long out
+      pub says_33 : length out < length (file_text x es) → CancelTold (of_chosen x es out) 33 0 out
       says_33 l =
           says_unwritten out 33
           (rw (sym v.replaced ∙ h, ne_eqb (length es) 0 (λ n. some (v.events ∙ n)), lt-ltb (length out) (length (file_text x es)) l))

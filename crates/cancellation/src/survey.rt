@@ -2,13 +2,23 @@
 ghost use Rattle.std.specs.Prelude.{◌≡◌, ◌*◌, ◌≤◌, ◌<◌, ◌^◌};
 ghost use Rattle.register.specs.View.{most_counted};
 ghost use Rattle.home_care.specs.Row.{event_bits};
-ghost use Rattle.cancellation.specs.Chosen.{dated_in, replaces};
-ghost use Rattle.cancellation.specs.View.{RowsIn, chosen_in, Surveyed, OneMore};
+ghost use Rattle.cancellation.specs.Chosen.{dated_in};
+ghost use Rattle.cancellation.specs.View.{Lends, chosen_by, Surveyed, OneMore};
 
 use crate::event_text::event_length;
 use home_care::evaluation::evaluates;
 use judge::event_dates::day_for;
 use judge::standing::event_at;
+
+// The rows of a case's events in the register, from lo up to hi, and the two days between which an event is chosen.
+#[derive(Clone, Copy)]
+pub struct Choice<'a> {
+    pub reg: &'a [u8],
+    pub lo: usize,
+    pub hi: usize,
+    pub first: u64,
+    pub last: u64,
+}
 
 #[derive(Clone, Copy)]
 pub struct Extent {
@@ -25,14 +35,7 @@ pub fn dated_in(first: u64, last: u64, e: u64) -> bool
     (first <= day) & (day <= last)
 }
 
-// A Rivalutazione with conferma 2: of its new Valutazione a part is kept, so that its cancellation can't be written.
-fn replaces(e: u64) -> bool
-    ensures { result ≡ replaces e }
-{
-    evaluates(e)
-}
-
-// One event more.
+// One event more. A Rivalutazione with conferma 2 replaces: of its new Valutazione a part is kept, so that its cancellation can't be written.
 fn with(s: Extent, e: u64) -> Extent
     requires { (e < 2 ^ event_bits) × (s.events < most_counted) × (s.bytes ≤ 256 * s.events) }
     ensures { OneMore s e result }
@@ -40,27 +43,25 @@ fn with(s: Extent, e: u64) -> Extent
     Extent {
         events: s.events + 1,
         bytes: s.bytes + event_length(e),
-        replaced: s.replaced | replaces(e),
+        replaced: s.replaced | evaluates(e),
     }
 }
 
-// The chosen events in the rows from lo up to hi: the first pass over them.
-pub fn survey(reg: &[u8], lo: usize, hi: usize, first: u64, last: u64) -> Extent
-    requires { RowsIn reg.now lo hi }
-    ensures { Surveyed (chosen_in reg.now first last lo hi) result }
+// The chosen events: the first pass over their rows.
+pub fn survey(choice: &Choice) -> Extent
+    requires { Lends choice.now }
+    ensures { Surveyed (chosen_by choice.now) result }
 {
     let mut s = Extent {
         events: 0,
         bytes: 0,
         replaced: false,
     };
-    let mut i = lo;
-    while i < hi {
-        let e = event_at(reg, i);
-        if dated_in(first, last, e) {
+    for i in choice.lo..choice.hi {
+        let e = event_at(choice.reg, i);
+        if dated_in(choice.first, choice.last, e) {
             s = with(s, e);
         }
-        i += 1;
     }
     s
 }

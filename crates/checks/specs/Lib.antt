@@ -1,3 +1,4 @@
+pub mod Numbers
 pub mod Flow
 pub mod CheckOrder
 pub mod Readable

@@ -1,5 +1,5 @@
 -- Digits read one after the other, with a number that stops growing, and how large the numbers are that digits write.
-use Prim.Native.Nat.{ℕ, ◌+◌, ◌-◌, ◌*◌, ◌^◌, ◌≤◌, ◌<◌}
+use Prim.Native.Nat.{ℕ, min, ◌+◌, ◌-◌, ◌*◌, ◌^◌, ◌≤◌, ◌<◌}
 use Prim.Native.Char.{code}
 use mathlib.Core.Path.{◌≡◌, refl, sym, ap, ◌∙◌}
 use mathlib.Core.Bool.{Bool, true, false, cond}
@@ -13,6 +13,7 @@ use Rattle.laws.specs.Decimal.{is_digit, decimal_after, decimal}
 use Rattle.laws.specs.Lists.{all}
 use Rattle.laws.proofs.Places.{front}
 use Rattle.laws.proofs.Truth.{and_left, and_right}
+use Rattle.std.proofs.lemmas.Grind.{common_steps}
 use Rattle.codes.specs.Capped.{up_to}
 
 module _ (most : ℕ) where
@@ -32,6 +33,10 @@ module _ (most : ℕ) where
       go : (b : Bool) → leb n most ≡ b → cond b n most ≤ most
       go true e = leb-true n most e
       go false e = omega arith
+
+  -- the library's word for it
+  pub min_is : (n : ℕ) → min n most ≡ up_to most n
+  min_is n = grind (arith, common_steps)
 
   -- a number that stopped growing is as good as the whole
   goes_on : (n d : ℕ) → up_to most (up_to most n * 10 + d) ≡ up_to most (n * 10 + d)

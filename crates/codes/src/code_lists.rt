@@ -2,7 +2,7 @@
 ghost use Rattle.std.specs.Prelude.{◌≡◌, map};
 ghost use Rattle.codes.specs.CodesAndCharacters.{only, in_ranges, regions, codes_of};
 
-// An event's kind.
+// An event's kind. A number and no enum: it passes through the rows' bits as one, and `is_code` answers for every number.
 pub const REVALUATION: u64 = 0;
 
 pub const SERVICE: u64 = 1;
@@ -11,17 +11,11 @@ pub const SUSPENSION: u64 = 2;
 
 pub const CONCLUSION: u64 = 3;
 
-// Whether a number is in a list, with no early way out.
+// Whether a number is in a list.
 fn one_of(list: &[u64], n: u64) -> bool
     ensures { result ≡ in_ranges (map only list.now) n }
 {
-    let mut found = false;
-    let mut i = 0;
-    while i < list.len() {
-        found = found | (list[i] == n);
-        i += 1;
-    }
-    found
+    list.contains(&n)
 }
 
 pub fn is_region(n: u64) -> bool
@@ -39,17 +33,11 @@ pub fn is_region(n: u64) -> bool
 pub fn is_code(kind: u64, code: u64) -> bool
     ensures { result ≡ in_ranges (codes_of kind) code }
 {
-    if kind == REVALUATION {
-        return (1 <= code) & (code <= 2);
+    match kind {
+        REVALUATION => matches!(code, 1..=2),
+        SERVICE => matches!(code, 1..=13 | 99),
+        SUSPENSION => matches!(code, 1..=3 | 9),
+        CONCLUSION => matches!(code, 1..=12 | 97..=99),
+        _ => false,
     }
-    if kind == SERVICE {
-        return ((1 <= code) & (code <= 13)) | (code == 99);
-    }
-    if kind == SUSPENSION {
-        return ((1 <= code) & (code <= 3)) | (code == 9);
-    }
-    if kind == CONCLUSION {
-        return ((1 <= code) & (code <= 12)) | ((97 <= code) & (code <= 99));
-    }
-    false
 }

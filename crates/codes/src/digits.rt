@@ -1,10 +1,10 @@
 // Decimal digits. A text is read with no early way out.
-ghost use Rattle.std.specs.Prelude.{◌≡◌, ◌-◌, ◌<◌, ◌≤◌};
+ghost use Rattle.std.specs.Prelude.{◌≡◌, ◌-◌, ◌<◌};
 ghost use Rattle.laws.specs.Decimal.{is_digit, decimal};
 ghost use Rattle.laws.specs.Lists.{all};
 ghost use Rattle.codes.specs.Capped.{up_to};
 
-// The number that a text writes, and whether each byte of it is a digit.
+// The number that a text writes, and whether each byte of it is a digit. No Option: `read_digits` tells the number where a byte is no digit, too.
 #[derive(Clone, Copy)]
 pub struct Digits {
     pub number: u64,
@@ -14,23 +14,14 @@ pub struct Digits {
 pub fn is_digit(b: u8) -> bool
     ensures { result ≡ is_digit b }
 {
-    (b'0' <= b) & (b <= b'9')
+    b.is_ascii_digit()
 }
 
 // What a byte counts: nothing below the digits.
 fn worth(b: u8) -> u64
     ensures { (result ≡ b - 48) × (result < 256) }
 {
-    if b < b'0' {
-        return 0;
-    }
-    (b - b'0') as u64
-}
-
-fn up_to(most: u32, n: u64) -> u64
-    ensures { (result ≡ up_to most n) × (result ≤ most) }
-{
-    if n <= most as u64 { n } else { most as u64 }
+    b.saturating_sub(b'0') as u64
 }
 
 // A text as digits; of a number above the most that is asked for, that.
@@ -39,12 +30,9 @@ pub fn read_digits(s: &[u8], most: u32) -> Digits
 {
     let mut number: u64 = 0;
     let mut good = true;
-    let mut i = 0;
-    while i < s.len() {
-        let b = s[i];
-        number = up_to(most, number * 10 + worth(b));
-        good = good & is_digit(b);
-        i += 1;
+    for b in s {
+        number = (number * 10 + worth(*b)).min(most as u64);
+        good &= is_digit(*b);
     }
     Digits { number, good }
 }

@@ -8,8 +8,7 @@ use native.Mathlib.Omega.{arith}
 use native.Mathlib.Nat.{pow-suc, pow-le-pow_right}
 use native.Mathlib.Numerals.{add-one}
 use lib.Dec.{leb}
-use lib.ListN.{length, take, drop, get_or, drop_of_length-le, length-take, length-drop}
-use lib.Seq.{get_or-take, get_or-drop}
+use lib.ListN.{length, drop, get_or, drop_of_length-le}
 use borrow.Author.Tests.{leb-true}
 use Rattle.laws.proofs.Truth.{and_left, and_right}
 use Rattle.laws.specs.Decimal.{is_digit, decimal_after, decimal}
@@ -59,23 +58,3 @@ digit_between b e = (
   leb-true (code "0") b (and_left (leb (code "0") b) (leb b (code "9")) e),
   leb-true b (code "9") (and_right (leb (code "0") b) (leb b (code "9")) e),
 )
-
--- the digits as n bytes of a longer text
-module _ (s : List ℕ) (at n : ℕ) (fits : at + n ≤ length s) where
-  abbrev word : List ℕ
-  word = take n (drop at s)
-
-  long : length word ≡ n
-  long = simp (length-take, length-drop) (omega arith)
-
-  byte : (i : ℕ) → i < n → get_or s (at + i) 0 ≡ get_or word i 0
-  byte i h = rw (get_or-take, get_or-drop)
-
-  pub at_next : (m i : ℕ) → Left word m i → i < n → is_digit (get_or s (at + i) 0) ≡ true → Left word (m * 10 + (get_or s (at + i) 0 - code "0")) (i + 1)
-  at_next m i l h d = left_next word m i l (get_or s (at + i) 0) (omega (arith, long)) (byte i h) d
-
-  pub at_bad : (m i : ℕ) → Left word m i → i < n → is_digit (get_or s (at + i) 0) ≡ false → 0 ≡ cond (all is_digit word) (decimal word) 0
-  at_bad m i l h d = left_bad word m i l (get_or s (at + i) 0) (omega (arith, long)) (byte i h) d
-
-  pub at_end_lem : (m i : ℕ) → Left word m i → n ≤ i → m ≡ cond (all is_digit word) (decimal word) 0
-  at_end_lem m i l h = left_end word m i l (omega (arith, long))

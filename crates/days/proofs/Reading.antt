@@ -1,5 +1,5 @@
 -- A date at a place of a longer text, from what the code reads there: two dashes, and three numbers that are 0 where a digit is missing.
-use Prim.Native.Nat.{ℕ, ◌+◌, ◌≤◌, ◌<◌}
+use Prim.Native.Nat.{ℕ, ◌+◌, ◌-◌, ◌≤◌, ◌<◌}
 use Prim.Native.Char.{code}
 use mathlib.Core.Path.{◌≡◌, refl, sym, ap, ◌∙◌}
 use mathlib.Core.Bool.{Bool, true, false, cond, not, ◌&&◌, ◌||◌, true≢false, false≢true}
@@ -7,7 +7,7 @@ use mathlib.Core.List.{List}
 use native.Mathlib.Omega.{arith}
 use lib.Dec.{eqb, leb}
 use lib.ListN.{length, take, drop, get_or, length-take, length-drop}
-use lib.Seq.{take-take, drop-drop, get_or-take, get_or-drop, ext_get_or}
+use lib.Seq.{drop-drop}
 use borrow.Author.Tests.{eq-eqb, ne_eqb}
 use Rattle.laws.specs.Decimal.{is_digit, decimal}
 use Rattle.laws.specs.Lists.{all}
@@ -55,62 +55,52 @@ date_short s at h =
     let e : eqb (length (take 10 (drop at s))) 10 ≡ false = ne_eqb (length (take 10 (drop at s))) 10 (λ e. omega arith) in
     rw e
 
--- bytes of a part of a text are bytes of the text
-inner : (l : List ℕ) (a n k : ℕ) → a + n ≤ k → take n (drop a (take k l)) ≡ take n (drop a l)
-inner l a n k h =
-    ext_get_or 0 (take n (drop a (take k l))) (take n (drop a l)) (simp (length-take, length-drop) (omega arith))
-    (λ i b. let c : i < n = omega (arith, b, length-take n (drop a (take k l))) in rw (get_or-take n (drop a (take k l)) i 0 c, get_or-take n (drop a l) i 0 c, get_or-drop a (take k l) i 0, get_or-drop a l i 0, get_or-take k l (a + i) 0 (omega arith)))
-
+-- the ten bytes that the code cuts out
 module _ (s : List ℕ) (at : ℕ) (fits : at + 10 ≤ length s) where
   abbrev text : List ℕ
-  text = take 10 (drop at s)
+  text = take (at + 10 - at) (drop at s)
+
+  cut : take 10 (drop at s) ≡ text
+  cut = let e : 10 ≡ at + 10 - at = omega arith in ap (λ (k : ℕ). take k (drop at s)) e
 
   long : eqb (length text) 10 ≡ true
   long = eq-eqb (length text) 10 (simp (length-take, length-drop) (omega arith))
 
-  part : (a n : ℕ) → a + n ≤ 10 → take n (drop a text) ≡ take n (drop (at + a) s)
-  part a n h = inner (drop at s) a n 10 h ∙ ap (λ (l : List ℕ). take n l) (drop-drop a at s)
-
-  dash : (i : ℕ) → i < 10 → get_or text i 0 ≡ get_or s (at + i) 0
-  dash i h = get_or-take 10 (drop at s) i 0 h ∙ get_or-drop at s i 0
-
-  year : year_text text ≡ take 4 (drop at s)
-  year = take-take 4 10 (drop at s) (omega arith)
-
   dashes : Bool
-  dashes = eqb (get_or s (at + 4) 0) (code "-") && eqb (get_or s (at + 7) 0) (code "-")
+  dashes = eqb (get_or text 4 0) (code "-") && eqb (get_or text 7 0) (code "-")
 
   -- the three numbers as the code reads them
-  module _ (y m d : ℕ) (ys : y ≡ number (take 4 (drop at s))) (ms : m ≡ number (take 2 (drop (at + 5) s))) (ds : d ≡ number (take 2 (drop (at + 8) s))) where
+  module _ (y m d : ℕ) (ys : y ≡ number (year_text text)) (ms : m ≡ number (month_text text)) (ds : d ≡ number (day_text text)) where
     is_date_lem : is_date text ≡ (dashes && real_day y m d)
     unfolding is_date dashes
     is_date_lem =
-        rw (long, year, part 5 2 (omega arith), part 8 2 (omega arith), dash 4 (omega arith), dash 7 (omega arith), ys, ms, ds)
-        (shuffle (decimal (take 4 (drop at s))) (decimal (take 2 (drop (at + 5) s))) (decimal (take 2 (drop (at + 8) s)))
-        (all is_digit (take 4 (drop at s))) (all is_digit (take 2 (drop (at + 5) s))) (all is_digit (take 2 (drop (at + 8) s)))
-        (eqb (get_or s (at + 4) 0) (code "-")) (eqb (get_or s (at + 7) 0) (code "-")))
+        rw (long, ys, ms, ds)
+        (shuffle (decimal (year_text text)) (decimal (month_text text)) (decimal (day_text text))
+        (all is_digit (year_text text)) (all is_digit (month_text text)) (all is_digit (day_text text))
+        (eqb (get_or text 4 0) (code "-")) (eqb (get_or text 7 0) (code "-")))
 
-    pub date_unreal : real_day y m d ≡ false → is_date text ≡ false
-    date_unreal e = rw (is_date_lem, e) (and-false dashes)
+    pub date_unreal : real_day y m d ≡ false → is_date (take 10 (drop at s)) ≡ false
+    date_unreal e = rw (cut, is_date_lem, e) (and-false dashes)
 
-    pub date_real : not (eqb (get_or s (at + 4) 0) (code "-")) || not (eqb (get_or s (at + 7) 0) (code "-")) ≡ false → real_day y m d ≡ true → DateIs text y m d
+    pub date_real : not (eqb (get_or text 4 0) (code "-")) || not (eqb (get_or text 7 0) (code "-")) ≡ false → real_day y m d ≡ true → DateIs (take 10 (drop at s)) y m d
     unfolding dashes
     date_real h e =
         let f =
-        told (decimal (take 4 (drop at s))) (decimal (take 2 (drop (at + 5) s))) (decimal (take 2 (drop (at + 8) s)))
-        (all is_digit (take 4 (drop at s))) (all is_digit (take 2 (drop (at + 5) s))) (all is_digit (take 2 (drop (at + 8) s))) (rw (ys, ms, ds) at e)
+        told (decimal (year_text text)) (decimal (month_text text)) (decimal (day_text text))
+        (all is_digit (year_text text)) (all is_digit (month_text text)) (all is_digit (day_text text)) (rw (ys, ms, ds) at e)
         in
-        record {
-          date = rw (is_date_lem, both (eqb (get_or s (at + 4) 0) (code "-")) (eqb (get_or s (at + 7) 0) (code "-")) h, e);
-          year = rw year (ys ∙ f.0);
-          month = rw (part 5 2 (omega arith)) (ms ∙ f.1);
-          day = rw (part 8 2 (omega arith)) (ds ∙ f.2);
-        }
+        rw cut
+        (record {
+          date = rw (is_date_lem, both (eqb (get_or text 4 0) (code "-")) (eqb (get_or text 7 0) (code "-")) h, e);
+          year = ys ∙ f.0;
+          month = ms ∙ f.1;
+          day = ds ∙ f.2;
+        })
 
-  pub date_undashed : not (eqb (get_or s (at + 4) 0) (code "-")) || not (eqb (get_or s (at + 7) 0) (code "-")) ≡ true → is_date text ≡ false
+  pub date_undashed : not (eqb (get_or text 4 0) (code "-")) || not (eqb (get_or text 7 0) (code "-")) ≡ true → is_date (take 10 (drop at s)) ≡ false
   unfolding dashes
   date_undashed h =
-      rw (is_date_lem (number (take 4 (drop at s))) (number (take 2 (drop (at + 5) s))) (number (take 2 (drop (at + 8) s))) refl refl refl, nand (eqb (get_or s (at + 4) 0) (code "-")) (eqb (get_or s (at + 7) 0) (code "-")) h)
+      rw (cut, is_date_lem (number (year_text text)) (number (month_text text)) (number (day_text text)) refl refl refl, nand (eqb (get_or text 4 0) (code "-")) (eqb (get_or text 7 0) (code "-")) h)
 
 -- the day number, from the parts
 pub parts_real : {w : List ℕ} {y m d : ℕ} → DateIs w y m d → real_day y m d ≡ true

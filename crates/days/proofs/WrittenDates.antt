@@ -3,11 +3,11 @@ use Prim.Native.Nat.{ℕ, zero, suc, ◌+◌, ◌-◌, ◌*◌, ◌/◌, ◌%◌
 use Prim.Native.Char.{code}
 use mathlib.Core.Path.{◌≡◌, refl, ap, ◌∙◌}
 use mathlib.Core.Bool.{Bool, true, false, cond, ◌&&◌}
-use mathlib.Core.List.{[], ◌∷◌}
+use mathlib.Core.List.{List, [], ◌∷◌}
 use native.Mathlib.Nat.{div-one}
 use native.Mathlib.Omega.{arith}
 use lib.Dec.{leb}
-use lib.ListN.{length}
+use lib.ListN.{length, get_or}
 use borrow.Author.Tests.{leb-true, leb-false, le-leb}
 use Rattle.laws.specs.Decimal.{decimal_after}
 use Rattle.laws.specs.Lists.{all}
@@ -19,6 +19,9 @@ use Rattle.days.specs.Dates.{is_date, day_of}
 use Rattle.days.specs.WrittenDates.{months_to, month_in, date_spelled, date_text}
 use Rattle.days.proofs.Months.{first_next, first_mono, length_between, RealDay, is_real}
 use Rattle.days.proofs.Firsts.{all_days}
+use Rattle.days.specs.Table.{Firsts}
+use Rattle.std.specs.List.Sorted.{IsPartitionedBy, IsPartitionPoint}
+use Rattle.std.proofs.lemmas.Grind.{get_or_default_zero}
 
 -- of the months before `end`, month lo has begun on day n, and month hi, where there is one, has not
 pub record Around (end n lo hi : ℕ) : Type 0 where
@@ -54,18 +57,7 @@ months_around (suc k) n = go (leb (first_of (suc k)) n) refl (months_around k n)
 pub month_around : (n : ℕ) → Around 2400 n (month_in n) (month_in n + 1)
 month_around n = months_around 2399 n
 
--- the search for a day's month: where it starts, a step up, a step down, and where it stops
-pub search_month : (n : ℕ) → Around 2400 n 0 2400
-unfolding first_of
-search_month n = record { order = omega arith; inside = omega arith; begun = omega arith; later = λ h. absurd (omega arith) }
-
 module _ {end n lo hi : ℕ} (a : Around end n lo hi) where
-  pub search_up : {mid : ℕ} → mid < hi → first_of mid ≤ n → Around end n mid hi
-  search_up h e = record { order = h; inside = a.inside; begun = e; later = a.later }
-
-  pub search_down : {mid : ℕ} → lo < mid → mid < hi → n < first_of mid → Around end n lo mid
-  search_down h l e = record { order = h; inside = omega (arith, a.inside); begun = a.begun; later = λ k. e }
-
   -- two months that stand so are the same
   never_before : {m : ℕ} → hi ≡ lo + 1 → Around end n m (m + 1) → lo < m → ⊥
   never_before {m} e b h = omega (arith, a.later (omega (arith, b.inside)), first_mono hi m (omega arith), b.begun)
@@ -87,6 +79,34 @@ search_ends {n} {lo} {hi} a h = (pick (leb (suc lo) (month_in n)) refl (leb (suc
     pick true p t q = absurd (never_before a e (month_around n) (leb-true (suc lo) (month_in n) p))
     pick false p true q = absurd (never_before (month_around n) refl o (leb-true (suc (month_in n)) lo q))
     pick false p false q = omega (arith, leb-false (suc lo) (month_in n) p, leb-false (suc (month_in n)) lo q)
+
+-- in a table of the firsts the months that have begun on a day stand in front, and the last of them is the day's
+module _ (t : List ℕ) (f : Firsts t) (long : length t ≡ 2400) (n : ℕ) where
+  first_is : (k d : ℕ) → k < 2400 → get_or t k d ≡ first_of k
+  first_is k d h = get_or_default_zero t k d (omega arith) ∙ f k h
+
+  pub begun_before : IsPartitionedBy (λ x. leb x n) t
+  begun_before i j d h l e =
+      let a = leb-true (get_or t j d) n e in
+      le-leb (get_or t i d) n (omega (arith, first_is i d (omega arith), first_is j d (omega arith), first_mono i j h))
+
+  pub begun_ends : (i : ℕ) → i ≤ length t → IsPartitionPoint (λ x. leb x n ≡ true) (λ x. leb x n ≡ false) t i → (1 ≤ i) × (i - 1 ≡ month_in n) × (i - 1 < 2400)
+  unfolding first_of
+  begun_ends zero b p =
+      let a = leb-false (get_or t 0 0) n (p.1 0 0 (omega arith) (omega arith)) in
+      absurd (omega (arith, first_is 0 0 (omega arith)))
+  begun_ends (suc k) b p =
+      let a = leb-true (get_or t k 0) n (p.0 k 0 (omega arith) (omega arith)) in
+      let o : Around 2400 n k (k + 1) =
+      record {
+        order = omega arith;
+        inside = omega arith;
+        begun = omega (arith, first_is k 0 (omega arith));
+        later = λ h. omega (arith, first_is (k + 1) 0 h, leb-false (get_or t (k + 1) 0) n (p.1 (k + 1) 0 (omega arith) (omega arith)));
+      }
+      in
+      let m = search_ends o (omega arith) in
+      (omega arith, omega arith, omega arith)
 
 -- what a date's text is read as
 module _ (y m d : ℕ) (ly : y < 10000) (lm : m < 100) (ld : d < 100) where

@@ -1,8 +1,10 @@
 -- The year of a day.
-use Prim.Native.Nat.{ℕ, zero, suc, ◌+◌, ◌-◌, ◌*◌, ◌/◌, ◌≤◌, ◌<◌}
+use Prim.Native.Nat.{ℕ, zero, suc, min, ◌+◌, ◌-◌, ◌*◌, ◌/◌, ◌≤◌, ◌<◌}
 use mathlib.Core.Path.{◌≡◌, refl, sym, ap, ◌∙◌}
 use native.Mathlib.Omega.{arith}
-use borrow.Author.Tests.{le-leb, lt-leb}
+use mathlib.Core.Bool.{Bool, true, false}
+use lib.Dec.{leb}
+use borrow.Author.Tests.{le-leb, lt-leb, leb-true, leb-false}
 use Rattle.days.specs.DayNumbers.{month_length, month_of, length_of, first_of, day_number, years_to, year_of}
 use Rattle.days.proofs.Months.{first_mono, first_next, month_length_lem, years_long, RealDay}
 
@@ -27,23 +29,28 @@ years_past j (suc d) n h =
     let e : j + suc d ≡ suc (j + d) = omega arith in
     rw e (years_not (j + d) n (omega (arith, first_mono (12 * suc j) (12 * suc (j + d)) (omega arith))) ∙ years_past j d n h)
 
--- the search: where it starts, a step down, and where it stops
-pub search_start : (n k : ℕ) → k ≡ n / 365 → k ≤ 199 → years_to 199 n ≡ years_to k n
-search_start n k e h =
+-- the search: where it starts, a step down to year k - 1, and where it stops
+pub search_start : (n k : ℕ) → k ≡ min (n / 365) 199 → years_to 199 n ≡ years_to k n
+search_start n k e =
     let g : 199 ≡ k + (199 - k) = omega arith in
-    ap (λ (x : ℕ). years_to x n) g ∙ years_past k (199 - k) n (omega (arith, years_long (suc k)))
+    ap (λ (x : ℕ). years_to x n) g ∙ go (leb 199 (n / 365)) refl
+  where
+    go : (b : Bool) → leb 199 (n / 365) ≡ b → years_to (k + (199 - k)) n ≡ years_to k n
+    go true h = let l = leb-true 199 (n / 365) h in ap (λ (x : ℕ). years_to x n) (omega arith)
+    go false h = years_past k (199 - k) n (omega (arith, years_long (suc k), leb-false 199 (n / 365) h))
 
-module _ (k n : ℕ) (some : 0 < k) (inv : years_to 199 n ≡ years_to k n) where
-  search_pred : k ≡ suc (k - 1)
-  search_pred = omega arith
+module _ (k n first : ℕ) (some : 0 < k) (inv : years_to 199 n ≡ years_to k n) (is : first ≡ first_of (12 * (k - 1 + 1))) where
+  here : years_to 199 n ≡ years_to (suc (k - 1)) n
+  here = inv ∙ ap (λ (x : ℕ). years_to x n) (omega arith)
 
-  pub search_down : n < first_of (12 * k) → years_to 199 n ≡ years_to (k - 1) n
-  search_down h =
-      inv ∙ ap (λ (x : ℕ). years_to x n) search_pred ∙ years_not (k - 1) n (rw (← search_pred) h)
+  begins : first ≡ first_of (12 * suc (k - 1))
+  begins = is ∙ ap (λ (x : ℕ). first_of (12 * x)) (omega arith)
 
-  pub search_found : first_of (12 * k) ≤ n → 1900 + k ≡ year_of n
-  search_found h =
-      ap (λ (x : ℕ). 1900 + x) (search_pred ∙ sym (inv ∙ ap (λ (x : ℕ). years_to x n) search_pred ∙ years_yes (k - 1) n (rw (← search_pred) h)))
+  pub search_down : n < first → years_to 199 n ≡ years_to (k - 1) n
+  search_down h = here ∙ years_not (k - 1) n (omega (arith, begins))
+
+  pub search_found : first ≤ n → 1901 + (k - 1) ≡ year_of n
+  search_found h = omega (arith, here ∙ years_yes (k - 1) n (omega (arith, begins)))
 
 pub search_end : (k n : ℕ) → k ≡ 0 → years_to 199 n ≡ years_to k n → 1900 ≡ year_of n
 search_end k n e inv = ap (λ (x : ℕ). 1900 + x) (sym (inv ∙ ap (λ (x : ℕ). years_to x n) e ∙ years_none n))

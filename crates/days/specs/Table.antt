@@ -3,5 +3,5 @@ use Rattle.std.specs.Prelude.{ℕ, ◌<◌, ◌≡◌, List, get_or}
 use Rattle.days.specs.DayNumbers.{first_of}
 
 -- it holds the first day of each month
-unfoldable pub Firsts : List ℕ → Type 0
+abbrev pub Firsts : List ℕ → Type 0
 Firsts t = (k : ℕ) → k < 2400 → get_or t k 0 ≡ first_of k

@@ -1,9 +1,8 @@
 // The calendar over the lent table.
 ghost use Rattle.std.specs.Prelude.{◌≡◌, true, ◌<◌};
 ghost use Rattle.days.specs.DayNumbers.{is_leap, month_length, day_number, real_day, day_count, year_of};
-ghost use Rattle.days.specs.Table.{Firsts};
 
-use crate::table::first_of;
+use crate::table::{Table, first_of};
 
 pub fn is_leap(y: u32) -> bool
     ensures { result ≡ is_leap y }
@@ -34,8 +33,8 @@ pub fn real_day(y: u32, m: u32, d: u32) -> bool
     ((1900 <= y) & (y <= 2099)) & (((1 <= m) & (m <= 12)) & ((1 <= d) & (d <= last)))
 }
 
-pub fn day_number(t: &[u32; 2400], y: u32, m: u32, d: u32) -> u32
-    requires { Firsts t.now × (real_day y m d ≡ true) }
+pub fn day_number(t: &Table, y: u32, m: u32, d: u32) -> u32
+    requires { real_day y m d ≡ true }
     ensures { (result ≡ day_number y m d) × (result < day_count) }
 {
     let month = (12 * (y - 1900) + (m - 1)) as usize;
@@ -43,20 +42,14 @@ pub fn day_number(t: &[u32; 2400], y: u32, m: u32, d: u32) -> u32
 }
 
 // A year has 365 days or more, so the search goes down from there: it takes a step or two.
-pub fn year_of(t: &[u32; 2400], day: u32) -> u32
-    requires { Firsts t.now × (day < day_count) }
+pub fn year_of(t: &Table, day: u32) -> u32
+    requires { day < day_count }
     ensures { result ≡ year_of day }
 {
-    let mut k = day / 365;
-    if 199 < k {
-        k = 199;
-    }
-    while 0 < k {
-        let first = first_of(t, (12 * k) as usize);
-        if first <= day {
-            return 1900 + k;
+    for k in (0..(day / 365).min(199)).rev() {
+        if first_of(t, (12 * (k + 1)) as usize) <= day {
+            return 1901 + k;
         }
-        k -= 1;
     }
     1900
 }

@@ -187,16 +187,21 @@ const FIRSTS: [u32; 2400] = [
     72865, 72896, 72927, 72957, 72988, 73018,
 ];
 
-pub fn make() -> [u32; 2400]
-    ensures { Firsts result }
-{
-    FIRSTS
+// The numbers of the firsts of the months, and the fact that they are: large, so it is lent and never copied.
+#[derive(Drop)]
+pub struct Table {
+    pub firsts: [u32; 2400],
+    pub ghost firsts_hold: { Firsts firsts },
+}
+
+pub fn make() -> Table {
+    Table { firsts: FIRSTS }
 }
 
 // The day number of the first day of a month, counted from January 1900.
-pub fn first_of(t: &[u32; 2400], month: usize) -> u32
-    requires { Firsts t.now × (month < 2400) }
+pub fn first_of(t: &Table, month: usize) -> u32
+    requires { month < 2400 }
     ensures { (result ≡ first_of month) × (result < day_count) }
 {
-    t[month]
+    t.firsts[month]
 }

@@ -2,28 +2,16 @@
 ghost use Rattle.std.specs.Prelude.{◌≡◌, ◌+◌, ◌/◌, ◌%◌, ◌*◌, ◌<◌, ◌≤◌, ◌^◌};
 ghost use Rattle.text.specs.Put.{Put};
 ghost use Rattle.text.specs.Spelled.{digit};
-ghost use Rattle.days.specs.Table.{Firsts};
 ghost use Rattle.days.specs.WrittenDates.{month_in, date_text};
 
-use crate::table::first_of;
+use crate::table::{Table, first_of};
 use text::put_text;
 
 // The month of a day, counted from January 1900: the last that begins on or before it, by binary search.
-fn month_in(t: &[u32; 2400], day: u64) -> usize
-    requires { Firsts t.now }
+fn month_in(t: &Table, day: u64) -> usize
     ensures { (result ≡ month_in day) × (result < 2400) }
 {
-    let mut begun = 0;
-    let mut later = 2400;
-    while 1 < later - begun {
-        let mid = begun + (later - begun) / 2;
-        if first_of(t, mid) as u64 <= day {
-            begun = mid;
-        } else {
-            later = mid;
-        }
-    }
-    begun
+    t.firsts.partition_point(|first| *first as u64 <= day) - 1
 }
 
 // One digit of a number, by its unit.
@@ -35,8 +23,8 @@ fn digit_of(n: u64, unit: u64) -> u8
 }
 
 // Puts a day as AAAA-MM-GG.
-pub fn put_date(t: &[u32; 2400], out: &mut [u8], at: usize, day: u64) -> usize
-    requires { Firsts t.now × (day < 2 ^ 17) }
+pub fn put_date(t: &Table, out: &mut [u8], at: usize, day: u64) -> usize
+    requires { day < 2 ^ 17 }
     ensures { Put at (date_text day) out.old out.new result }
 {
     let month = month_in(t, day);

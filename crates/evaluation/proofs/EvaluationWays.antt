@@ -15,6 +15,10 @@ use Rattle.register.specs.State.{state_of}
 use Rattle.home_care.specs.Row.{siad, key_number}
 use Rattle.soundness.specs.Sound.{is_sound}
 use Rattle.soundness.specs.Finding.{Found, texts_allowed, key_of_texts, found}
+use Rattle.std.specs.Prelude.{Err}
+use Rattle.soundness.specs.declared.find.Missing.{Missing}
+use Rattle.soundness.specs.declared.find.Missing.TheVariants.{Unsound, Nowhere}
+use Rattle.soundness.specs.View.{number_of, view_find}
 use Rattle.evaluation.specs.InForce.{in_force, fields_of, Evaluated, without, evaluated}
 use Rattle.evaluation.specs.View.{StandsAt}
 
@@ -64,16 +68,21 @@ module _ (reg region asl date id day : List ℕ) where
   says v e a f = (a ∙ ap (λ (w : Evaluated). w.answer) (sym e), f ∙ ap (λ (w : Evaluated). w.fields) (sym e))
 
   -- the register isn't sound
-  pub says_3 : record { answer = 3; place = 0 } ≡ found reg region asl date id → wanted ≡ without 3
+  says_3 : record { answer = 3; place = 0 } ≡ found reg region asl date id → wanted ≡ without 3
   unfolding found evaluated
   says_3 e = rw (told_3 (is_sound reg) (allowed && stands) 0 spot e)
 
   -- no such case stands
-  pub says_30 : record { answer = 30; place = 0 } ≡ found reg region asl date id → wanted ≡ without 30
+  says_30 : record { answer = 30; place = 0 } ≡ found reg region asl date id → wanted ≡ without 30
   unfolding found evaluated
   says_30 e =
       let t = told_30 (is_sound reg) (allowed && stands) 0 spot e in
       rw (t.0, and_less allowed stands (is_date day && leb (day_of date) (day_of day)) t.1)
+
+  -- either of the two
+  pub says_missing : (m : Missing) → view_find (Err m) ≡ found reg region asl date id → wanted ≡ without (number_of m)
+  says_missing Unsound e = says_3 e
+  says_missing Nowhere e = says_30 e
 
   module _ (place : ℕ) (e : record { answer = 0; place = place } ≡ found reg region asl date id) where
     told : (is_sound reg ≡ true) × (allowed && stands ≡ true) × (place ≡ spot)

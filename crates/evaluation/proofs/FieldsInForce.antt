@@ -19,8 +19,7 @@ use Rattle.soundness.proofs.Deciding.{sound_told}
 use Rattle.evaluation.specs.InForce.{in_force_by, last_else, own_in, in_force, fields_of}
 use Rattle.judge.specs.CaseRows.{OfCase}
 use Rattle.evaluation.specs.View.{event_row_at, LastKept, StandsAt}
-use Rattle.evaluation.specs.declared.in_force.Kept.{Kept}
-use Rattle.evaluation.specs.declared.in_force.Kept.TheVariants as found
+use Rattle.std.specs.Prelude.{Option as Answer, None, Some}
 use Rattle.evaluation.proofs.FieldsRead.{runs_at, own_scales, own_prevalente, kept_scales, kept_prevalente, own_read, kept_read}
 use Rattle.evaluation.proofs.LastOf.{last_none, last_at, smaller, row_found}
 
@@ -57,13 +56,13 @@ module _ (reg : List ℕ) (c place : ℕ) (s : StandsAt reg c place) where
     by_rows e =
         ap (λ (n : Option (Row ℕ)). fields_of (last_else (own_in (find c cases)) n)) (ap (last_of (in_force_by day)) (o.are s.sound) ∙ e)
 
-    module _ (k : Kept) (told : Climbs reg lo hi → LastKept reg day lo hi k) where
+    module _ (k : Answer ℕ) (told : Climbs reg lo hi → LastKept reg day lo hi k) where
       last : LastKept reg day lo hi k
       last = told (o.settled s.sound).climbs
 
       -- one of them is in force
-      module _ (i : ℕ) (is : k ≡ found.At i) where
-        at : LastKept reg day lo hi (found.At i)
+      module _ (i : ℕ) (is : k ≡ Some i) where
+        at : LastKept reg day lo hi (Some i)
         at = subst (LastKept reg day lo hi) is last
 
         pub kept_inside : row_at siad (i + 1) ≤ length reg
@@ -77,12 +76,12 @@ module _ (reg : List ℕ) (c place : ℕ) (s : StandsAt reg c place) where
             ∙ sym (by_rows (last_at (in_force_by day) (event_row_at reg) lo (hi - lo) i at.0 (let h = at.1 in omega arith) at.2 (λ j a b. at.3 j a (omega arith))))
 
       -- none is
-      pub own_fields : k ≡ found.Never → (x row : List ℕ) → row ≡ take (place + row_bytes - place) (drop place reg) → x ≡ runs_at own_scales own_prevalente (num row) →
+      pub own_fields : k ≡ None → (x row : List ℕ) → row ≡ take (place + row_bytes - place) (drop place reg) → x ≡ runs_at own_scales own_prevalente (num row) →
           x ≡ fields_of (in_force (state_of siad reg) c day)
       unfolding row_in
       own_fields is x row r e =
           let m = o.mid in
-          let n : LastKept reg day lo hi found.Never = subst (LastKept reg day lo hi) is last in
+          let n : LastKept reg day lo hi None = subst (LastKept reg day lo hi) is last in
           let w : place + row_bytes - place ≡ row_bytes = omega arith in
           let q : row ≡ take row_bytes (drop (row_at siad (smaller c cases)) reg) = r ∙ ap₂ (λ (a b : ℕ). take a (drop b reg)) w s.there in
           e ∙ ap (λ (b : List ℕ). runs_at own_scales own_prevalente (num b)) q ∙ own_read (row_in siad reg (smaller c cases))

@@ -24,7 +24,7 @@ use Rattle.home_care.proofs.EventKeys.{dated}
 use Rattle.home_care.proofs.EventRows.{first_bits, bits_rise}
 use Rattle.evaluation.specs.InForce.{in_force_by}
 use Rattle.evaluation.specs.View.{event_row_at, LastKept}
-use Rattle.evaluation.specs.declared.in_force.Kept.TheVariants as found
+use Rattle.std.specs.Prelude.{None, Some}
 
 -- the row that is looked at, as an event's
 pub row_is : (reg row : List ℕ) (i : ℕ) → row ≡ take row_bytes (drop (4 + row_bytes * i) reg) → length row ≡ row_bytes → as_event row ≡ event_row_at reg i
@@ -104,10 +104,10 @@ module _ (reg : List ℕ) (day : ℕ) where
           go up k a b (equal l _ _) = ap (λ (j : ℕ). in_force_by day (event_row_at reg j)) (sym l) ∙ last_is up ∙ e
           go up k a b (above l _ _) = absurd (omega arith)
 
-      pub found_here : kept ≡ true → Climbs reg lo hi → LastKept reg day lo hi (found.At (i - 1))
+      pub found_here : kept ≡ true → Climbs reg lo hi → LastKept reg day lo hi (Some (i - 1))
       found_here e up =
           let h = p.high in
           (omega arith, omega arith, last_is up ∙ e, λ j a b. p.after up j (omega arith) b)
 
-    pub found_none : {i : ℕ} → Passed i → i ≤ lo → Climbs reg lo hi → LastKept reg day lo hi found.Never
+    pub found_none : {i : ℕ} → Passed i → i ≤ lo → Climbs reg lo hi → LastKept reg day lo hi None
     found_none p l up j a b = p.after up j (omega arith) b

@@ -1,7 +1,8 @@
 // The calls for a host, one body each, over numbers and slices: no caller is trusted, and every lent byte is stated. Crate exports_c gives them to C.
+// A case's texts come one by one and refusals go as numbers: that is the C interface (host/siad.h), which stays.
 #![tactic(auto)]
 
-ghost use Rattle.std.specs.Prelude.{◌≡◌};
+ghost use Rattle.std.specs.Prelude.{◌≡◌, MatchResult};
 ghost use Rattle.register.specs.RoomAndEmptying.{emptied};
 ghost use Rattle.soundness.specs.Sound.{soundness};
 ghost use Rattle.soundness.specs.Finding.{found};
@@ -12,19 +13,23 @@ ghost use Rattle.evaluation.specs.InForce.{evaluated};
 ghost use Rattle.widening.specs.Converted.{converted};
 ghost use Rattle.exports.specs.Told.{laid_over, Told};
 
-use soundness::find::Lookup;
+use soundness::find::CaseTexts;
 
 // As many of the numbers as fit a report, from its first entry on.
 fn report_on(report: &mut [u64], numbers: &[u64])
     ensures { report.new ≡ laid_over report.old numbers.now }
 {
-    let mut i = 0;
-    while i < report.len() {
-        if numbers.len() <= i {
-            return;
-        }
-        report[i] = numbers[i];
-        i += 1;
+    let fit = report.len().min(numbers.len());
+    report[..fit].copy_from_slice(&numbers[..fit]);
+}
+
+// 0 for a call that did what it was asked for, else the number of its refusal.
+fn answer<T: Drop, E: Into<u64>>(done: Result<T, E>) -> u64
+    ensures { MatchResult done (λ _. result ≡ 0) (λ refusal. E.converts refusal result) }
+{
+    match done {
+        Ok(_) => 0,
+        Err(refusal) => refusal.into(),
     }
 }
 
@@ -56,25 +61,16 @@ pub fn siad_submit(
 pub fn siad_empty(reg: &mut [u8]) -> u64
     ensures { (result ≡ (emptied reg.old).answer) × (reg.new ≡ (emptied reg.old).register) }
 {
-    register::emptying::empty(reg)
+    answer(register::emptying::empty(reg))
 }
 
 // 0 for a sound register, else 3.
+#[tactic(auto, unfolding(soundness::specs::Sound::soundness))]
 pub fn siad_sound(reg: &[u8]) -> u64
     ensures { result ≡ soundness reg.now }
 {
-    if soundness::sound::is_sound(reg) {
-        return 0;
-    }
-    3
-}
-
-// An answer, and its place.
-fn told(place: &mut u64, at: u64, answer: u64) -> u64
-    ensures { (result ≡ answer) × (place.new ≡ at) }
-{
-    *place = at;
-    answer
+    let sound = soundness::sound::is_sound(reg);
+    if sound { 0 } else { 3 }
 }
 
 // The place of a case's row: 0, or 3 for an unsound register, or 30 where a text isn't allowed or the case doesn't stand.
@@ -90,11 +86,15 @@ pub fn siad_find(
         × (place.new ≡ (found reg.now region.now asl.now date.now id.now).place) }
 {
     let t = days::table::make();
-    match soundness::find::find(&t, reg, region, asl, date, id) {
-        Lookup::At(at) => told(place, at as u64, 0),
-        Lookup::Unsound => told(place, 0, 3),
-        Lookup::Nowhere => told(place, 0, 30),
-    }
+    let texts = CaseTexts {
+        region,
+        asl,
+        date,
+        id,
+    };
+    let found = soundness::find::find(&t, reg, &texts);
+    *place = found.unwrap_or(0) as u64;
+    answer(found)
 }
 
 // Writes the file that cancels what a case has in a quarter: 0 with its length; or 1 for no such period, 3, 30 as finding answers, 31 where one of the events is
@@ -113,8 +113,8 @@ pub fn siad_cancel_file(
     ensures { CancelTold (cancel_file reg.now (case_texts region.now asl.now date.now id.now) year quarter out.old) result length.new out.new }
 {
     let written = cancellation::write::cancel_file(reg, region, asl, date, id, year, quarter, out);
-    *length = written.length as u64;
-    written.answer
+    *length = written.unwrap_or(0) as u64;
+    answer(written)
 }
 
 // The evaluation of a case in force on a day: 0 with six numbers and the prevalente's five characters; or 3 or 30, as finding answers, 30 also for a day that is
@@ -132,12 +132,18 @@ pub fn siad_evaluation(
         × (fields.new ≡ (evaluated reg.now region.now asl.now date.now id.now day.now).fields) }
 {
     let t = days::table::make();
-    evaluation::in_force::evaluation(&t, reg, region, asl, date, id, day, fields)
+    let texts = CaseTexts {
+        region,
+        asl,
+        date,
+        id,
+    };
+    answer(evaluation::in_force::evaluation(&t, reg, &texts, day, fields))
 }
 
 // A register in rows of 91 bytes converted into a new one: 0; or 3 for any other register, 33 where the new one is too short, and then no byte changes.
 pub fn siad_convert(old: &[u8], new: &mut [u8]) -> u64
     ensures { (result ≡ (converted old.now new.old).answer) × (new.new ≡ (converted old.now new.old).register) }
 {
-    widening::convert::convert(old, new)
+    answer(widening::convert::convert(old, new))
 }

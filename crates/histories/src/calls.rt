@@ -1,9 +1,10 @@
 // A script's commands: what each lends to the exported calls.
+ghost use Rattle.std.specs.Prelude.{◌≤◌, ◌<◌, length, IfOk};
+
 use crate::shown;
 use crate::words::{number, size, word};
 use home_care::layout::ROW;
-use markup::bytes::{part, peek, same};
-use register::moving::put_row;
+use markup::bytes::part;
 use std::rt::Files;
 use std::{io, str};
 use streams::read_file;
@@ -11,7 +12,8 @@ use streams::read_file;
 // What is lent to be written holds this before.
 const BEFORE: u8 = 77;
 
-// How many bytes of the register's buffer, of the answer list and of the output are lent, and how many of the output's the file has that was written last.
+// How many bytes of the register's buffer, of an answer list and of the output's buffer are lent, and how many of the output's the file has that was written last.
+// They stand beside the buffers (tried: with the buffers in one struct two of them can't be lent to a call at once).
 #[derive(Clone, Copy)]
 pub struct Held {
     pub register: usize,
@@ -20,90 +22,71 @@ pub struct Held {
     pub file: usize,
 }
 
+// A track and a period, as a line says them from a word on.
+#[derive(Clone, Copy)]
+struct Period {
+    track: u64,
+    year: u64,
+    quarter: u64,
+}
+
+impl Period {
+    fn of(line: &[u8], k: usize) -> Period
+        requires { k < 8 }
+    {
+        Period {
+            track: number(line, k),
+            year: number(line, k + 1),
+            quarter: number(line, k + 2),
+        }
+    }
+
+    // Of what was written, which is of Track 2.
+    fn undoing(line: &[u8]) -> Period {
+        Period {
+            track: 2,
+            year: number(line, 1),
+            quarter: number(line, 2),
+        }
+    }
+}
+
 // The bytes of a file, into a lent buffer: how many.
-pub fn read(rt: &(impl Files + Print), path: &[u8], buf: &mut [u8]) -> io::Result<usize> {
-    if let Ok(path) = str::from_utf8(path) {
-        if let Some(n) = read_file(rt, path, buf)? {
-            return Ok(n);
-        }
+pub fn read(rt: &(impl Files + Print), path: &[u8], buf: &mut [u8]) -> io::Result<usize>
+    ensures { IfOk result (λ n. n ≤ length buf.new) }
+{
+    if let Ok(path) = str::from_utf8(path)
+        && let Some(n) = read_file(rt, path, buf)?
+    {
+        return Ok(n);
     }
-    shown::put(rt, b"missing\n")?;
+    println!(rt; "missing")?;
     Ok(0)
-}
-
-// One byte from a place on.
-fn fill(buf: &mut [u8], from: usize, b: u8) {
-    for i in from..buf.len() {
-        buf[i] = b;
-    }
-}
-
-fn is_filled(s: &[u8], from: usize, b: u8) -> bool {
-    for i in from..s.len() {
-        if s[i] != b {
-            return false;
-        }
-    }
-    true
 }
 
 // The answer list has as many bytes as the script lends of the buffer. No number of the report is 0 before, so that the call must have said it.
 fn submit(
     rt: &impl Print,
     sub: &[u8],
-    track: u64,
-    year: u64,
-    quarter: u64,
+    period: Period,
     list: usize,
     reg: &mut [u8],
 ) -> io::Result<()> {
-    let mut buffer = [0u8; 4096];
-    let answers: &mut [u8] = &mut buffer;
+    let mut answers = [0u8; 4096];
     let mut report = [77u64; 5];
-    if answers.len() < list {
-        return shown::put(rt, b"no list so long\n");
-    }
+    let Some(lent) = answers.get_mut(..list) else {
+        return println!(rt; "no list so long");
+    };
     let answer = exports::siad_submit(
         sub,
-        track,
-        year,
-        quarter,
+        period.track,
+        period.year,
+        period.quarter,
         reg,
-        &mut answers[..list],
+        lent,
         &mut report,
     );
-    shown::submitted(rt, answer, &report, answers, reg)
-}
-
-// The same, with so many of eight numbers as the report.
-fn submit_lending(
-    rt: &impl Print,
-    sub: &[u8],
-    line: &[u8],
-    list: usize,
-    reg: &mut [u8],
-    lent: usize,
-) -> io::Result<()> {
-    let mut buffer = [0u8; 4096];
-    let answers: &mut [u8] = &mut buffer;
-    let mut eight = [77u64; 8];
-    let numbers: &mut [u64] = &mut eight;
-    if answers.len() < list {
-        return shown::put(rt, b"no list so long\n");
-    }
-    if numbers.len() < lent {
-        return shown::put(rt, b"no report so long\n");
-    }
-    let answer = exports::siad_submit(
-        sub,
-        number(line, 2),
-        number(line, 3),
-        number(line, 4),
-        reg,
-        &mut answers[..list],
-        &mut numbers[..lent],
-    );
-    shown::reported(rt, answer, numbers, reg)
+    shown::submitted(rt, answer, &report, &answers, reg)
 }
 
 fn submit_file(
@@ -114,15 +97,7 @@ fn submit_file(
     sub: &mut [u8],
 ) -> io::Result<()> {
     let n = read(rt, word(line, 4), sub)?;
-    submit(
-        rt,
-        part(sub, 0, n),
-        number(line, 1),
-        number(line, 2),
-        number(line, 3),
-        list,
-        reg,
-    )
+    submit(rt, &sub[..n], Period::of(line, 1), list, reg)
 }
 
 // With blanks behind the file, up to so many bytes.
@@ -134,18 +109,17 @@ fn submit_padded(
     sub: &mut [u8],
 ) -> io::Result<()> {
     let n = read(rt, word(line, 5), sub)?;
-    fill(sub, n, b' ');
+    sub[n..].fill(b' ');
     submit(
         rt,
         part(sub, 0, size(line, 1)),
-        number(line, 2),
-        number(line, 3),
-        number(line, 4),
+        Period::of(line, 2),
         list,
         reg,
     )
 }
 
+// With so many of eight numbers as the report.
 fn report(
     rt: &(impl Files + Print),
     line: &[u8],
@@ -154,11 +128,41 @@ fn report(
     sub: &mut [u8],
 ) -> io::Result<()> {
     let n = read(rt, word(line, 5), sub)?;
-    submit_lending(rt, part(sub, 0, n), line, list, reg, size(line, 1))
+    let period = Period::of(line, 2);
+    let mut answers = [0u8; 4096];
+    let mut report = [77u64; 8];
+    let Some(list) = answers.get_mut(..list) else {
+        return println!(rt; "no list so long");
+    };
+    let Some(numbers) = report.get_mut(..size(line, 1)) else {
+        return println!(rt; "no report so long");
+    };
+    let answer = exports::siad_submit(
+        &sub[..n],
+        period.track,
+        period.year,
+        period.quarter,
+        reg,
+        list,
+        numbers,
+    );
+    shown::reported(rt, answer, &report, reg)
 }
 
-// The case of the line's texts and this Id_Rec: answer and place.
-fn find(rt: &impl Print, line: &[u8], id: &[u8], reg: &[u8]) -> io::Result<()> {
+// An Id_Rec of one character is written for 88 of it.
+fn in_full<'a>(id: &'a [u8], whole: &'a mut [u8; 88]) -> &'a [u8] {
+    if let [b] = id {
+        whole.fill(*b);
+        whole
+    } else {
+        id
+    }
+}
+
+// The case of the line's texts: answer and place.
+fn find(rt: &impl Print, line: &[u8], reg: &[u8]) -> io::Result<()> {
+    let mut whole = [0u8; 88];
+    let id = in_full(word(line, 4), &mut whole);
     let mut place: u64 = 0;
     let answer = exports::siad_find(
         reg,
@@ -171,19 +175,10 @@ fn find(rt: &impl Print, line: &[u8], id: &[u8], reg: &[u8]) -> io::Result<()> {
     shown::place(rt, answer, place)
 }
 
-// An Id_Rec of one character is written for 88 of it.
-fn in_full<'a>(id: &'a [u8], whole: &'a [u8]) -> &'a [u8] {
-    if id.len() == 1 { whole } else { id }
-}
-
-fn find_case(rt: &impl Print, line: &[u8], reg: &[u8]) -> io::Result<()> {
-    let id = word(line, 4);
-    let whole = [peek(id, 0); 88];
-    find(rt, line, in_full(id, &whole), reg)
-}
-
-// The evaluation of the line's case, with this Id_Rec, on its day: answer and fields.
-fn evaluation(rt: &impl Print, line: &[u8], id: &[u8], reg: &[u8]) -> io::Result<()> {
+// The evaluation of the line's case on its day: answer and fields.
+fn evaluation(rt: &impl Print, line: &[u8], reg: &[u8]) -> io::Result<()> {
+    let mut whole = [0u8; 88];
+    let id = in_full(word(line, 4), &mut whole);
     let mut fields = [BEFORE; 11];
     let answer = exports::siad_evaluation(
         reg,
@@ -197,20 +192,12 @@ fn evaluation(rt: &impl Print, line: &[u8], id: &[u8], reg: &[u8]) -> io::Result
     shown::evaluation(rt, answer, &fields)
 }
 
-fn evaluation_of(rt: &impl Print, line: &[u8], reg: &[u8]) -> io::Result<()> {
-    let id = word(line, 4);
-    let whole = [peek(id, 0); 88];
-    evaluation(rt, line, in_full(id, &whole), reg)
-}
-
-// A cancellation file of the line's texts and this Id_Rec, for its quarter: answer and length. The length isn't 0 before, so that the call must have said it.
-fn cancel(
-    rt: &impl Print,
-    line: &[u8],
-    id: &[u8],
-    reg: &[u8],
-    out: &mut [u8],
-) -> io::Result<usize> {
+// A cancellation file of the line's texts, for its quarter, into an output that is blank before: answer and length. The length isn't 0 before, so that the call
+// must have said it.
+fn cancel(rt: &impl Print, line: &[u8], reg: &[u8], out: &mut [u8]) -> io::Result<usize> {
+    out.fill(b' ');
+    let mut whole = [0u8; 88];
+    let id = in_full(word(line, 5), &mut whole);
     let mut length: u64 = 77;
     let answer = exports::siad_cancel_file(
         reg,
@@ -227,28 +214,21 @@ fn cancel(
     Ok(length as usize)
 }
 
-// The output is blank before.
-fn cancel_case(rt: &impl Print, line: &[u8], reg: &[u8], out: &mut [u8]) -> io::Result<usize> {
-    fill(out, 0, b' ');
-    let id = word(line, 5);
-    let whole = [peek(id, 0); 88];
-    cancel(rt, line, in_full(id, &whole), reg, out)
-}
-
 // The output has as many bytes as the script lends of the buffer.
-fn write(rt: &impl Print, line: &[u8], held: Held, reg: &[u8], out: &mut [u8]) -> io::Result<Held> {
+fn write(
+    rt: &impl Print,
+    line: &[u8],
+    held: &mut Held,
+    reg: &[u8],
+    out: &mut [u8],
+) -> io::Result<()> {
     let output = size(line, 1);
-    if out.len() < output {
-        shown::put(rt, b"no output so long\n")?;
-        return Ok(held);
-    }
-    let file = cancel_case(rt, line, reg, &mut out[..output])?;
-    Ok(Held {
-        register: held.register,
-        list: held.list,
-        output,
-        file,
-    })
+    let Some(out) = out.get_mut(..output) else {
+        return println!(rt; "no output so long");
+    };
+    held.file = cancel(rt, line, reg, out)?;
+    held.output = output;
+    Ok(())
 }
 
 // Whether the output that was lent is this file, and blank behind it as before.
@@ -260,158 +240,110 @@ fn compare(
     out: &[u8],
 ) -> io::Result<()> {
     let n = read(rt, path, sub)?;
-    let written = (n == held.file) & same(part(sub, 0, n), part(out, 0, n));
-    if written & is_filled(part(out, 0, held.output), n, b' ') {
-        shown::put(rt, b"same\n")
-    } else {
-        shown::put(rt, b"differs\n")
-    }
+    let written = (n == held.file) & (&sub[..n] == part(out, 0, n));
+    let blank = part(out, n, held.output).iter().all(|b| *b == b' ');
+    let answer = if written & blank { "same" } else { "differs" };
+    println!(rt; "{answer}")
 }
 
 // The calls, on the register that is lent.
 fn call(
     rt: &(impl Files + Print),
     line: &[u8],
-    held: Held,
+    held: &mut Held,
     reg: &mut [u8],
     sub: &mut [u8],
-    out: &[u8],
+    out: &mut [u8],
 ) -> io::Result<()> {
-    let name = word(line, 0);
     let list = held.list;
-    if same(name, b"submit") {
-        submit_file(rt, line, list, reg, sub)
-    } else if same(name, b"padded") {
-        submit_padded(rt, line, list, reg, sub)
-    } else if same(name, b"report") {
-        report(rt, line, list, reg, sub)
-    } else if same(name, b"undo") {
-        submit(
+    match word(line, 0) {
+        b"cancel" => write(rt, line, held, reg, out),
+        b"submit" => submit_file(rt, line, list, reg, sub),
+        b"padded" => submit_padded(rt, line, list, reg, sub),
+        b"report" => report(rt, line, list, reg, sub),
+        b"undo" => submit(
             rt,
             part(out, 0, held.file),
-            2,
-            number(line, 1),
-            number(line, 2),
+            Period::undoing(line),
             list,
             reg,
-        )
-    } else if same(name, b"text") {
-        compare(rt, word(line, 1), held, sub, out)
-    } else if same(name, b"sound") {
-        shown::answer(rt, exports::siad_sound(reg))
-    } else if same(name, b"find") {
-        find_case(rt, line, reg)
-    } else if same(name, b"evaluation") {
-        evaluation_of(rt, line, reg)
-    } else if same(name, b"empty") {
-        shown::answer(rt, exports::siad_empty(reg))?;
-        shown::standing(rt, reg)
-    } else if !same(name, b"#") {
-        shown::put(rt, b"unknown\n")
-    } else {
-        Ok(())
+        ),
+        b"text" => compare(rt, word(line, 1), *held, sub, out),
+        b"sound" => shown::answer(rt, exports::siad_sound(reg)),
+        b"find" => find(rt, line, reg),
+        b"evaluation" => evaluation(rt, line, reg),
+        b"empty" => {
+            shown::answer(rt, exports::siad_empty(reg))?;
+            shown::standing(rt, reg)
+        }
+        b"#" => Ok(()),
+        _ => println!(rt; "unknown"),
     }
 }
 
 // A register of so many zero bytes, as far as the buffer goes.
-fn zeros(n: usize, reg: &mut [u8]) -> usize {
+fn zeros(n: usize, reg: &mut [u8]) -> usize
+    ensures { result ≤ length reg.new }
+{
     exports::siad_empty(reg);
-    if n <= reg.len() {
-        return n;
-    }
-    reg.len()
+    n.min(reg.len())
 }
 
-fn load(rt: &(impl Files + Print), path: &[u8], reg: &mut [u8]) -> io::Result<usize> {
+fn load(rt: &(impl Files + Print), path: &[u8], reg: &mut [u8]) -> io::Result<usize>
+    ensures { IfOk result (λ n. n ≤ length reg.new) }
+{
     exports::siad_empty(reg);
     read(rt, path, reg)
 }
 
-// The same with a register of so many bytes.
-fn lending(held: Held, register: usize) -> Held {
-    Held {
-        register,
-        list: held.list,
-        output: held.output,
-        file: held.file,
-    }
-}
-
-// The register that is held into a new one: the answer, and how many bytes are held from then on. A new one that was refused must be as it was.
-fn convert_into(rt: &impl Print, reg: &mut [u8], held: usize, new: &mut [u8]) -> io::Result<usize> {
-    if reg.len() < held {
-        return Ok(held);
-    }
-    if reg.len() < new.len() {
-        shown::put(rt, b"no register so long\n")?;
-        return Ok(held);
-    }
-    fill(new, 0, BEFORE);
-    let answer = exports::siad_convert(&reg[..held], new);
-    if answer != 0 {
-        shown::refused(rt, answer, is_filled(new, 0, BEFORE))?;
-        return Ok(held);
-    }
-    shown::converted(rt)?;
-    exports::siad_empty(reg);
-    put_row(reg, new);
-    Ok(new.len())
-}
-
-// In so many bytes of the submission's buffer.
+// The register that is held into a new one, of so many bytes of the submission's buffer, and held from then on. A new one that was refused must be as it was.
 fn convert(
     rt: &impl Print,
     n: usize,
-    held: Held,
+    held: &mut Held,
     reg: &mut [u8],
     sub: &mut [u8],
-) -> io::Result<Held> {
-    if sub.len() < n {
-        shown::put(rt, b"no register so long\n")?;
-        return Ok(held);
+) -> io::Result<()> {
+    if (sub.len() < n) | (reg.len() < n) {
+        return println!(rt; "no register so long");
     }
-    let register = convert_into(rt, reg, held.register, &mut sub[..n])?;
-    Ok(lending(held, register))
+    let Some(old) = reg.get(..held.register) else {
+        return Ok(());
+    };
+    let new = &mut sub[..n];
+    new.fill(BEFORE);
+    let answer = exports::siad_convert(old, new);
+    if answer != 0 {
+        return shown::refused(rt, answer, new.iter().all(|b| *b == BEFORE));
+    }
+    shown::converted(rt)?;
+    exports::siad_empty(reg);
+    reg[..n].copy_from_slice(new);
+    held.register = n;
+    Ok(())
 }
 
 // A line's command, and what is lent from then on.
 pub fn command(
     rt: &(impl Files + Print),
     line: &[u8],
-    held: Held,
+    held: &mut Held,
     reg: &mut [u8],
     sub: &mut [u8],
     out: &mut [u8],
-) -> io::Result<Held> {
+) -> io::Result<()> {
     shown::echo(rt, line)?;
-    let name = word(line, 0);
-    if same(name, b"rows") {
-        return Ok(lending(held, zeros(4 + ROW * size(line, 1), reg)));
+    match word(line, 0) {
+        b"rows" => held.register = zeros(4 + ROW * size(line, 1), reg),
+        b"bytes" => held.register = zeros(size(line, 1), reg),
+        b"load" => held.register = load(rt, word(line, 1), reg)?,
+        b"list" => held.list = size(line, 1),
+        b"convert" => convert(rt, size(line, 1), held, reg, sub)?,
+        _ => {
+            if let Some(reg) = reg.get_mut(..held.register) {
+                call(rt, line, held, reg, sub, out)?;
+            }
+        }
     }
-    if same(name, b"bytes") {
-        return Ok(lending(held, zeros(size(line, 1), reg)));
-    }
-    if same(name, b"load") {
-        return Ok(lending(held, load(rt, word(line, 1), reg)?));
-    }
-    if same(name, b"list") {
-        return Ok(Held {
-            register: held.register,
-            list: size(line, 1),
-            output: held.output,
-            file: held.file,
-        });
-    }
-    if same(name, b"convert") {
-        return convert(rt, size(line, 1), held, reg, sub);
-    }
-    let n = held.register;
-    if reg.len() < n {
-        return Ok(held);
-    }
-    if same(name, b"cancel") {
-        return write(rt, line, held, &reg[..n], out);
-    }
-    call(rt, line, held, &mut reg[..n], sub, out)?;
-    Ok(held)
+    Ok(())
 }

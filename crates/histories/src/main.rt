@@ -20,11 +20,8 @@ mod shown;
 mod words;
 
 use calls::Held;
-use markup::bytes::part;
-use shown::put;
 use std::rt::Files;
 use std::{env, io};
-use words::{next, past};
 
 // The lines of a script, one after the other, from a register of 4 bytes and the program's answer list.
 fn run(
@@ -41,11 +38,9 @@ fn run(
         output: 0,
         file: 0,
     };
-    let mut at = 0;
-    while at < script.len() {
-        let end = next(script, at, b'\n');
-        held = calls::command(rt, part(script, at, end), held, reg, sub, out)?;
-        at = past(script, at, b'\n');
+    for line in script.split_inclusive(|b| *b == b'\n') {
+        let line = line.strip_suffix(b"\n").unwrap_or(line);
+        calls::command(rt, line, &mut held, reg, sub, out)?;
     }
     Ok(())
 }
@@ -57,11 +52,10 @@ fn one(
     sub: &mut [u8; 1048577],
     out: &mut [u8; 423766],
 ) -> io::Result<()> {
-    put(rt, path.as_bytes())?;
-    put(rt, b":\n")?;
+    println!(rt; "{path}:")?;
     let mut script = [0u8; 65536];
-    let long = calls::read(rt, path.as_bytes(), &mut script)?;
-    run(rt, part(&script, 0, long), reg, sub, out)
+    let n = calls::read(rt, path.as_bytes(), &mut script)?;
+    run(rt, &script[..n], reg, sub, out)
 }
 
 // The buffers are made once: a register of 4,096 rows of up to 97 bytes fits, the shortest submission that is too long, and the longest cancellation file.

@@ -7,7 +7,7 @@ use crate::event_bits::{conferma_of, kind_of};
 use crate::layout::{AFTER_EVENT, ANEW, CHAR_BITS, EVALUATION_BITS, SCALE_BITS};
 use codes::code_lists::REVALUATION;
 use rows::reader::get;
-use rows::writer::{Bits, finish, put_each};
+use rows::writer::Bits;
 
 // The bytes that its bits fill.
 const BYTES: usize = 6;
@@ -18,14 +18,10 @@ pub fn evaluation_number(scales: &[u8], prevalente: &[u8]) -> u64
     ensures { (result ≡ evaluation_number (evaluation_with scales.now prevalente.now)) × (result < 2 ^ evaluation_bits) }
 {
     let mut out = [0u8; BYTES];
-    let s = Bits {
-        acc: 0,
-        have: 0,
-        at: 0,
-    };
-    let s = put_each(&mut out, s, SCALE_BITS, scales);
-    let s = put_each(&mut out, s, CHAR_BITS, prevalente);
-    finish(&mut out, s);
+    Bits::new()
+        .put_each(&mut out, SCALE_BITS, scales)
+        .put_each(&mut out, CHAR_BITS, prevalente)
+        .finish(&mut out);
     get(&out, 0, EVALUATION_BITS)
 }
 

@@ -11,6 +11,7 @@ use crate::layout::{
     DATED_BITS, DAY_BITS, END, EVENT_BITS, KIND, KIND_BITS, OWN_BITS, PAST_OWN,
 };
 use codes::code_lists::{SERVICE, SUSPENSION};
+use rows::reader::get;
 
 // A field of an event: the w bits that stand at a place of its row.
 fn field(e: u64, at: usize, w: usize) -> u64
@@ -87,7 +88,7 @@ pub fn event_of(row: &[u8]) -> u64
     requires { RowWidth (length row.now) }
     ensures { (result ≡ event_number_in_wide (length row.now) (as_event row.now)) × (result < 2 ^ event_bits) }
 {
-    rows::reader::get(row, CASE_KEY, EVENT_BITS)
+    get(row, CASE_KEY, EVENT_BITS)
 }
 
 // Whether two suspensions share a day.

@@ -7,4 +7,5 @@ pub mod event_bits;
 pub mod event_rows;
 pub mod layout;
 pub mod pack;
+pub mod row;
 pub mod texts;

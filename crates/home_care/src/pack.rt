@@ -1,7 +1,7 @@
 // The rows of the table, packed: into a buffer of any length that has room for the fields.
 ghost use Rattle.std.specs.Prelude.{◌≡◌, ◌+◌, ◌-◌, ◌*◌, ◌^◌, ◌≤◌, ◌<◌, length};
 ghost use Rattle.rows.specs.Packing.{num, row_number};
-ghost use Rattle.rows.specs.Writer.{so_far, count, Tidy, Wrote, start};
+ghost use Rattle.rows.specs.Writer.{so_far, count, Wrote, start};
 ghost use Rattle.home_care.specs.Row.{key_bits, case_bits, event_bits, evaluation_bits, key_fields, case_fields, case_number, event_number};
 ghost use Rattle.home_care.specs.Fits.{key_with, case_with, event_with, KeyFits, CaseFits, EventFits};
 
@@ -9,7 +9,7 @@ use crate::layout::{
     ACCESSES_BITS, BIRTH_BITS, CHAR_BITS, CODE_BITS, CONFERMA_BITS, DAY_BITS, EVALUATION_BITS,
     EVENT_BITS, REGION_BITS, SCALE_BITS,
 };
-use rows::writer::{Bits, finish, put, put_each};
+use rows::writer::Bits;
 
 // Writes the key of a case.
 pub fn put_key(out: &mut [u8], region: u64, asl: &[u8], day: u64, id: &[u8]) -> Bits
@@ -18,28 +18,23 @@ pub fn put_key(out: &mut [u8], region: u64, asl: &[u8], day: u64, id: &[u8]) -> 
     ensures wrote { Wrote out.old out.new start result (key_fields (key_with region asl.now day id.now)) }
     ensures result_value { count result ≡ key_bits }
 {
-    let s = Bits {
-        acc: 0,
-        have: 0,
-        at: 0,
-    };
-    let s = put(out, s, REGION_BITS, region);
-    let s = put_each(out, s, CHAR_BITS, asl);
-    let s = put(out, s, DAY_BITS, day);
-    put_each(out, s, CHAR_BITS, id)
+    Bits::new()
+        .put(out, REGION_BITS, region)
+        .put_each(out, CHAR_BITS, asl)
+        .put(out, DAY_BITS, day)
+        .put_each(out, CHAR_BITS, id)
 }
 
 // Writes what a case has after its key.
 pub fn put_case(out: &mut [u8], s: Bits, birth: u64, prevalente: &[u8], scales: &[u8]) -> Bits
-    requires tidy { Tidy s }
     requires case_fits { CaseFits (case_with birth prevalente.now scales.now) }
     requires case_bits_bound { count s + case_bits ≤ 8 * length out.old }
     ensures wrote { Wrote out.old out.new s result (case_fields (case_with birth prevalente.now scales.now)) }
     ensures result_value { count result ≡ count s + case_bits }
 {
-    let s = put(out, s, BIRTH_BITS, birth);
-    let s = put_each(out, s, CHAR_BITS, prevalente);
-    put_each(out, s, SCALE_BITS, scales)
+    s.put(out, BIRTH_BITS, birth)
+        .put_each(out, CHAR_BITS, prevalente)
+        .put_each(out, SCALE_BITS, scales)
 }
 
 // A row of the key alone: the probe that a search compares with.
@@ -48,17 +43,15 @@ pub fn pack_key(out: &mut [u8], region: u64, asl: &[u8], day: u64, id: &[u8])
     requires key_bits_bound { key_bits ≤ 8 * length out.old }
     ensures { num out.new ≡ row_number (length out.old) (key_fields (key_with region asl.now day id.now)) }
 {
-    let s = put_key(out, region, asl, day, id);
-    finish(out, s);
+    put_key(out, region, asl, day, id).finish(out);
 }
 
 // A case's row behind a key that a writer has written: the case's fields, then zero bits.
 pub fn set_case(out: &mut [u8], s: Bits, birth: u64, prevalente: &[u8], scales: &[u8])
-    requires { Tidy s × CaseFits (case_with birth prevalente.now scales.now) × (count s + case_bits ≤ 8 * length out.old) }
+    requires { CaseFits (case_with birth prevalente.now scales.now) × (count s + case_bits ≤ 8 * length out.old) }
     ensures { num out.new ≡ (so_far out.old s * 2 ^ case_bits + case_number (case_with birth prevalente.now scales.now)) * 2 ^ (8 * length out.old - (count s + case_bits)) }
 {
-    let t = put_case(out, s, birth, prevalente, scales);
-    finish(out, t);
+    put_case(out, s, birth, prevalente, scales).finish(out);
 }
 
 // The number of an event's fields.
@@ -74,11 +67,11 @@ pub fn event_number(kind: u64, date: u64, code: u64, end: u64, accesses: u64, co
 // An event's row behind a key that a writer has written: the event's number, its evaluation's, then zero bits. What was written stays, so that the key serves
 // the next event too.
 pub fn set_event(out: &mut [u8], s: Bits, event: u64, evaluation: u64)
-    requires { Tidy s × (event < 2 ^ event_bits) × (evaluation < 2 ^ evaluation_bits) × (count s + event_bits + evaluation_bits ≤ 8 * length out.old) }
+    requires { (event < 2 ^ event_bits) × (evaluation < 2 ^ evaluation_bits) × (count s + event_bits + evaluation_bits ≤ 8 * length out.old) }
     ensures { (num out.new ≡ ((so_far out.old s * 2 ^ event_bits + event) * 2 ^ evaluation_bits + evaluation) * 2 ^ (8 * length out.old - (count s + event_bits + evaluation_bits)))
         × (so_far out.new s ≡ so_far out.old s) }
 {
-    let t = put(out, s, EVENT_BITS, event);
-    let t = put(out, t, EVALUATION_BITS, evaluation);
-    finish(out, t);
+    s.put(out, EVENT_BITS, event)
+        .put(out, EVALUATION_BITS, evaluation)
+        .finish(out);
 }

@@ -14,25 +14,13 @@ fn is_text(b: u8) -> bool
 pub fn all_text(s: &[u8]) -> bool
     ensures { result ≡ all (λ b. in_file b && is_text b) s.now }
 {
-    let mut good = true;
-    let mut i = 0;
-    while i < s.len() {
-        good = good & is_text(s[i]);
-        i += 1;
-    }
-    good
+    s.iter().fold(true, |good, b| good & is_text(*b))
 }
 
 pub fn all_zero(s: &[u8]) -> bool
     ensures { result ≡ all (λ b. eqb b 0) s.now }
 {
-    let mut good = true;
-    let mut i = 0;
-    while i < s.len() {
-        good = good & (s[i] == 0);
-        i += 1;
-    }
-    good
+    s.iter().fold(true, |good, b| good & (*b == 0))
 }
 
 // n characters, then zeros.
@@ -46,13 +34,12 @@ fn text_of(p: &[u8], n: usize) -> bool
 }
 
 // 3 to 5 characters, then zeros; not 000.
-pub fn prevalente_allowed(p: &[u8]) -> bool
-    requires { length p.now ≡ 5 }
+pub fn prevalente_allowed(p: &[u8; 5]) -> bool
     ensures { result ≡ prevalente_allowed p.now }
 {
     let three = text_of(p, 3);
     let four = text_of(p, 4);
     let five = text_of(p, 5);
-    let none = (p[0] == b'0') & ((p[1] == b'0') & ((p[2] == b'0') & ((p[3] == 0) & (p[4] == 0))));
+    let none = *p == *b"000\0\0";
     (three | (four | five)) & !none
 }

@@ -55,18 +55,12 @@ module _ {S R : Type 0} (d : Driver S R) where
     kid_passed f = record { taken = λ y. absurd (false≢true (sym f ∙ e ∙ y)); passed = λ _. (refl, refl, refl) }
 
     module _ (f : b ≡ true) {later : List ℕ} (n : ℕ) (k : Took d reg a n later) where
-      counted : (j : ℕ) → j ≡ before.accepted + cond (eqb n 0) 1 0 → TookKid d before reg list a (tallied (before.records + 1) j) later (set list before.records n)
-      counted j q =
+      pub kid_counted : (j : ℕ) → j ≡ before.accepted + cond (eqb n 0) 1 0 → TookKid d before reg list a (tallied (before.records + 1) j) later (set list before.records n)
+      kid_counted j q =
           record {
             taken = λ _. (n, record { took = k; list_after = refl; records = refl; accepted = q });
             passed = λ y. absurd (false≢true (sym y ∙ sym e ∙ f));
           }
-
-      pub kid_accepted : n ≡ 0 → TookKid d before reg list a (tallied (before.records + 1) (before.accepted + 1)) later (set list before.records n)
-      kid_accepted z = counted (before.accepted + 1) (rw (eq-eqb n 0 z))
-
-      pub kid_discarded : (n ≡ 0 → ⊥) → TookKid d before reg list a (tallied (before.records + 1) before.accepted) later (set list before.records n)
-      kid_discarded z = counted before.accepted (rw (ne_eqb n 0 z) (omega arith))
 
   -- ---- from a state and a list with so many answers on, after the children ahead
 

@@ -6,7 +6,7 @@ use mathlib.Core.List.{List}
 use lib.ListN.{length}
 use Rattle.markup.specs.Elements.{Tree}
 use Rattle.markup.specs.View.{part}
-use Rattle.nodes.specs.declared.Six.{Six}
+use Rattle.tracks.specs.declared.record.Top.{Top}
 use Rattle.model.specs.Checks.{first}
 use Rattle.model.specs.Flow.{State}
 use Rattle.model.proofs.ChecksLaws.{clear}
@@ -22,7 +22,6 @@ use Rattle.home_care.specs.Anomalies.{Context}
 use Rattle.tracks.specs.RecordFields.{head_of, admission_of}
 use Rattle.tracks.specs.View.{IsAdmission}
 use Rattle.tracks.specs.Top.{OfShape}
-use Rattle.tracks.specs.declared.record.HeadRead.{HeadRead}
 use Rattle.tracks.specs.declared.record.AdmissionRead.{AdmissionRead}
 use Rattle.soundness.specs.Sound.{is_sound}
 use Rattle.checks.specs.Flow.{next}
@@ -39,16 +38,16 @@ use Rattle.intake.proofs.RecordRead.{of_shape, record_1}
 use Rattle.intake.proofs.RecordTaken.{discarded, accepted}
 
 -- judged with the answer n: where that is 0 the case fits its row, and the two ways out
-pub record CaseWays (r : AdmissionRead) (h : HeadRead) (probe reg : List ℕ) (c : Context) (n : ℕ) (a : Tree) : Type 0 where
+pub record CaseWays (r : AdmissionRead) (tipo : ℕ) (probe reg : List ℕ) (c : Context) (n : ℕ) (a : Tree) : Type 0 where
   pub fits : n ≡ 0 → CaseFits (case_with r.birth r.prevalente r.scales)
   pub discarded : (n ≡ 0 → ⊥) → Took (siad_driver 1 c) reg a n reg
   pub accepted : n ≡ 0 → c.room ≡ room siad (length reg) → (later : List ℕ) →
-      ((g : Head) (b : Admission) (t : State ℕ ℕ) (d : Context) → key_number g.key ≡ probe_key row_bytes key_bits probe → h.tipo ≡ g.tipo →
+      ((g : Head) (b : Admission) (t : State ℕ ℕ) (d : Context) → key_number g.key ≡ probe_key row_bytes key_bits probe → tipo ≡ g.tipo →
       b.case ≡ case_with r.birth r.prevalente r.scales → d.room ≡ room siad (length reg) → Stored siad reg t →
       first (checks_of d (admission g b)) t ≡ 0 → Stored siad later (next (admission g b) t)) →
       length later ≡ length reg → Took (siad_driver 1 c) reg a n later
 
-module _ (s : List ℕ) (top : Six) (r : AdmissionRead)
+module _ (s : List ℕ) (top : Top) (r : AdmissionRead)
     (told : (a : Tree) → OfShape 1 s top a → IsAdmission s r (admission_of a))
     (a : Tree) (x : Here 1 s top a) where
   is_admission : IsAdmission s r (admission_of a)
@@ -70,11 +69,11 @@ module _ (s : List ℕ) (top : Six) (r : AdmissionRead)
   abbrev said : Record
   said = admission (head_of a) (admission_of a)
 
-  module _ (h : HeadRead) (probe : List ℕ) (held : IsOf probe h.tipo h.day (head_of a))
+  module _ (tipo day : ℕ) (probe : List ℕ) (held : IsOf probe tipo day (head_of a))
       (region home comune stato : List ℕ) (er : region ≡ part s r.region.start r.region.end) (eh : home ≡ part s r.asl.start r.asl.end)
       (ec : comune ≡ part s r.comune.start r.comune.end) (es : stato ≡ part s r.stato.start r.stato.end)
       (reg : List ℕ) (f : Fit (each 8 reg)) (sound : is_sound reg ≡ true) (c : Context) (n : ℕ)
-      (judge-told : (g : Head) (b : Admission) → IsOf probe h.tipo h.day g → IsAdmitted r.birth r.prevalente region home comune stato b →
+      (judge-told : (g : Head) (b : Admission) → IsOf probe tipo day g → IsAdmitted r.birth r.prevalente region home comune stato b →
       is_sound reg ≡ true → n ≡ first (checks_of c (admission g b)) (state_of siad reg)) where
     is_admitted : IsAdmitted r.birth r.prevalente region home comune stato (admission_of a)
     is_admitted =
@@ -97,7 +96,7 @@ module _ (s : List ℕ) (top : Six) (r : AdmissionRead)
         (case_fits (head_of a).key (admission_of a).case readable_1.0 readable_1.1
         (clear 11 (checks_of c said) (state_of siad reg) (numbered c said) (sym judged ∙ z)))
 
-    pub case_ways : CaseWays r h probe reg c n a
+    pub case_ways : CaseWays r tipo probe reg c n a
     case_ways =
         record {
           fits = case_held;

@@ -12,7 +12,7 @@ use Rattle.laws.proofs.Truth.{and_left, and_right}
 use borrow.Author.Tests.{lt-ltb}
 use Rattle.laws.proofs.Every.{and_tell}
 use Rattle.markup.specs.Elements.{Tree}
-use Rattle.nodes.specs.declared.Six.{Six}
+use Rattle.tracks.specs.declared.record.Top.{Top}
 use Rattle.model.specs.Checks.{first}
 use Rattle.model.specs.Flow.{State}
 use Rattle.rows.specs.Packing.{each, Fit}
@@ -27,7 +27,6 @@ use Rattle.tracks.specs.RecordFields.{head_of, all_said}
 use Rattle.tracks.specs.View.{laid, IsEvents}
 use Rattle.tracks.specs.Top.{OfShape}
 use Rattle.tracks.specs.declared.events.EventsRead.{EventsRead}
-use Rattle.tracks.specs.declared.record.HeadRead.{HeadRead}
 use Rattle.soundness.specs.Sound.{is_sound}
 use Rattle.checks.specs.Flow.{next}
 use Rattle.checks.specs.CheckOrder.{checks_of}
@@ -106,15 +105,15 @@ pub record EventsHeld (r : EventsRead) (evs kept : List ℕ) : Type 0 where
   pub alike : length (take r.count kept) ≡ length (take r.count evs)
 
 -- judged with the answer n: the two ways out
-pub record EventsWays (r : EventsRead) (evs kept : List ℕ) (h : HeadRead) (probe reg : List ℕ) (c : Context) (n : ℕ) (a : Tree) : Type 0 where
+pub record EventsWays (r : EventsRead) (evs kept : List ℕ) (tipo : ℕ) (probe reg : List ℕ) (c : Context) (n : ℕ) (a : Tree) : Type 0 where
   pub discarded : (n ≡ 0 → ⊥) → Took (siad_driver 2 c) reg a n reg
   pub accepted : n ≡ 0 → c.room ≡ room siad (length reg) → (later : List ℕ) →
-      ((g : Head) (es : List Said) (t : State ℕ ℕ) (d : Context) → key_number g.key ≡ probe_key row_bytes key_bits probe → h.tipo ≡ g.tipo →
+      ((g : Head) (es : List Said) (t : State ℕ ℕ) (d : Context) → key_number g.key ≡ probe_key row_bytes key_bits probe → tipo ≡ g.tipo →
       ListedIn (take r.count evs) (take r.count kept) es → d.room ≡ room siad (length reg) → Stored siad reg t → first (checks_of d (events g es)) t ≡ 0 →
       Stored siad later (next (events g es) t)) →
       length later ≡ length reg → Took (siad_driver 2 c) reg a n later
 
-module _ (s : List ℕ) (top : Six) (r : EventsRead) (buffer evs beside kept : List ℕ) (wide : length buffer ≡ most_events) (wide-beside : length beside ≡ most_events)
+module _ (s : List ℕ) (top : Top) (r : EventsRead) (buffer evs beside kept : List ℕ) (wide : length buffer ≡ most_events) (wide-beside : length beside ≡ most_events)
     (told : (a : Tree) → OfShape 2 s top a → IsEvents r buffer evs beside kept (all_said a))
     (a : Tree) (x : Here 2 s top a) where
   is_events : IsEvents r buffer evs beside kept (all_said a)
@@ -149,14 +148,14 @@ module _ (s : List ℕ) (top : Six) (r : EventsRead) (buffer evs beside kept : L
   is_said : IsSaid (take r.count evs) r.bad_conferma r.zero_prevalente (all_said a)
   is_said = record { events = events_are; bad = is_events.bad; zero = is_events.zero }
 
-  module _ (h : HeadRead) (probe : List ℕ) (held : IsOf probe h.tipo h.day (head_of a))
+  module _ (tipo day : ℕ) (probe : List ℕ) (held : IsOf probe tipo day (head_of a))
       (reg : List ℕ) (f : Fit (each 8 reg)) (sound : is_sound reg ≡ true) (c : Context) (n : ℕ)
-      (judge-told : (g : Head) (es : List Said) → IsOf probe h.tipo h.day g → IsSaid (take r.count evs) r.bad_conferma r.zero_prevalente es →
+      (judge-told : (g : Head) (es : List Said) → IsOf probe tipo day g → IsSaid (take r.count evs) r.bad_conferma r.zero_prevalente es →
       Readable (events g es) → is_sound reg ≡ true → n ≡ first (checks_of c (events g es)) (state_of siad reg)) where
     judged : n ≡ first (checks_of c (events (head_of a) (all_said a))) (state_of siad reg)
     judged = judge-told (head_of a) (all_said a) held is_said readable_2 sound
 
-    pub events_ways : EventsWays r evs kept h probe reg c n a
+    pub events_ways : EventsWays r evs kept tipo probe reg c n a
     events_ways =
         record {
           discarded = discarded 2 a (events (head_of a) (all_said a)) (record_2 a) c reg f sound n judged;

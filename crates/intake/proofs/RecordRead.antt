@@ -9,7 +9,7 @@ use lib.ListN.{length, length-take, length-drop}
 use Rattle.markup.specs.Elements.{Tree}
 use Rattle.markup.specs.View.{part}
 use Rattle.schema.specs.Shape.{fault_of}
-use Rattle.nodes.specs.declared.Six.{Six}
+use Rattle.tracks.specs.declared.record.Top.{Top}
 use Rattle.schemas.specs.Track1.{track1}
 use Rattle.schemas.specs.Track2.{track2}
 use Rattle.rows.specs.Packing.{num, row_number}
@@ -34,7 +34,7 @@ use Rattle.intake.specs.Taking.{Here, siad_driver}
 
 -- ---- a record of either track
 
-pub of_shape : {k : ℕ} {s : List ℕ} {top : Six} {a : Tree} → Here k s top a → OfShape k s top a
+pub of_shape : {k : ℕ} {s : List ℕ} {top : Top} {a : Tree} → Here k s top a → OfShape k s top a
 of_shape x = record { at = x.at; tops = x.tops; clean = x.good.clean; well = x.good.well }
 
 -- tracks that are both 1, or both not
@@ -43,7 +43,7 @@ module _ (j k : ℕ) (e : eqb j 1 ≡ eqb k 1) (a : Tree) where
   unfolding record_of
   same_record = rw e
 
-  pub same_here : {s : List ℕ} {top : Six} → Here j s top a → Here k s top a
+  pub same_here : {s : List ℕ} {top : Top} → Here j s top a → Here k s top a
   same_here h =
       record {
         good =
@@ -87,7 +87,7 @@ probe_is k row f l e = sym (probe_key_lem row_bytes key_bits row l) ∙ key_of r
 within : (s : List ℕ) (at n : ℕ) → 0 < n → length (part s at (at + n)) ≡ n → at + n ≤ length s
 within s at n p e = omega (arith, simp (length-take, length-drop) at e)
 
-module _ (s : List ℕ) (top : Six) (r : HeadRead)
+module _ (s : List ℕ) (top : Top) (r : HeadRead)
     (told : (track : ℕ) (a : Tree) → OfShape track s top a → IsHead s r (head_of a))
     (k : ℕ) (a : Tree) (x : Here k s top a) where
   is_head : IsHead s r (head_of a)

@@ -19,6 +19,9 @@ use Rattle.home_care.specs.Anomalies.{Context}
 use Rattle.tracks.specs.RecordFields.{record_of}
 use Rattle.soundness.specs.Sound.{is_sound}
 use Rattle.soundness.proofs.Deciding.{sound_told}
+use Rattle.checks.specs.declared.anomaly.Anomaly.{Anomaly}
+use Rattle.checks.specs.declared.anomaly.Anomaly.TheVariants as x
+use Rattle.checks.specs.Numbers.{number_of}
 use Rattle.checks.specs.Flow.{next}
 use Rattle.checks.specs.CheckOrder.{checks_of, siad_machine}
 use Rattle.intake.specs.Driving.{Took}
@@ -28,6 +31,25 @@ use Rattle.intake.proofs.SoundBytes.{sound_stored}
 -- the rows of a sound register lie within it
 pub rows_within : (reg : List ℕ) → is_sound reg ≡ true → (4 ≤ length reg) × (row_at siad (cases_held reg + events_held reg) ≤ length reg)
 rows_within reg h = let s = sound_told reg h in let a = s.long in let b = s.few in (a, omega arith)
+
+-- an anomaly is no acceptance
+pub never_0 : (e : Anomaly) → number_of e ≡ 0 → ⊥
+never_0 x.OutOfQuarter e = omega arith
+never_0 x.BirthYear e = omega arith
+never_0 x.Residence e = omega arith
+never_0 x.ZeroPrevalente e = omega arith
+never_0 x.Standing e = omega arith
+never_0 x.NotStanding e = omega arith
+never_0 x.NoRoom e = omega arith
+never_0 x.NoEvents e = omega arith
+never_0 x.Conferma e = omega arith
+never_0 x.OneKey e = omega arith
+never_0 x.EndsBeforeBegin e = omega arith
+never_0 x.NoCase e = omega arith
+never_0 x.BeforeTakingIn e = omega arith
+never_0 x.SharedDay e = omega arith
+never_0 x.TwoConclusions e = omega arith
+never_0 x.AfterConclusion e = omega arith
 
 module _ (k : ℕ) (a : Tree) (r : Record) (is : record_of k a ≡ r) (c : Context) (before : List ℕ) (f : Fit (each 8 before)) (sound : is_sound before ≡ true) (n : ℕ)
     (judged : n ≡ first (checks_of c r) (state_of siad before)) where

@@ -8,7 +8,7 @@ use Rattle.laws.specs.Lists.{same}
 use Rattle.markup.specs.Elements.{Tree, kids}
 use Rattle.reading.specs.Many.{below_root}
 use Rattle.nodes.specs.Stands.{Ahead}
-use Rattle.nodes.specs.declared.Six.{Six}
+use Rattle.tracks.specs.declared.record.Top.{Top}
 use Rattle.model.specs.Machine.{run}
 use Rattle.model.specs.Flow.{State}
 use Rattle.rows.specs.Packing.{each, Fit}
@@ -67,10 +67,10 @@ module _ (track : ℕ) (c : Context) where
 
   -- the next child, with its children at hand
   pub going_next : {r : Tally} {reg list : List ℕ} {target : End} {n l m : List ℕ} (g : Going (siad_driver track c) (Kind c) r reg list target n l)
-      (a : Ahead below_root n m (kids g.inside)) {s : List ℕ} {at : ℕ} {top : Six} → TopOf s at a.tree top → Next track s at top r (length list) a.tree
+      (a : Ahead below_root n m (kids g.inside)) {s : List ℕ} {at : ℕ} {top : Top} → TopOf s at a.tree top → Next track s at top r (length list) a.tree
   going_next g a e = record { tops = e; good = going_good siad_keeps g a; fits = going_fits siad_keeps g a; counts = g.counts }
 
-module _ (track : ℕ) (before : Tally) (a : Tree) {b : Bool} (e : b ≡ same assistenza a.named) {s : List ℕ} {at long : ℕ} {top : Six}
+module _ (track : ℕ) (before : Tally) (a : Tree) {b : Bool} (e : b ≡ same assistenza a.named) {s : List ℕ} {at long : ℕ} {top : Top}
     (k : Next track s at top before long a) (f : b ≡ true) where
   pub next_here : Here track s top a
   next_here = record { good = k.good (sym e ∙ f); at = at; tops = k.tops }

@@ -9,7 +9,7 @@ use borrow.Author.Tests.{eqb-true, lt-ltb, le-ltb}
 use Rattle.days.specs.Quarters.{is_period, first_day, last_day}
 use Rattle.days.specs.View.{quarter_of}
 use Rattle.days.specs.declared.quarters.Quarter.{Quarter}
-use Rattle.days.specs.declared.quarters.Quarter.TheVariants as quarters
+use Rattle.std.specs.Prelude.{Option, None, Some}
 use Rattle.markup.specs.NamesAndValues.{Read, then}
 use Rattle.markup.specs.NamesAndValues.Read.{refused, read}
 use Rattle.markup.specs.Elements.{Tree, element, depth}
@@ -34,21 +34,24 @@ use Rattle.intake.proofs.Filing.{all_good}
 -- ---- what the parts found
 
 -- 1
-quarter_cases : (y q : ℕ) (b : Bool) → is_period y q ≡ b → {r : Quarter} → r ≡ quarter_of y q → r ≡ cond b (quarters.Days (first_day y q) (last_day y q)) quarters.Refused
+quarter_cases : (y q : ℕ) (b : Bool) → is_period y q ≡ b → {r : Option Quarter} → r ≡ quarter_of y q → r ≡ cond b (Some (record { first = first_day y q; last = last_day y q })) None
 quarter_cases y q b p e = rw p at e
 
-pub no_period : (y q : ℕ) → quarters.Refused ≡ quarter_of y q → is_period y q ≡ false
+pub no_period : (y q : ℕ) → None ≡ quarter_of y q → is_period y q ≡ false
 no_period y q e = go (is_period y q) refl
   where
     go : (b : Bool) → is_period y q ≡ b → is_period y q ≡ false
     go true p = let w = quarter_cases y q true p e in never cc
     go false p = p
 
-pub a_period : (y q : ℕ) {a b : ℕ} → quarters.Days a b ≡ quarter_of y q → (is_period y q ≡ true) × (a ≡ first_day y q) × (b ≡ last_day y q)
+pub a_period : (y q : ℕ) {a b : ℕ} → Some (record { first = a; last = b }) ≡ quarter_of y q → (is_period y q ≡ true) × (a ≡ first_day y q) × (b ≡ last_day y q)
 a_period y q {a} {b} e = go (is_period y q) refl
   where
     go : (p : Bool) → is_period y q ≡ p → (is_period y q ≡ true) × (a ≡ first_day y q) × (b ≡ last_day y q)
-    go true p = let w = quarter_cases y q true p e in (p, cc, cc)
+    go true p =
+        let w = quarter_cases y q true p e in
+        let d : ◌≡◌ {A = Quarter} (record { first = a; last = b }) (record { first = first_day y q; last = last_day y q }) = cc in
+        (p, ap (λ (d : Quarter). d.first) d, ap (λ (d : Quarter). d.last) d)
     go false p = let w = quarter_cases y q false p e in never cc
 
 -- the context that the code judges in

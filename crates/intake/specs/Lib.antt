@@ -6,3 +6,4 @@ pub mod Driving
 pub mod Taking
 pub mod View
 pub mod Steps
+pub mod Told

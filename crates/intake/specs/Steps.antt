@@ -5,7 +5,7 @@ use Rattle.markup.specs.NamesAndValues.Read.{read}
 use Rattle.markup.specs.Elements.{Tree, element, depth}
 use Rattle.reading.specs.Everywhere.{Every}
 use Rattle.schema.specs.Shape.{records_of}
-use Rattle.nodes.specs.declared.Six.{Six}
+use Rattle.tracks.specs.declared.record.Top.{Top}
 use Rattle.schemas.specs.Schemas.{schema_of}
 use Rattle.tracks.specs.Top.{TopOf}
 use Rattle.intake.specs.FileAnswers.{Call}
@@ -14,7 +14,7 @@ use Rattle.intake.specs.declared.Report.{Report}
 use Rattle.intake.specs.declared.records.Tally.{Tally}
 
 -- the child a of a root stands at a place, with its children at hand; a record is good, and the list of so many bytes has a byte left for its answer
-pub record Next (track : ℕ) (s : List ℕ) (at : ℕ) (top : Six) (before : Tally) (long : ℕ) (a : Tree) : Type 0 where
+pub record Next (track : ℕ) (s : List ℕ) (at : ℕ) (top : Top) (before : Tally) (long : ℕ) (a : Tree) : Type 0 where
   pub tops : TopOf s at a top
   pub good : same assistenza a.named ≡ true → GoodRecord track a
   pub fits : same assistenza a.named ≡ true → before.records < long

@@ -3,7 +3,7 @@ use Rattle.std.specs.Prelude.{ℕ, ◌≤◌, ◌≡◌, false, List, eqb, lengt
 use Rattle.laws.specs.Lists.{bytes}
 use Rattle.markup.specs.Elements.{Tree}
 use Rattle.schema.specs.Shape.{fault_of}
-use Rattle.nodes.specs.declared.Six.{Six}
+use Rattle.tracks.specs.declared.record.Top.{Top}
 use Rattle.model.specs.Flow.{State}
 use Rattle.register.specs.State.{state_of, encode}
 use Rattle.home_care.specs.Row.{siad}
@@ -24,7 +24,7 @@ pub record GoodRecord (track : ℕ) (a : Tree) : Type 0 where
   pub few : eqb track 1 ≡ false → length (all_said a) ≤ most_events
 
 -- and stands at a place, with its children at hand
-pub record Here (track : ℕ) (s : List ℕ) (top : Six) (a : Tree) : Type 0 where
+pub record Here (track : ℕ) (s : List ℕ) (top : Top) (a : Tree) : Type 0 where
   pub good : GoodRecord track a
   pub at : ℕ
   pub tops : TopOf s at a top

@@ -10,20 +10,21 @@ ghost use Rattle.intake.specs.Taking.{Here, siad_driver};
 
 use crate::track1::take_admission;
 use crate::track2::take_events;
+use checks::anomaly::answer_of;
 use days::table::make;
 use judge::Limits;
-use nodes::Six;
+use tracks::record::Top;
 
 // The record whose children are at hand: its answer. The table of days is made here and not above: the passes over the file before this one need none, and
 // have the stack to themselves.
-pub fn take_record(l: Limits, track: u64, s: &[u8], top: Six, reg: &mut [u8]) -> u8
+pub fn take_record(l: Limits, track: u64, s: &[u8], top: Top, reg: &mut [u8]) -> u8
     requires { ((a : Tree) × Here track s.now top a) × (is_sound reg.old ≡ true) × (l.room ≡ room siad (length reg.old)) }
     ensures { (a : Tree) → Here track s.now top a → Took (siad_driver track (context_in l)) reg.old a result reg.new }
 {
     let t = make();
     if track == 1 {
-        take_admission(&t, l, s, top, reg)
+        answer_of(take_admission(&t, l, s, top, reg))
     } else {
-        take_events(&t, l, s, top, reg)
+        answer_of(take_events(&t, l, s, top, reg))
     }
 }

@@ -16,11 +16,11 @@ ghost use Rattle.intake.specs.Steps.{Next, Whole};
 
 use crate::record::take_record;
 use judge::Limits;
-use markup::{Ending, Got, Move};
+use markup::Ending;
+use nodes::Opened;
 use nodes::children::{is_named, next_kid};
-use nodes::{Kid, Six};
 use reading::skips::head;
-use tracks::record::{record_end, top_of};
+use tracks::record::{Top, record_end, top_of};
 
 // How many records there were, and how many of them were accepted.
 #[derive(Clone, Copy)]
@@ -35,7 +35,7 @@ fn take_kid(
     track: u64,
     s: &[u8],
     at: usize,
-    top: Six,
+    top: Top,
     before: Tally,
     reg: &mut [u8],
     answers: &mut [u8],
@@ -47,50 +47,39 @@ fn take_kid(
         return before;
     }
     let answer = take_record(l, track, s, top, reg);
-    let n = before.records;
-    answers[n] = answer;
-    if answer == 0 {
-        return Tally {
-            records: n + 1,
-            accepted: before.accepted + 1,
-        };
-    }
+    answers[before.records] = answer;
     Tally {
-        records: n + 1,
-        accepted: before.accepted,
+        records: before.records + 1,
+        accepted: before.accepted + (answer == 0) as usize,
     }
 }
 
-// The records among the children from a place inside the root on: how many were accepted.
+// The records among the children of the root: how many were accepted.
 fn take_all(
     l: Limits,
     track: u64,
     s: &[u8],
-    from: usize,
-    name: usize,
-    name_end: usize,
+    inside: Opened,
     reg: &mut [u8],
     answers: &mut [u8],
 ) -> usize
-    requires { ((i : Inside) × Stretch (siad_driver track (context_in l)) (part s.now name name_end) (drop from s.now) (length answers.old) i) × (is_sound reg.old ≡ true) × (l.room ≡ room siad (length reg.old)) }
-    ensures { (i : Inside) → Holds below_root (part s.now name name_end) (drop from s.now) i → TookAll (siad_driver track (context_in l)) reg.old answers.old (named_in assistenza (kids i)) result reg.new answers.new }
+    requires { ((i : Inside) × Stretch (siad_driver track (context_in l)) (part s.now inside.name inside.name_end) (drop inside.from s.now) (length answers.old) i) × (is_sound reg.old ≡ true) × (l.room ≡ room siad (length reg.old)) }
+    ensures { (i : Inside) → Holds below_root (part s.now inside.name inside.name_end) (drop inside.from s.now) i → TookAll (siad_driver track (context_in l)) reg.old answers.old (named_in assistenza (kids i)) result reg.new answers.new }
 {
-    let mut at = from;
+    let mut at = inside.from;
     let mut tally = Tally {
         records: 0,
         accepted: 0,
     };
-    loop {
-        let Kid::At(q) = next_kid(s, at, name, name_end) else {
-            return tally.accepted;
-        };
+    while let Some(q) = next_kid(s, inside, at) {
         let top = top_of(s, q);
-        let Move::To(done) = record_end(s, q, top.rest) else {
+        let Some(done) = record_end(s, q, top.rest) else {
             return tally.accepted;
         };
         tally = take_kid(l, track, s, q, top.found, tally, reg, answers);
         at = done.at;
     }
+    tally.accepted
 }
 
 // The records of the file whose root stands at a place: how many were accepted.
@@ -106,12 +95,22 @@ pub fn take_file(
     requires { ((tree : Tree) × Whole track s.now root records (length answers.old) tree) × (is_sound reg.old ≡ true) × (l.room ≡ room siad (length reg.old)) }
     ensures { (tree : Tree) → Whole track s.now root records (length answers.old) tree → TookAll (siad_driver track (context_in l)) reg.old answers.old (records_of (schema_of track) tree) result reg.new answers.new }
 {
-    let Got::Text { start, end, next } = head(s, root) else {
+    let Some(name) = head(s, root) else {
         return 0;
     };
-    match next.attributes(s) {
-        Ending::Refused => 0,
+    let Some(ending) = name.next.attributes(s) else {
+        return 0;
+    };
+    match ending {
         Ending::Shut(_) => 0,
-        Ending::Open(done) => take_all(l, track, s, done.at, start, end, reg, answers),
+        Ending::Open(done) => {
+            let inside = Opened {
+                name: name.start,
+                name_end: name.end,
+                from: done.at,
+                levels: 11,
+            };
+            take_all(l, track, s, inside, reg, answers)
+        }
     }
 }

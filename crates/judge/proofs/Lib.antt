@@ -1,16 +1,11 @@
 pub mod InOrder
 pub mod Scan
-pub mod OneEvent
 pub mod Rows
 pub mod Sharing
-pub mod Rivals
 pub mod Clashing
 pub mod Pairs
 pub mod Keys
 pub mod Afterwards
 pub mod Answers
 pub mod CaseRows
-pub mod Admitted
 pub mod Told
-pub mod EventsWays
-pub mod AdmissionWays

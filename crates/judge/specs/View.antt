@@ -1,14 +1,23 @@
--- What the code holds of a record, of the quarter and of the room.
-use Rattle.std.specs.Prelude.{ℕ, ◌≡◌, Bool, List}
+-- What the code holds of a record, of the quarter and of the room, and of two events that clash.
+use Rattle.std.specs.Prelude.{ℕ, ◌≡◌, ◌≢◌, Bool, List}
 use Rattle.laws.specs.Lists.{any}
 use Rattle.register.specs.Search.{probe_key}
 use Rattle.home_care.specs.Row.{row_bytes, key_bits, key_number}
 use Rattle.home_care.specs.Anomalies.{zero_written, bad_conferma, Context}
 use Rattle.home_care.specs.Record.{Head, Admission, Said, event_numbers}
+use Rattle.judge.specs.declared.Clash.{Clash}
+use Rattle.judge.specs.declared.Clash.TheVariants as x
 use Rattle.judge.specs.declared.Limits.{Limits}
 
 abbrev pub context_in : Limits → Context
 context_in l = record { first = l.first; last = l.last; room = l.room }
+
+-- what the check of a number asks of two events: 28, or any other number, for one after a conclusion
+abbrev pub IsAskedBy : ℕ → Clash → Type 0
+IsAskedBy n x.OneKey = n ≡ 22
+IsAskedBy n x.SharedDay = n ≡ 26
+IsAskedBy n x.TwoConclusions = n ≡ 27
+IsAskedBy n x.AfterConclusion = (n ≢ 22) × (n ≢ 26) × (n ≢ 27)
 
 -- the type, the case's key in the first bits of a probe row, the taking in
 pub record IsOf (probe : List ℕ) (t day : ℕ) (h : Head) : Type 0 where

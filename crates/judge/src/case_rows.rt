@@ -13,6 +13,16 @@ use home_care::layout::{CASE_KEY, ROW};
 use register::counts::count;
 use register::search::{Span, case_range, place, stands};
 
+// The rows of a case in the register: those from lo up to hi.
+#[derive(Clone, Copy)]
+pub struct CaseRows<'a> {
+    pub reg: &'a [u8],
+    pub lo: usize,
+    pub hi: usize,
+    ghost mid: { lo ≤ hi },
+    ghost end: { row_at siad hi ≤ length reg.now },
+}
+
 // The rows standing.
 pub fn rows_held(reg: &[u8]) -> usize
     requires { 4 ≤ length reg.now }

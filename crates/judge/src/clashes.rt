@@ -1,12 +1,14 @@
 // Two events of a case that clash, one of them the record's.
-ghost use Rattle.std.specs.Prelude.{◌≡◌, ◌≤◌, length, not, ◌&&◌};
-ghost use Rattle.register.specs.Layout.{row_at};
-ghost use Rattle.home_care.specs.Row.{siad};
+ghost use Rattle.std.specs.Prelude.{◌≡◌, ◌≤◌, not, ◌&&◌, length};
+ghost use Rattle.laws.specs.Lists.{some_pair};
 ghost use Rattle.judge.specs.ByNumber.{clash, fresh, key_among};
 ghost use Rattle.judge.specs.CaseRows.{standing_in, Settled};
 ghost use Rattle.home_care.specs.Anomalies.{after_conclusion, share_day};
 
+use crate::Clash;
+use crate::case_rows::CaseRows;
 use crate::standing::{event_at, rivals};
+use checks::anomaly::Anomaly;
 use codes::code_lists::CONCLUSION;
 use home_care::event_bits::{date_of, end_of, kind_of, same_key, share_day};
 use home_care::layout::NEVER;
@@ -28,30 +30,19 @@ fn after_conclusion(c: u64, e: u64) -> bool
 pub fn clash(number: u64, a: u64, b: u64) -> bool
     ensures { result ≡ clash number a b }
 {
-    if number == 22 {
-        return same_key(a, b);
+    match Clash::from(number) {
+        Clash::OneKey => same_key(a, b),
+        Clash::SharedDay => share_day(a, b),
+        Clash::TwoConclusions => (kind_of(a) == CONCLUSION) & (kind_of(b) == CONCLUSION),
+        Clash::AfterConclusion => after_conclusion(a, b) | after_conclusion(b, a),
     }
-    if number == 26 {
-        return share_day(a, b);
-    }
-    if number == 27 {
-        return (kind_of(a) == CONCLUSION) & (kind_of(b) == CONCLUSION);
-    }
-    after_conclusion(a, b) | after_conclusion(b, a)
 }
 
 // Whether an event of the record has the key of b.
 fn key_among(evs: &[u64], b: u64) -> bool
     ensures { result ≡ key_among evs.now b }
 {
-    let mut i = 0;
-    while i < evs.len() {
-        if same_key(evs[i], b) {
-            return true;
-        }
-        i += 1;
-    }
-    false
+    evs.iter().any(|a| same_key(*a, b))
 }
 
 // Whether b, which stands, clashes with a and is not replaced.
@@ -65,42 +56,41 @@ pub fn clash_standing(number: u64, evs: &[u64], a: u64, b: u64) -> bool
 }
 
 // Whether two of the record's events clash, or one of them and one that stands and is not replaced; left as soon as two do.
-pub fn clashes(number: u64, evs: &[u64], reg: &[u8], lo: usize, hi: usize) -> bool
-    requires { (lo ≤ hi) × (row_at siad hi ≤ length reg.now) }
-    ensures { Settled reg.now lo hi → result ≡ fresh (clash number) evs.now (standing_in reg.now lo hi) }
+pub fn clashes(number: u64, evs: &[u64], rows: CaseRows) -> bool
+    ensures { Settled rows.entry.reg.now rows.entry.lo rows.entry.hi → result ≡ fresh (clash number) evs.now (standing_in rows.entry.reg.now rows.entry.lo rows.entry.hi) }
 {
     let mut found = false;
-    let mut i = 0;
-    'search: while i < evs.len() {
-        let a = evs[i];
-        let mut j = i + 1;
-        while j < evs.len() {
-            if clash(number, a, evs[j]) {
+    'search: for (i, a) in evs.iter().enumerate() {
+        for b in &evs[i + 1..] {
+            if clash(number, *a, *b) {
                 found = true;
                 break 'search;
             }
-            j += 1;
         }
-        let span = rivals(number, reg, lo, hi, a);
-        let mut k = span.lo;
-        let end = span.hi;
-        while k < end {
-            if clash_standing(number, evs, a, event_at(reg, k)) {
+        let span = rivals(number, rows, *a);
+        for k in span.lo..span.hi {
+            if clash_standing(number, evs, *a, event_at(rows.reg, k)) {
                 found = true;
                 break 'search;
             }
-            k += 1;
         }
-        i += 1;
     }
     found
 }
 
+// A22: two of the record's events have one key; with no rows, so that only its own are looked at.
+pub fn one_key_twice(evs: &[u64], reg: &[u8]) -> bool
+    requires { 4 ≤ length reg.now }
+    ensures { result ≡ some_pair (clash 22) evs.now }
+{
+    let none = CaseRows { reg, lo: 0, hi: 0 };
+    clashes(Anomaly::OneKey as u64, evs, none)
+}
+
 // A26; the search stops at the first pair that shares a day: the nested loops of `clashes` over the case's suspensions, those of the record and those that
 // stand, left from inside by the label as soon as two share a day.
-pub fn suspensions_share_a_day(evs: &[u64], reg: &[u8], lo: usize, hi: usize) -> bool
-    requires { (lo ≤ hi) × (row_at siad hi ≤ length reg.now) }
-    ensures { Settled reg.now lo hi → result ≡ fresh share_day evs.now (standing_in reg.now lo hi) }
+pub fn suspensions_share_a_day(evs: &[u64], rows: CaseRows) -> bool
+    ensures { Settled rows.entry.reg.now rows.entry.lo rows.entry.hi → result ≡ fresh share_day evs.now (standing_in rows.entry.reg.now rows.entry.lo rows.entry.hi) }
 {
-    clashes(26, evs, reg, lo, hi)
+    clashes(Anomaly::SharedDay as u64, evs, rows)
 }

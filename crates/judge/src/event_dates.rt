@@ -1,8 +1,6 @@
-// A record's events, each by itself and two together (RULES.md, 7 Anomalies of a record).
+// What a record's events show by themselves: 10, 23 and 25 (RULES.md, 7 Anomalies of a record).
 ghost use Rattle.std.specs.Prelude.{◌≡◌};
-ghost use Rattle.laws.specs.Lists.{any};
-ghost use Rattle.home_care.specs.Anomalies.{out_of_quarter, day_for};
-ghost use Rattle.judge.specs.ByNumber.{wrong};
+ghost use Rattle.home_care.specs.Anomalies.{out_of_quarter, day_for, t10, t23, t25};
 ghost use Rattle.judge.specs.View.{context_in};
 
 use crate::Limits;
@@ -27,30 +25,23 @@ pub fn out_of_quarter(l: Limits, day: u64) -> bool
     !((l.first <= day) & (day <= l.last))
 }
 
-// What 10, 23 and 25 ask of one event.
-fn wrong(number: u64, l: Limits, taken: u64, e: u64) -> bool
-    ensures { result ≡ wrong number (context_in l) taken e }
+// 10 of one of the record's events.
+pub fn any_out_of_quarter(l: Limits, evs: &[u64]) -> bool
+    ensures { result ≡ t10 (context_in l) evs.now }
 {
-    if number == 10 {
-        return out_of_quarter(l, day_for(e));
-    }
-    let date = date_of(e);
-    if number == 23 {
-        return (kind_of(e) == SUSPENSION) & (end_of(e) < date);
-    }
-    date < taken
+    evs.iter().any(|e| out_of_quarter(l, day_for(*e)))
 }
 
-// Whether one of the record's events is.
-pub fn any_wrong(number: u64, l: Limits, taken: u64, evs: &[u64]) -> bool
-    ensures { result ≡ any (wrong number (context_in l) taken) evs.now }
+// 23 of one of them.
+pub fn any_ends_first(evs: &[u64]) -> bool
+    ensures { result ≡ t23 evs.now }
 {
-    let mut i = 0;
-    while i < evs.len() {
-        if wrong(number, l, taken, evs[i]) {
-            return true;
-        }
-        i += 1;
-    }
-    false
+    evs.iter().any(|e| (kind_of(*e) == SUSPENSION) & (end_of(*e) < date_of(*e)))
+}
+
+// 25 of one of them.
+pub fn any_before(taken: u64, evs: &[u64]) -> bool
+    ensures { result ≡ t25 taken evs.now }
+{
+    evs.iter().any(|e| date_of(*e) < taken)
 }

@@ -2,6 +2,8 @@
 use mathlib.Core.Path.{◌≡◌, refl, sym, ap₂, ◌∙◌}
 use mathlib.Core.Bool.{Bool, true, false, not, ◌&&◌, ◌||◌, false≢true}
 use mathlib.Core.List.{List, [], ◌∷◌, ◌++◌}
+pub use Rattle.std.specs.Cmp.{both_ways as same_truth}
+pub use Rattle.std.proofs.lemmas.Bool.{and_from as and_tell, or_from as or_tell, not_from_false as not_tell}
 use Rattle.laws.specs.Lists.{all, any}
 use Rattle.laws.proofs.Truth.{or_left, or_right, and_left, and_right}
 
@@ -60,24 +62,6 @@ module _ {A : Type 0} (q : A → Bool) where
   pub all_tell : (l : List A) → Every (λ x. q x ≡ true) l → all q l ≡ true
   unfolding all
   all_tell = tell true ◌&&◌ q (all q) (λ x l. refl) refl refl
-
--- each where the other
-pub same_truth : (a b : Bool) → (a ≡ true → b ≡ true) → (b ≡ true → a ≡ true) → a ≡ b
-same_truth true b f g = sym (f refl)
-same_truth false true f g = g refl
-same_truth false false f g = refl
-
-pub and_tell : (a b : Bool) → a ≡ true → b ≡ true → a && b ≡ true
-and_tell true b p q = q
-and_tell false b p q = p
-
-pub or_tell : (a b : Bool) → a ≡ false → b ≡ false → a || b ≡ false
-or_tell true b p q = p
-or_tell false b p q = q
-
-pub not_tell : (a : Bool) → a ≡ false → not a ≡ true
-not_tell true e = sym e
-not_tell false e = refl
 
 -- where the first holds, the second does not
 pub nand_told : (a b : Bool) → not (a && b) ≡ true → a ≡ true → b ≡ false

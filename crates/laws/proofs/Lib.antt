@@ -1,3 +1,4 @@
+pub mod Library
 pub mod Folding
 pub mod Fuel
 pub mod Lists

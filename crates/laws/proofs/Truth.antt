@@ -1,7 +1,9 @@
 -- What `cond`, `||` and `&&` tell of their tests.
 use mathlib.Core.Path.{◌≡◌, refl}
-use mathlib.Core.Logic.{◌⊎◌, inl, inr}
-use mathlib.Core.Bool.{Bool, true, false, cond, ◌&&◌, ◌||◌, true≢false, false≢true}
+use mathlib.Core.Bool.{Bool, true, false, cond, ◌||◌, true≢false}
+pub use mathlib.Core.Bool.{and-false}
+pub use Rattle.std.proofs.lemmas.Bool.{or_cases as either}
+pub use Rattle.std.specs.Cmp.{first_so as and_left, second_so as and_right}
 
 pub cond_both : {A : Type 0} (p : Bool) (u : A) → u ≡ cond p u u
 cond_both true u = refl
@@ -23,22 +25,6 @@ or_left false b e = refl
 pub or_right : (a b : Bool) → a || b ≡ false → b ≡ false
 or_right true b e = absurd (true≢false e)
 or_right false b e = e
-
-pub either : (a b : Bool) → a || b ≡ true → (a ≡ true) ⊎ (b ≡ true)
-either true b e = inl refl
-either false b e = inr e
-
-pub and_left : (a b : Bool) → a && b ≡ true → a ≡ true
-and_left true b e = refl
-and_left false b e = e
-
-pub and_right : (a b : Bool) → a && b ≡ true → b ≡ true
-and_right true b e = e
-and_right false b e = absurd (false≢true e)
-
-pub and-false : (a : Bool) → a && false ≡ false
-and-false true = refl
-and-false false = refl
 
 pub or_swap : (a b c : Bool) → a || (b || c) ≡ b || (a || c)
 or_swap true true c = refl

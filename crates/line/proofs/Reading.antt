@@ -1,12 +1,17 @@
 -- A number and the mark after it, one law for each way out.
-use Prim.Native.Nat.{ℕ, ◌+◌, ◌-◌, ◌≤◌, ◌<◌}
+use Prim.Native.Nat.{ℕ, suc, ◌+◌, ◌-◌, ◌≤◌, ◌<◌}
 use mathlib.Core.Path.{◌≡◌, refl, sym, ap, ◌∙◌}
+use mathlib.Core.Bool.{Bool, true, false, cond, not}
 use mathlib.Core.List.{List}
+use Rattle.std.specs.Prelude.{Option, Some, None}
+use Rattle.std.specs.Option.{unwrap_or}
+use Rattle.std.specs.List.{position_or_len}
+use Rattle.std.proofs.lemmas.List.Recursion.{is_position_or_len}
 use native.Mathlib.Omega.{arith}
-use lib.Dec.{leb}
-use lib.ListN.{length, take, drop, get_or, length-take}
-use lib.Seq.{get_or-drop, drop-drop}
-use borrow.Author.Tests.{le-leb, lt-leb, eq-eqb, ne_eqb}
+use lib.Dec.{leb, ltb}
+use lib.ListN.{length, take, drop, get_or, length-take, length-drop}
+use lib.Seq.{get_or-drop, drop-drop, take_all}
+use borrow.Author.Tests.{ltb-false, le-leb, lt-leb, eq-eqb, ne_eqb}
 use Rattle.laws.proofs.Places.{byte_inside}
 use Rattle.laws.proofs.Truth.{and-false}
 use Rattle.laws.specs.Decimal.{is_digit, decimal}
@@ -14,9 +19,32 @@ use Rattle.codes.specs.Capped.{up_to}
 use Rattle.codes.proofs.Decimals.{four_digits, up_to_le}
 use Rattle.markup.specs.Bytes.{run_length}
 use Rattle.markup.specs.View.{part}
-use Rattle.markup.proofs.AtBytes.{run_part}
+use Rattle.markup.proofs.AtBytes.{run_le, run_part}
 use Rattle.reading.proofs.Leaves.{front-all}
-use Rattle.line.specs.Line.{space, line_feed, none, read, number_to, other, line, first_line}
+use Rattle.line.specs.Line.{none, read, number_to}
+
+-- the bytes from a place on, as a part
+pub part_on : (s : List ℕ) (from : ℕ) → part s from (length s) ≡ drop from s
+part_on s from = take_all (length s - from) (drop from s) (simp length-drop (omega arith))
+
+-- a run goes on to the first byte that fails, or to the end
+module _ (p : ℕ → Bool) where
+  run_position : (l : List ℕ) → run_length p l ≡ position_or_len (λ b. not (p b)) l
+  unfolding run_length
+  run_position = is_position_or_len (run_length p) (λ b. not (p b)) refl step
+    where
+      step : (b : ℕ) (l : List ℕ) → cond (p b) (suc (run_length p l)) 0 ≡ cond (not (p b)) 0 (1 + run_length p l)
+      step b l = elim (p b) as (λ t. cond t (suc (run_length p l)) 0 ≡ cond (not t) 0 (1 + run_length p l)) [ true ↦ omega arith | false ↦ refl ]
+
+  pub run_by_position : (l : List ℕ) {o : Option ℕ} {n : ℕ}
+      → o ≡ cond (ltb (position_or_len (λ b. not (p b)) l) (length l)) (Some (position_or_len (λ b. not (p b)) l)) None → n ≡ unwrap_or o (length l)
+      → n ≡ run_length p l
+  run_by_position l {o} e u = u ∙ ap (λ (o : Option ℕ). unwrap_or o (length l)) e ∙ last (ltb (position_or_len (λ b. not (p b)) l) (length l)) refl
+    where
+      last : (t : Bool) → ltb (position_or_len (λ b. not (p b)) l) (length l) ≡ t
+          → unwrap_or (cond t (Some (position_or_len (λ b. not (p b)) l)) None) (length l) ≡ run_length p l
+      last true h = sym (run_position l)
+      last false h = omega (arith, run_position l, run_le p l, ltb-false (position_or_len (λ b. not (p b)) l) (length l) h)
 
 -- the digits end at a place
 module _ (s : List ℕ) (from end mark : ℕ) (e : end ≡ from + run_length is_digit (drop from s)) where
@@ -56,23 +84,3 @@ value_below t e = rw e (up_to_le 9999 (decimal t))
 -- a mark is no 0, so it stands within the input
 pub mark_inside : (s : List ℕ) (end mark : ℕ) → 0 < mark → get_or s end 0 ≡ mark → end < length s
 mark_inside s end mark h e = byte_inside s end (get_or s end 0) mark (ne_eqb 0 mark (λ z. omega arith)) refl e
-
--- the four ways out of the first line: each number leaves what follows it
-module _ (s : List ℕ) where
-  pub other_track : none ≡ number_to space s → other ≡ first_line s
-  unfolding first_line
-  other_track t = rw (← t)
-
-  module _ {track : ℕ} {l : List ℕ} (t : read track l ≡ number_to space s) where
-    pub other_year : none ≡ number_to space l → other ≡ first_line s
-    unfolding first_line
-    other_year y = rw (← t, ← y)
-
-    module _ {year : ℕ} {m : List ℕ} (y : read year m ≡ number_to space l) where
-      pub other_quarter : none ≡ number_to line_feed m → other ≡ first_line s
-      unfolding first_line
-      other_quarter q = rw (← t, ← y, ← q)
-
-      pub line_says : {quarter : ℕ} {n : List ℕ} → read quarter n ≡ number_to line_feed m → line track year quarter n ≡ first_line s
-      unfolding first_line
-      line_says q = rw (← t, ← y, ← q)

@@ -10,36 +10,27 @@ ghost use Rattle.line.specs.View.{view_number, ok_number, view_line, ok_line, vi
 use codes::digits::{is_digit, read_digits};
 use markup::bytes::{part, peek};
 
-// A number and the place after its mark.
+// A number, and the place after its mark.
 #[derive(Clone, Copy)]
-pub enum Number {
-    Is { value: u64, next: usize },
-    Refused,
+pub struct Number {
+    pub value: u64,
+    pub next: usize,
 }
 
 // What the first line says, and the place where the submission begins.
 #[derive(Clone, Copy)]
-pub enum FirstLine {
-    Says {
-        track: u64,
-        year: u64,
-        quarter: u64,
-        body: usize,
-    },
-    Other,
+pub struct Request {
+    pub track: u64,
+    pub year: u64,
+    pub quarter: u64,
+    pub body: usize,
 }
 
-// What the input asks of the program: to print `line`, to print `long`, or to take the submission that begins at a place.
+// What is printed in place of an answer: `line` for any other first line, `long` for a submission that is too long.
 #[derive(Clone, Copy)]
-pub enum Asked {
+pub enum Refusal {
     Line,
     Long,
-    Takes {
-        track: u64,
-        year: u64,
-        quarter: u64,
-        body: usize,
-    },
 }
 
 // L3: "a submission of more than 49,152 bytes" is too long.
@@ -49,91 +40,59 @@ const MOST: usize = 49152;
 fn digits_end(s: &[u8], from: usize) -> usize
     ensures { result ≡ from + run_length is_digit (drop from s.now) }
 {
-    let mut at = from;
-    while at < s.len() {
-        if !is_digit(s[at]) {
-            return at;
-        }
-        at += 1;
-    }
-    at
+    let rest = part(s, from, s.len());
+    from + rest
+        .iter()
+        .position(|b| !is_digit(*b))
+        .unwrap_or(rest.len())
 }
 
 // A number of 1 to 4 digits, and the mark that must follow it.
-fn number_to(s: &[u8], from: usize, mark: u8) -> Number
+fn number_to(s: &[u8], from: usize, mark: u8) -> Option<Number>
     requires { 0 < mark }
     ensures { (view_number s.now result ≡ number_to mark (drop from s.now)) × ok_number s.now from result }
 {
     let end = digits_end(s, from);
     if end == from {
-        return Number::Refused;
+        return None;
     }
     if 4 < end - from {
-        return Number::Refused;
+        return None;
     }
     if peek(s, end) != mark {
-        return Number::Refused;
+        return None;
     }
-    let read = read_digits(part(s, from, end), 9999);
-    Number::Is {
-        value: read.number,
+    let value = read_digits(part(s, from, end), 9999).number;
+    Some(Number {
+        value,
         next: end + 1,
-    }
+    })
 }
 
 // The first line of the program's input.
-pub fn first_line(s: &[u8]) -> FirstLine
+#[tactic(auto, unfolding(crate::specs::Line::first_line))]
+pub fn first_line(s: &[u8]) -> Option<Request>
     ensures { (view_line s.now result ≡ first_line s.now) × ok_line s.now result }
 {
-    let Number::Is {
-        value: track,
-        next: second,
-    } = number_to(s, 0, b' ')
-    else {
-        return FirstLine::Other;
-    };
-    let Number::Is {
-        value: year,
-        next: third,
-    } = number_to(s, second, b' ')
-    else {
-        return FirstLine::Other;
-    };
-    let Number::Is {
-        value: quarter,
-        next: body,
-    } = number_to(s, third, b'\n')
-    else {
-        return FirstLine::Other;
-    };
-    FirstLine::Says {
-        track,
-        year,
-        quarter,
-        body,
-    }
+    let track = number_to(s, 0, b' ')?;
+    let year = number_to(s, track.next, b' ')?;
+    let quarter = number_to(s, year.next, b'\n')?;
+    Some(Request {
+        track: track.value,
+        year: year.value,
+        quarter: quarter.value,
+        body: quarter.next,
+    })
 }
 
-// What the program's input asks of it.
-pub fn asked_by(s: &[u8]) -> Asked
+// What the program's input asks of it: to take the submission, or to print a word and no more.
+#[tactic(auto, unfolding(crate::specs::Line::request))]
+pub fn asked_by(s: &[u8]) -> Result<Request, Refusal>
     ensures { (view_asked s.now result ≡ request s.now) × ok_asked s.now result }
 {
-    let FirstLine::Says {
-        track,
-        year,
-        quarter,
-        body,
-    } = first_line(s)
-    else {
-        return Asked::Line;
-    };
-    if MOST < s.len() - body {
-        return Asked::Long;
+    let asked = first_line(s).ok_or(Refusal::Line)?;
+    if MOST < s.len() - asked.body {
+        return Err(Refusal::Long);
     }
-    Asked::Takes {
-        track,
-        year,
-        quarter,
-        body,
-    }
+    Ok(asked)
 }

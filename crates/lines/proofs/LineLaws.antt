@@ -63,8 +63,8 @@ module _ {at m i : ℕ} {x y : List ℕ} (l : List ℕ) (few : length l ≤ answ
       let u : PutUpTo (most_record * i + most_record) at (record_lines 1 (take i l) ++ record_line (i + 1) a) x z r = up_on p s in
       rw f (record { put = u.put; short = omega (arith, u.short) })
 
-  pub lines_end : (k : ℕ) → i ≤ length l → take i l ≡ take k l → PutUpTo (most_record * answer_bytes) at (record_lines 1 (take k l)) x y m
-  lines_end k h e =
+  pub lines_end : {k : List ℕ} → i ≤ length l → take i l ≡ k → PutUpTo (most_record * answer_bytes) at (record_lines 1 k) x y m
+  lines_end h e =
       let u : PutUpTo (most_record * answer_bytes) at (record_lines 1 (take i l)) x y m = record { put = p.put; short = omega (arith, p.short) } in
       rw e at u
 

@@ -10,10 +10,11 @@ ghost use Rattle.line.specs.Line.{takes};
 ghost use Rattle.lines.specs.Lines.{file_line, record_line, record_lines, answer_bytes, standing_line, printed_for, printed};
 ghost use Rattle.lines.specs.UpTo.{PutUpTo, most_file, most_record, most_standing, most_printed};
 
-use line::Asked;
+use line::{Refusal, Request};
 use register::counts::count;
 use text::{put_decimal, put_text};
 
+// (Numbers by `put_decimal`: its contract says their bytes, and `format!` would take memory.)
 fn put_named(out: &mut [u8], at: usize, word: &[u8], n: u64) -> usize
     ensures { Put at (word.now ++ spelled n) out.old out.new result }
 {
@@ -49,26 +50,15 @@ fn record_line(out: &mut [u8], at: usize, number: u64, answer: u64) -> usize
     put_text(out, b, b"\n")
 }
 
-fn wide(b: u8) -> u64
-    ensures { (result ≡ b) × (result < 256) }
-{
-    b as u64
-}
-
 // L6: "a line for each record: its number and its answer", records counted from 1
 fn record_lines(out: &mut [u8], at: usize, answers: &[u8], records: u64) -> usize
     requires { length answers.now ≤ answer_bytes }
     ensures { PutUpTo (most_record * answer_bytes) at (record_lines 1 (take records answers.now)) out.old out.new result }
 {
+    let told = &answers[..(records as usize).min(answers.len())];
     let mut next = at;
-    let mut i = 0;
-    while i < answers.len() {
-        if records <= i as u64 {
-            return next;
-        }
-        let answer = wide(answers[i]);
-        i += 1;
-        next = record_line(out, next, i as u64, answer);
+    for (i, answer) in told.iter().enumerate() {
+        next = record_line(out, next, i as u64 + 1, *answer as u64);
     }
     next
 }
@@ -84,8 +74,8 @@ fn standing_line(out: &mut [u8], at: usize, reg: &[u8]) -> usize
 }
 
 // L4: "an emptied register of 14,564 bytes (R is 151) with an answer list of 512 bytes"
-fn submit(out: &mut [u8], sub: &[u8], track: u64, year: u64, quarter: u64) -> usize
-    ensures { PutUpTo most_printed 0 (printed_for (takes track year quarter sub.now)) out.old out.new result }
+fn submit(out: &mut [u8], sub: &[u8], asked: Request) -> usize
+    ensures { PutUpTo most_printed 0 (printed_for (takes asked.track asked.year asked.quarter sub.now)) out.old out.new result }
 {
     let mut reg = [0u8; 14564];
     let mut answers = [0u8; 512];
@@ -93,9 +83,9 @@ fn submit(out: &mut [u8], sub: &[u8], track: u64, year: u64, quarter: u64) -> us
     exports::siad_empty(&mut reg);
     let answer = exports::siad_submit(
         sub,
-        track,
-        year,
-        quarter,
+        asked.track,
+        asked.year,
+        asked.quarter,
         &mut reg,
         &mut answers,
         &mut report,
@@ -110,14 +100,9 @@ fn put_answer(out: &mut [u8], input: &[u8]) -> usize
     ensures { PutUpTo most_printed 0 (printed input.now) out.old out.new result }
 {
     match line::asked_by(input) {
-        Asked::Line => put_text(out, 0, b"line\n"),
-        Asked::Long => put_text(out, 0, b"long\n"),
-        Asked::Takes {
-            track,
-            year,
-            quarter,
-            body,
-        } => submit(out, &input[body..], track, year, quarter),
+        Ok(asked) => submit(out, &input[asked.body..], asked),
+        Err(Refusal::Line) => put_text(out, 0, b"line\n"),
+        Err(Refusal::Long) => put_text(out, 0, b"long\n"),
     }
 }
 

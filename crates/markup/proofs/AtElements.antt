@@ -22,7 +22,6 @@ use Rattle.markup.specs.Tags.{Tag, tag, end_tag}
 use Rattle.markup.specs.Elements.{Inside, Tree, piece, onto, after_child, after_piece, content_step, content, after_tag, element}
 use Rattle.markup.specs.Elements.Inside.{elem}
 use Rattle.markup.specs.Elements.Piece.{words, aside, closing, child}
-use Rattle.markup.specs.Classes.{class}
 use Rattle.markup.specs.View.{part, left}
 use Rattle.markup.proofs.AtBytes.{run_le, run_ahead, run_part, run_after}
 
@@ -31,12 +30,11 @@ module _ (n s : List ℕ) (at : ℕ) where
   unfolding piece
   piece_end h = rw (drop_of_length-le s h)
 
-  pub piece_text : (e : ℕ) → at < length s → (get_or s at 0 ≡ 60 → ⊥) → e ≡ at + run_length (class 60) (drop at s) → read (words (part s at e)) (drop e s) ≡ piece n (drop at s)
-  unfolding piece class
+  pub piece_text : (e : ℕ) → at < length s → (get_or s at 0 ≡ 60 → ⊥) → e ≡ at + run_length is_text (drop at s) → read (words (part s at e)) (drop e s) ≡ piece n (drop at s)
+  unfolding piece
   piece_text e h t k = rw (run_part is_text s at e k, run_after is_text s at e k, Front-at s at h, ne_eqb (get_or s at 0) 60 t)
 
-  pub text_ahead : (e : ℕ) → at < length s → (get_or s at 0 ≡ 60 → ⊥) → e ≡ at + run_length (class 60) (drop at s) → (at < e) × (e ≤ length s)
-  unfolding class
+  pub text_ahead : (e : ℕ) → at < length s → (get_or s at 0 ≡ 60 → ⊥) → e ≡ at + run_length is_text (drop at s) → (at < e) × (e ≤ length s)
   text_ahead e h t k = run_ahead is_text s at e h (ap not (ne_eqb (get_or s at 0) 60 t)) k
 
   -- at `<`, before the byte c
@@ -62,9 +60,9 @@ end_known n l z e = go (is_name_start (get_or l 0 0)) e
     go true e = on (same n (front is_name l)) refl e
     go false e = absurd (let z : ◌≡◌ {A = ℕ} 0 1 = cc in omega arith)
 
-pub known_close : (n s : List ℕ) (at b c last : ℕ) → b ≡ get_or s at 0 → b ≡ 60 → c ≡ get_or s (at + 1) 0 → c ≡ 47 → drop last s ≡ skip_ws (drop (at + 2 + length n) s)
-    → (o : Read Unit) → o ≡ byte 62 (drop last s) → (piece n (drop at s) ≡ refused → ⊥) → then o (λ _ m. read closing m) ≡ piece n (drop at s)
-known_close n s at b c last k t w u v o q f = go (end_tag n (drop (at + 2) s)) refl p
+pub known_close : (n s : List ℕ) (at b c : ℕ) → b ≡ get_or s at 0 → b ≡ 60 → c ≡ get_or s (at + 1) 0 → c ≡ 47
+    → (o : Read Unit) → o ≡ byte 62 (skip_ws (drop (at + 2 + length n) s)) → (piece n (drop at s) ≡ refused → ⊥) → then o (λ _ m. read closing m) ≡ piece n (drop at s)
+known_close n s at b c k t w u o q f = go (end_tag n (drop (at + 2) s)) refl p
   where
     p : piece n (drop at s) ≡ then (end_tag n (drop (at + 2) s)) (λ _ m. read closing m)
     p = piece_tag n s at c (byte_inside s at b 60 refl k t) (sym k ∙ t) w ∙ rw (u)
@@ -72,7 +70,7 @@ known_close n s at b c last k t w u v o q f = go (end_tag n (drop (at + 2) s)) r
     go : (e : Read Unit) → end_tag n (drop (at + 2) s) ≡ e → piece n (drop at s) ≡ then e (λ _ m. read closing m) → then o (λ _ m. read closing m) ≡ piece n (drop at s)
     go refused e p = absurd (f p)
     go (read x z) e p =
-        let g : o ≡ read tt z = q ∙ ap (byte 62) (v ∙ ap skip_ws (sym (drop-drop (length n) (at + 2) s))) ∙ end_known n (drop (at + 2) s) z e in
+        let g : o ≡ read tt z = q ∙ ap (λ l. byte 62 (skip_ws l)) (sym (drop-drop (length n) (at + 2) s)) ∙ end_known n (drop (at + 2) s) z e in
         ap (λ (r : Read Unit). then r (λ _ m. read closing m)) g ∙ sym p
 
 left-onto : (f : Inside → Inside) (r : Read Inside) → left (onto f r) ≡ left r

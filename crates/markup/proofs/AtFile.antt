@@ -10,20 +10,17 @@ use lib.Dec.{eqb}
 use Rattle.laws.specs.Lists.{all}
 use Rattle.laws.specs.Loop.Step.{stop}
 use Rattle.laws.proofs.Places.{front, first}
-use Rattle.markup.specs.Bytes.{in_file, run_length}
+use Rattle.markup.specs.Bytes.{in_file, run_length, is_ws}
 use Rattle.markup.specs.NamesAndValues.{Read, then}
 use Rattle.markup.specs.NamesAndValues.Read.{refused, read}
 use Rattle.markup.specs.Comments.{dashed}
 use Rattle.markup.specs.Elements.{Tree, element, depth}
 use Rattle.markup.specs.Document.{declaration, go_on, misc_step, misc, at_end, document, was_read, in_markup}
-use Rattle.markup.specs.Classes.{class}
-use Rattle.markup.specs.View.{left, onward, ok_move, ok_past}
-use Rattle.markup.specs.declared.Move.{Move}
-use Rattle.markup.specs.declared.Move.TheVariants as move
+use Rattle.markup.specs.View.{left}
 use Rattle.markup.proofs.AtBytes.{skip_at}
 
 -- the white space ends at `at`
-pub misc_at : (s : List ℕ) (from at : ℕ) → at ≡ from + run_length (class 0) (drop from s)
+pub misc_at : (s : List ℕ) (from at : ℕ) → at ≡ from + run_length is_ws (drop from s)
     → misc_step (drop from s) ≡ cond (eqb (get_or s at 0) 60 && eqb (get_or s (at + 1) 0) 33) (go_on (dashed (drop (at + 2) s))) (stop (read tt (drop at s)))
 unfolding misc_step
 misc_at s from at h = rw (← skip_at s from at h, first s at, get_or-drop at s 1 0, drop-drop 2 at s)
@@ -50,14 +47,6 @@ module _ (m : List ℕ) where
 pub root_taken : (o : Read Tree) (m : List ℕ) → read tt m ≡ left o → was_read {A = Tree} (then o (λ t _. read t [])) ≡ true
 root_taken refused m h = absurd (let z : ◌≡◌ {A = ℕ} 0 1 = cc in omega arith)
 root_taken (read t k) m h = refl
-
-pub ok_past_back : (s : List ℕ) (a b : ℕ) (r : Move) → onward s a b → ok_past s b r → ok_past s a r
-ok_past_back s a b (move.To c) h k = (omega arith, omega arith)
-ok_past_back s a b move.Refused h k = tt
-
-pub ok_move_past : (s : List ℕ) (at : ℕ) (r : Move) → ok_move s at r → ok_past s 0 r
-ok_move_past s at (move.To c) k = (omega arith, omega arith)
-ok_move_past s at move.Refused k = tt
 
 -- a file up to its root element
 pub document_root : (s : List ℕ) {k m : List ℕ} → all in_file s ≡ true → read tt k ≡ declaration s → read tt m ≡ misc k → document s ≡ then (element depth m) (λ t m. at_end t (misc m))

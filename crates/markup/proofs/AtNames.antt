@@ -11,11 +11,10 @@ use Rattle.laws.proofs.Places.{front, first, inside}
 use Rattle.markup.specs.Bytes.{is_name_start, is_name, in_value, run_length}
 use Rattle.markup.specs.NamesAndValues.{Read, then, byte, name, is_quote, value}
 use Rattle.markup.specs.NamesAndValues.Read.{refused, read}
-use Rattle.markup.specs.Classes.{class}
 use Rattle.markup.specs.View.{part, ok_move}
-use Rattle.markup.specs.declared.Move.{Move}
-use Rattle.markup.specs.declared.Move.TheVariants as move
-use Rattle.markup.proofs.AtBytes.{run_ahead, run_part, run_after, class_quote}
+use Rattle.std.specs.Prelude.{Option, Some, None}
+use Rattle.markup.specs.declared.Cursor.{Cursor}
+use Rattle.markup.proofs.AtBytes.{run_ahead, run_part, run_after}
 
 pub byte_yes : (b : ℕ) (s : List ℕ) (at : ℕ) → at < length s → get_or s at 0 ≡ b → read tt (drop (at + 1) s) ≡ byte b (drop at s)
 unfolding byte
@@ -30,20 +29,19 @@ unfolding byte
 byte_end b s at h = rw (drop_of_length-le s h)
 
 module _ (s : List ℕ) (at : ℕ) where
-  pub name_yes : (e : ℕ) → is_name_start (get_or s at 0) ≡ true → e ≡ at + run_length (class 1) (drop at s) → read (part s at e) (drop e s) ≡ name (drop at s)
-  unfolding name class
+  pub name_yes : (e : ℕ) → is_name_start (get_or s at 0) ≡ true → e ≡ at + run_length is_name (drop at s) → read (part s at e) (drop e s) ≡ name (drop at s)
+  unfolding name
   name_yes e t k = rw (first s at, t, run_part is_name s at e k, run_after is_name s at e k)
 
   pub name_no : is_name_start (get_or s at 0) ≡ false → refused ≡ name (drop at s)
   unfolding name
   name_no t = rw (first s at, t)
 
-  class_name : is_name_start (get_or s at 0) ≡ true → class 1 (get_or s at 0) ≡ true
-  unfolding class
-  class_name t = rw t
+  start_in_name : is_name_start (get_or s at 0) ≡ true → is_name (get_or s at 0) ≡ true
+  start_in_name t = rw t
 
-  pub name_ahead : (e : ℕ) → is_name_start (get_or s at 0) ≡ true → e ≡ at + run_length (class 1) (drop at s) → (at < e) × (e ≤ length s)
-  name_ahead e t k = run_ahead (class 1) s at e (inside is_name_start s at refl t) (class_name t) k
+  pub name_ahead : (e : ℕ) → is_name_start (get_or s at 0) ≡ true → e ≡ at + run_length is_name (drop at s) → (at < e) × (e ≤ length s)
+  name_ahead e t k = run_ahead is_name s at e (inside is_name_start s at refl t) (start_in_name t) k
 
 not_lt : {a b : ℕ} → (a < b → ⊥) → b ≤ a
 not_lt h = omega (arith, h)
@@ -52,12 +50,11 @@ module _ (s : List ℕ) (at q : ℕ) (h : q ≡ get_or s at 0) where
   pub value_inside : is_quote q ≡ true → at < length s
   value_inside t = inside is_quote s at refl (rw h at t)
 
-  pub value_step : (e : ℕ) (o : Read Unit) → is_quote q ≡ true → e ≡ at + 1 + run_length (class q) (drop (at + 1) s) → o ≡ byte q (drop e s)
+  pub value_step : (e : ℕ) (o : Read Unit) → is_quote q ≡ true → e ≡ at + 1 + run_length (in_value q) (drop (at + 1) s) → o ≡ byte q (drop e s)
       → then o (λ _ m. read (part s (at + 1) e) m) ≡ value (drop at s)
   unfolding value
   value_step e o t k b =
-      let j : e ≡ at + 1 + run_length (in_value q) (drop (at + 1) s) = rw (class_quote q t) at k in
-      rw (front s at (value_inside t), ← h, t, b, run_part (in_value q) s (at + 1) e j, run_after (in_value q) s (at + 1) e j)
+      rw (front s at (value_inside t), ← h, t, b, run_part (in_value q) s (at + 1) e k, run_after (in_value q) s (at + 1) e k)
 
   pub value_none : is_quote q ≡ false → refused ≡ value (drop at s)
   unfolding value
@@ -68,6 +65,6 @@ module _ (s : List ℕ) (at q : ℕ) (h : q ≡ get_or s at 0) where
       go (Dec.no k) = rw (drop_of_length-le s (not_lt k))
 
 -- what lies past b lies past what stands before b
-pub ok_move_back : (s : List ℕ) (a b : ℕ) (r : Move) → a ≤ b → ok_move s b r → ok_move s a r
-ok_move_back s a b (move.To c) h k = omega arith
-ok_move_back s a b move.Refused h k = tt
+pub ok_move_back : (s : List ℕ) (a b : ℕ) (r : Option Cursor) → a ≤ b → ok_move s b r → ok_move s a r
+ok_move_back s a b (Some c) h k = omega arith
+ok_move_back s a b None h k = tt

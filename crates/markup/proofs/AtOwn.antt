@@ -176,5 +176,5 @@ module _ (n s : List ℕ) (at b c : ℕ) (r : Bool) (k : b ≡ get_or s at 0) (t
   pub own_other : r ≡ false → refused ≡ piece n (drop at s)
   own_other f = rw (own_tag, f)
 
-  pub own_close : r ≡ true → (last : ℕ) → drop last s ≡ skip_ws (drop (at + 2 + length n) s) → (o : Read Unit) → o ≡ byte 62 (drop last s) → then o (λ _ m. read closing m) ≡ piece n (drop at s)
-  own_close f last v o d = rw (own_tag, f, ← v, ← d)
+  pub own_close : r ≡ true → (o : Read Unit) → o ≡ byte 62 (skip_ws (drop (at + 2 + length n) s)) → then o (λ _ m. read closing m) ≡ piece n (drop at s)
+  own_close f o d = rw (own_tag, f, ← d)

@@ -16,10 +16,9 @@ use Rattle.markup.specs.Bytes.{is_ws, run_length}
 use Rattle.markup.specs.NamesAndValues.{Read, then, byte}
 use Rattle.markup.specs.NamesAndValues.Read.{refused, read}
 use Rattle.markup.specs.Tags.{Pair, Attributes, ending, before, attribute, go_on, attributes_step, attributes, differ, tag_of}
-use Rattle.markup.specs.Classes.{class}
 use Rattle.markup.specs.View.{ok_ending, ending_of, pairs_in, OfPairs}
+use Rattle.std.specs.Prelude.{Option, Some, None}
 use Rattle.markup.specs.declared.Ending.{Ending}
-use Rattle.markup.specs.declared.Ending.TheVariants as end
 use Rattle.markup.proofs.AtBytes.{run_no, skip_at}
 use Rattle.markup.proofs.Shorter.{attributes-turn}
 
@@ -31,31 +30,26 @@ same_count from w at h = go (ℕ_discrete at from)
     go (Dec.no f) = ne_eqb w 0 (λ z. f (omega arith)) ∙ sym (ne_eqb at from f)
 
 -- the white space ends at `at`, before the byte b
-pub attributes_at : (s : List ℕ) (from at b : ℕ) → at ≡ from + run_length (class 0) (drop from s) → b ≡ get_or s at 0
+pub attributes_at : (s : List ℕ) (from at b : ℕ) → at ≡ from + run_length is_ws (drop from s) → b ≡ get_or s at 0
     → attributes_step (drop from s) ≡ cond (eqb b 62) (stop (read (ending false) (drop (at + 1) s)))
     (cond (eqb b 47) (stop (then (byte 62 (drop (at + 1) s)) (λ _ m. read (ending true) m))) (cond (eqb at from) (stop refused) (go_on (attribute (drop at s)))))
-unfolding attributes_step class
+unfolding attributes_step
 attributes_at s from at b h k =
     rw (← skip_at s from at h, first s at, ← k, drop-drop 1 at s, same_count from (run_length is_ws (drop from s)) at h)
 
 -- a tag that ends at once
 pub attributes_none : (s : List ℕ) (at b : ℕ) → b ≡ get_or s at 0 → b ≡ 62 → (attributes (drop at s) ≡ read (ending false) (drop (at + 1) s)) × (at < length s)
-unfolding class
 attributes_none s at b k e = (attributes-turn (drop at s) ∙ rw (attributes_at s at at b z k, e), h)
   where
     h : at < length s
     h = byte_inside s at b 62 refl k e
 
-    z : at ≡ at + run_length (class 0) (drop at s)
+    z : at ≡ at + run_length is_ws (drop at s)
     z = let r : run_length is_ws (drop at s) ≡ 0 = run_no is_ws s at h (rw (← k, e)) in omega arith
 
 pub ending_before : (p : Pair) (r : Read Attributes) → ending_of (before p r) ≡ ending_of r
 ending_before p refused = refl
 ending_before p (read a m) = refl
-
-pub ending_done : (r : Read Bool) → ending_of (then r (λ b m. read (ending b) m)) ≡ r
-ending_done refused = refl
-ending_done (read b m) = refl
 
 -- what is said of the attributes from l on, by the step that is taken there
 module _ (f : List Pair → Bool) (l : List ℕ) where
@@ -91,7 +85,6 @@ pub tag_bad : (n : List ℕ) (r : Read Attributes) → refused ≡ ending_of r �
 tag_bad n refused e = refl
 tag_bad n (read a m) e = absurd (let z : ◌≡◌ {A = ℕ} 0 1 = cc in omega arith)
 
-pub ok_ending_back : (s : List ℕ) (a b : ℕ) (r : Ending) → a ≤ b → ok_ending s b r → ok_ending s a r
-ok_ending_back s a b (end.Open c) h k = omega arith
-ok_ending_back s a b (end.Shut c) h k = omega arith
-ok_ending_back s a b end.Refused h k = tt
+pub ok_ending_back : (s : List ℕ) (a b : ℕ) (r : Option Ending) → a ≤ b → ok_ending s b r → ok_ending s a r
+ok_ending_back s a b (Some e) h k = omega arith
+ok_ending_back s a b None h k = tt

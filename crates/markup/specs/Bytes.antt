@@ -1,5 +1,5 @@
 -- The bytes of the markup (RULES.md, 1 The markup taken), and runs of them.
-use Rattle.std.specs.Prelude.{ℕ, suc, Bool, cond, not, ◌||◌, ◌&&◌, List, [], ◌∷◌, eqb, leb, take, drop}
+use Rattle.std.specs.Prelude.{ℕ, suc, ◌≡◌, Bool, cond, not, ◌||◌, ◌&&◌, List, [], ◌∷◌, eqb, leb, ltb, take, drop}
 use Prim.Native.Char.{code}
 
 -- M1: "Only the bytes 9, 10, 13 and 32 to 126 stand in a file"
@@ -29,6 +29,14 @@ in_value quote b = not (eqb b quote) && not (eqb b (code "<"))
 -- a text goes on to the next `<`
 abbrev pub is_text : ℕ → Bool
 is_text b = not (eqb b (code "<"))
+
+-- what ends an attribute's name, white space or `=`, is none of a word's bytes, and a name's bytes are
+abbrev pub is_word : ℕ → Bool
+is_word b = ltb 32 b && not (eqb b (code "="))
+
+-- each answer that the code's test may give is the definition's
+abbrev pub IsTest : (ℕ → Bool → Type 0) → (ℕ → Bool) → Type 0
+IsTest answers p = (b : ℕ) (r : Bool) → answers b r → r ≡ p b
 
 -- how many bytes at the front pass a test; those bytes; what follows them
 unfoldable pub run_length : (ℕ → Bool) → List ℕ → ℕ

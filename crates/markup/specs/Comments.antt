@@ -8,6 +8,11 @@ use Rattle.markup.specs.NamesAndValues.Read.{refused, read}
 abbrev pub opens_other : ℕ → ℕ → Bool
 opens_other b c = eqb b (code "<") && (eqb c (code "?") || eqb c (code "!"))
 
+-- what is left after the first two bytes that are a and c; M5 on the way to them
+unfoldable pub closed_by : ℕ → ℕ → List ℕ → Read Unit
+closed_by a c [] = refused
+closed_by a c (b ∷ l) = cond (eqb b a && eqb (get_or l 0 0) c) (read tt (drop 1 l)) (cond (opens_other b (get_or l 0 0)) refused (closed_by a c l))
+
 -- after `<!--`, M7: "to the next `--`, which `>` must follow"
 unfoldable pub comment : List ℕ → Read Unit
 comment [] = refused

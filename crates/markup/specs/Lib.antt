@@ -4,6 +4,5 @@ pub mod Comments
 pub mod Tags
 pub mod Elements
 pub mod Document
-pub mod Classes
 pub mod View
 pub mod Batches

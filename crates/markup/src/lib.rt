@@ -1,4 +1,4 @@
-// The markup reader: a place in the input goes from reader to reader, and each answers what it read with the next place, or the refusal.
+// The markup reader: a place in the input goes from reader to reader, and each answers what it read with the next place, or None, the refusal.
 #![tactic(auto)]
 
 pub mod bytes;
@@ -15,74 +15,45 @@ pub struct Cursor {
     pub at: usize,
 }
 
-// The next place, where nothing is kept of what was read.
-#[derive(Clone, Copy)]
-pub enum Move {
-    To(Cursor),
-    Refused,
-}
-
 // A name or a value: its places and the next place.
 #[derive(Clone, Copy)]
-pub enum Got {
-    Text {
-        start: usize,
-        end: usize,
-        next: Cursor,
-    },
-    Refused,
+pub struct Text {
+    pub start: usize,
+    pub end: usize,
+    pub next: Cursor,
 }
 
 // An attribute: the places of its name and its value, and the next place.
 #[derive(Clone, Copy)]
-pub enum Attribute {
-    Is {
-        name: usize,
-        name_end: usize,
-        value: usize,
-        value_end: usize,
-        next: Cursor,
-    },
-    Refused,
+pub struct Attribute {
+    pub name: usize,
+    pub name_end: usize,
+    pub value: usize,
+    pub value_end: usize,
+    pub next: Cursor,
 }
 
-// The end of a start tag, by `>` or by `/>`.
+// The end of a start tag, by `>` or by `/>`, and the next place.
 #[derive(Clone, Copy)]
 pub enum Ending {
     Open(Cursor),
     Shut(Cursor),
-    Refused,
 }
 
 // What stands next in a start tag after its name: an attribute, or the tag's end.
 #[derive(Clone, Copy)]
 pub enum TagStep {
-    More {
-        name: usize,
-        name_end: usize,
-        value: usize,
-        value_end: usize,
-        next: Cursor,
-    },
+    More(Attribute),
     Done(Ending),
 }
 
-// A start tag: the places of its name, the place of its attributes and the next place.
+// A start tag: the places of its name, the place of its attributes, and its end.
 #[derive(Clone, Copy)]
-pub enum Start {
-    Open {
-        name: usize,
-        name_end: usize,
-        after: usize,
-        next: Cursor,
-    },
-    Shut {
-        name: usize,
-        name_end: usize,
-        after: usize,
-        next: Cursor,
-    },
-    Refused,
+pub struct Start {
+    pub name: usize,
+    pub name_end: usize,
+    pub after: usize,
+    pub ending: Ending,
 }
 
 // What stands next inside an element; a child is yet to be read.
@@ -92,19 +63,11 @@ pub enum Piece {
     Aside(Cursor),
     Close(Cursor),
     Kid,
-    Refused,
 }
 
 // What stands next outside the root: a comment, or the end of white space and comments.
 #[derive(Clone, Copy)]
 pub enum Misc {
     More(Cursor),
-    Done(Move),
-}
-
-// The place of the root element of a file in the markup.
-#[derive(Clone, Copy)]
-pub enum Document {
-    Root(Cursor),
-    Refused,
+    Done(Cursor),
 }

@@ -1,160 +1,124 @@
 // Start tags with their attributes, and end tags.
 ghost use Rattle.std.specs.Prelude.{◌≡◌, drop};
+ghost use Rattle.markup.specs.NamesAndValues.{skip_ws, byte};
 ghost use Rattle.markup.specs.Tags.{attribute, attributes_step, attributes, tag, end_tag};
 ghost use Rattle.markup.specs.View.{part, view_move, ok_move, view_attribute, ok_attribute, view_tag_step, ok_tag_step, view_ending, ok_ending, ending_of, view_start, ok_start};
 
-use crate::bytes::{part, peek, run_end, same};
+use crate::bytes::{is_ws, part, peek, run_end, same};
 use crate::repeats::differ;
-use crate::{Attribute, Cursor, Ending, Got, Move, Start, TagStep};
+use crate::{Attribute, Cursor, Ending, Start, TagStep};
 
 impl Cursor {
     // An attribute, after white space.
-    pub fn attribute(self, s: &[u8]) -> Attribute
+    #[tactic(auto, unfolding(crate::specs::Tags::attribute))]
+    pub fn attribute(self, s: &[u8]) -> Option<Attribute>
         ensures { (view_attribute s.now result ≡ attribute (drop self.at s.now)) × ok_attribute s.now self.at result }
     {
-        let Got::Text { start, end, next } = self.name(s) else {
-            return Attribute::Refused;
-        };
-        let equal = next.skip_ws(s);
-        let Move::To(after) = equal.expect(s, b'=') else {
-            return Attribute::Refused;
-        };
+        let name = self.name(s)?;
+        let equal = name.next.skip_ws(s);
+        let after = equal.expect(s, b'=')?;
         let quote = after.skip_ws(s);
-        let Got::Text {
-            start: value,
-            end: value_end,
-            next: done,
-        } = quote.value(s)
-        else {
-            return Attribute::Refused;
-        };
-        Attribute::Is {
-            name: start,
-            name_end: end,
-            value,
-            value_end,
-            next: done,
-        }
+        let value = quote.value(s)?;
+        Some(Attribute {
+            name: name.start,
+            name_end: name.end,
+            value: value.start,
+            value_end: value.end,
+            next: value.next,
+        })
     }
 
     // An attribute, or the tag's end.
-    pub fn attributes_step(self, s: &[u8]) -> TagStep
+    pub fn attributes_step(self, s: &[u8]) -> Option<TagStep>
         ensures { (view_tag_step s.now result ≡ attributes_step (drop self.at s.now)) × ok_tag_step s.now self.at result }
     {
         let from = self.at;
-        let at = run_end(s, from, 0);
+        let at = run_end(s, from, is_ws);
         let b = peek(s, at);
         if b == b'>' {
-            return TagStep::Done(Ending::Open(Cursor { at: at + 1 }));
+            return Some(TagStep::Done(Ending::Open(Cursor { at: at + 1 })));
         }
         if b == b'/' {
             let slash = Cursor { at: at + 1 };
-            let Move::To(done) = slash.expect(s, b'>') else {
-                return TagStep::Done(Ending::Refused);
-            };
-            return TagStep::Done(Ending::Shut(done));
+            let done = slash.expect(s, b'>')?;
+            return Some(TagStep::Done(Ending::Shut(done)));
         }
         if at == from {
-            return TagStep::Done(Ending::Refused);
+            return None;
         }
         let first = Cursor { at };
-        let Attribute::Is {
-            name,
-            name_end,
-            value,
-            value_end,
-            next,
-        } = first.attribute(s)
-        else {
-            return TagStep::Done(Ending::Refused);
-        };
-        TagStep::More {
-            name,
-            name_end,
-            value,
-            value_end,
-            next,
-        }
+        let attribute = first.attribute(s)?;
+        Some(TagStep::More(attribute))
     }
 
     // The rest of a start tag after its name, whatever the attributes' names.
-    pub fn attributes(self, s: &[u8]) -> Ending
+    pub fn attributes(self, s: &[u8]) -> Option<Ending>
         ensures { (view_ending s.now result ≡ ending_of (attributes (drop self.at s.now))) × ok_ending s.now self.at result }
     {
         let from = self.at;
         if peek(s, from) == b'>' {
-            return Ending::Open(Cursor { at: from + 1 });
+            return Some(Ending::Open(Cursor { at: from + 1 }));
         }
-        let mut at = from;
+        let mut here = self;
         loop {
-            let here = Cursor { at };
-            match here.attributes_step(s) {
-                TagStep::More { next, .. } => {
-                    at = next.at;
+            match here.attributes_step(s)? {
+                TagStep::More(attribute) => {
+                    here = attribute.next;
                 }
                 TagStep::Done(ending) => {
-                    return ending;
+                    return Some(ending);
                 }
             }
         }
     }
 
     // A start tag.
-    pub fn start(self, s: &[u8]) -> Start
+    #[tactic(auto, unfolding(crate::specs::Tags::tag), using(crate::proofs::AtTags::attributes_none, crate::proofs::AtTags::tag_end, crate::proofs::AtTags::tag_bad))]
+    pub fn start(self, s: &[u8]) -> Option<Start>
         ensures { (view_start s.now result ≡ tag (drop self.at s.now)) × ok_start s.now self.at result }
     {
-        let Move::To(first) = self.expect(s, b'<') else {
-            return Start::Refused;
-        };
-        let Got::Text { start, end, next } = first.name(s) else {
-            return Start::Refused;
-        };
-        let after = next.at;
+        let first = self.expect(s, b'<')?;
+        let name = first.name(s)?;
+        let after = name.next.at;
         if peek(s, after) == b'>' {
-            return Start::Open {
-                name: start,
-                name_end: end,
+            return Some(Start {
+                name: name.start,
+                name_end: name.end,
                 after,
-                next: Cursor { at: after + 1 },
-            };
+                ending: Ending::Open(Cursor { at: after + 1 }),
+            });
         }
-        let ending = next.attributes(s);
         // What is refused anyway costs no look at the names.
-        if let Ending::Refused = ending {
-            return Start::Refused;
-        }
+        let ending = name.next.attributes(s)?;
         if !differ(s, after) {
-            return Start::Refused;
+            return None;
         }
-        match ending {
-            Ending::Open(done) => Start::Open {
-                name: start,
-                name_end: end,
-                after,
-                next: done,
-            },
-            Ending::Shut(done) => Start::Shut {
-                name: start,
-                name_end: end,
-                after,
-                next: done,
-            },
-            Ending::Refused => Start::Refused,
-        }
+        Some(Start {
+            name: name.start,
+            name_end: name.end,
+            after,
+            ending,
+        })
+    }
+
+    // The rest of an end tag after its name.
+    pub fn close(self, s: &[u8]) -> Option<Cursor>
+        ensures { (view_move s.now result ≡ byte 62 (skip_ws (drop self.at s.now))) × ok_move s.now self.at result }
+    {
+        let last = self.skip_ws(s);
+        last.expect(s, b'>')
     }
 
     // An end tag of the name, after `</`.
-    pub fn end_tag(self, s: &[u8], name: usize, name_end: usize) -> Move
+    #[tactic(auto, unfolding(crate::specs::Tags::end_tag))]
+    pub fn end_tag(self, s: &[u8], name: usize, name_end: usize) -> Option<Cursor>
         ensures { (view_move s.now result ≡ end_tag (part s.now name name_end) (drop self.at s.now)) × ok_move s.now self.at result }
     {
-        let Got::Text { start, end, next } = self.name(s) else {
-            return Move::Refused;
-        };
-        if same(part(s, name, name_end), part(s, start, end)) {
-            let last = next.skip_ws(s);
-            last.expect(s, b'>')
+        let found = self.name(s)?;
+        if same(part(s, name, name_end), part(s, found.start, found.end)) {
+            found.next.close(s)
         } else {
-            Move::Refused
+            None
         }
     }
 }

@@ -3,32 +3,33 @@ use Prim.Native.Nat.{ℕ}
 use mathlib.Core.Path.{◌≡◌, refl, sym, ◌∙◌}
 use mathlib.Core.Bool.{Bool, true, false}
 use mathlib.Core.List.{List, [], ◌∷◌}
+use Rattle.std.specs.Prelude.{Option, Some, None}
 use Rattle.laws.specs.Lists.{any, same}
 use Rattle.laws.specs.Loop.Step.{stop, next}
-use Rattle.markup.specs.NamesAndValues.{Read, then}
+use Rattle.markup.specs.NamesAndValues.{Read}
 use Rattle.markup.specs.NamesAndValues.Read.{refused, read}
 use Rattle.markup.specs.Tags.{Pair, Attributes, ending, before, attributes_step, attributes}
 use Rattle.markup.specs.View.{part, pair}
+use Rattle.markup.specs.declared.Attribute.{Attribute}
 use Rattle.reading.proofs.Cut.{never}
 use Rattle.laws.proofs.Fuel.{loop-next, loop-stop}
 use Rattle.reading.proofs.Tags.{attributes_less}
 use Rattle.nodes.specs.Lookup.{value_in}
 use Rattle.nodes.specs.Stands.{Valued}
-use Rattle.nodes.specs.declared.Value.{Value}
-use Rattle.nodes.specs.declared.Value.TheVariants as value
+use Rattle.nodes.specs.declared.Span.{Span}
 
 -- P holds of the attributes that are read from l on
 abbrev pub OfPairs : (List Pair → Type 0) → List ℕ → Type 0
 OfPairs P l = (a : Attributes) (m : List ℕ) → attributes l ≡ read a m → P a.pairs
 
 module _ (P : List Pair → Type 0) (l : List ℕ) where
-  pub of_done : (v : Read Bool) → stop (then v (λ b m. read (ending b) m)) ≡ attributes_step l → P [] → OfPairs P l
+  pub of_done : (b : Bool) (k : List ℕ) → stop (read (ending b) k) ≡ attributes_step l → P [] → OfPairs P l
   unfolding attributes
-  of_done v e p a m h = go v (sym (loop-stop refused attributes_step attributes_less (sym e)) ∙ h)
-    where
-      go : (v : Read Bool) → then v (λ b m. read (ending b) m) ≡ read a m → P a.pairs
-      go refused e = never cc
-      go (read b k) e = let j : ending b ≡ a = cc in rw (← j) p
+  of_done b k e p a m h = let f = sym (loop-stop refused attributes_step attributes_less (sym e)) ∙ h in let j : ending b ≡ a = cc in rw (← j) p
+
+  pub of_refused : stop refused ≡ attributes_step l → OfPairs P l
+  unfolding attributes
+  of_refused e a m h = let f = sym (loop-stop refused attributes_step attributes_less (sym e)) ∙ h in never cc
 
   pub of_next : {p : Pair} {k : List ℕ} → next (before p) k ≡ attributes_step l → OfPairs (λ ps. P (p ∷ ps)) k → OfPairs P l
   unfolding attributes
@@ -39,16 +40,16 @@ module _ (P : List Pair → Type 0) (l : List ℕ) where
       go (read c n) i e = let j : record { pairs = p ∷ c.pairs; shut = c.shut } ≡ a = cc in rw (← j) (g c n i)
 
 module _ (s x : List ℕ) where
-  pub valued_none : Valued s x [] value.Missing
+  pub valued_none : Valued s x [] None
   unfolding value_in any
   valued_none = (refl, refl)
 
-  pub valued_here : (a e v w : ℕ) (ps : List Pair) → true ≡ same x (part s a e) → Valued s x (pair s a e v w ∷ ps) (value.Text v w)
+  pub valued_here : (a : Attribute) (ps : List Pair) → true ≡ same x (part s a.name a.name_end) → Valued s x (pair s a ∷ ps) (Some (record { start = a.value; end = a.value_end }))
   unfolding value_in any
-  valued_here a b v w ps e = (rw (← e), rw (← e))
+  valued_here a ps e = (rw (← e), rw (← e))
 
   -- past another attribute
-  pub valued_on : (p : Pair) (ps : List Pair) (r : Value) → false ≡ same x p.key → Valued s x ps r → Valued s x (p ∷ ps) r
+  pub valued_on : (p : Pair) (ps : List Pair) (r : Option Span) → false ≡ same x p.key → Valued s x ps r → Valued s x (p ∷ ps) r
   unfolding value_in any
-  valued_on p ps (value.Text a e) h k = rw (← h) k
-  valued_on p ps value.Missing h k = rw (← h) k
+  valued_on p ps (Some v) h k = rw (← h) k
+  valued_on p ps None h k = rw (← h) k

@@ -6,11 +6,15 @@ pub mod several;
 pub mod values;
 
 // An element: the place of its `<`, and the levels that it has at most; 0 levels where it is missing.
+// No Option: a child of what is missing is missing, so a path of names needs no case at each step. And no file in it: one file, passed beside, is that of all
+// the nodes that a clause speaks of (OfShape, tracks/specs/Top), and each node in an array would carry it again.
 #[derive(Clone, Copy)]
 pub struct Node {
     pub at: usize,
     pub levels: usize,
 }
+
+pub const MISSING: Node = Node { at: 0, levels: 0 };
 
 // A text, by its places.
 #[derive(Clone, Copy)]
@@ -19,46 +23,20 @@ pub struct Span {
     pub end: usize,
 }
 
-// An attribute's value, by its places.
-#[derive(Clone, Copy)]
-pub enum Value {
-    Text { start: usize, end: usize },
-    Missing,
-}
+pub const EMPTY: Span = Span { start: 0, end: 0 };
 
 // What stands in an element: the places of its name, the place after its start tag, and the levels that its children have at most.
 #[derive(Clone, Copy)]
-pub enum Entry {
-    Open {
-        name: usize,
-        name_end: usize,
-        from: usize,
-        levels: usize,
-    },
-    Empty,
+pub struct Opened {
+    pub name: usize,
+    pub name_end: usize,
+    pub from: usize,
+    pub levels: usize,
 }
 
-// The next child of an element, by its place.
+// Some children of an element, each the first of its name, and the place inside the element where the walk ended, if anything stands in it.
 #[derive(Clone, Copy)]
-pub enum Kid {
-    At(usize),
-    Gone,
-}
-
-// Six children of an element, each the first of its name.
-#[derive(Clone, Copy)]
-pub struct Six {
-    pub a: Node,
-    pub b: Node,
-    pub c: Node,
-    pub d: Node,
-    pub e: Node,
-    pub f: Node,
-}
-
-// Six children, and the place inside their element where the walk ended; 0 where nothing stands in it.
-#[derive(Clone, Copy)]
-pub struct Walked {
-    pub found: Six,
-    pub rest: usize,
+pub struct Walked<const N: usize> {
+    pub found: [Node; N],
+    pub rest: Option<usize>,
 }

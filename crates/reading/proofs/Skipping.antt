@@ -5,6 +5,7 @@ use mathlib.Core.Path.{◌≡◌, refl, sym, ap, ◌∙◌}
 use mathlib.Core.Bool.{Bool, true, false, cond, not}
 use mathlib.Core.List.{List, [], ◌∷◌}
 use native.Mathlib.Numerals.{add-one, sub-one}
+use native.Mathlib.Decide.{dec_lt}
 use native.Mathlib.Omega.{arith}
 use lib.Dec.{eqb}
 use lib.ListN.{length, drop, get_or, drop_of_length-le}
@@ -14,8 +15,9 @@ use Rattle.laws.specs.Loop.Step.{stop, next}
 use Rattle.laws.proofs.Fuel.{loop-next, loop-stop}
 use Rattle.laws.proofs.Places.{front as Front-at}
 use Rattle.laws.specs.Lists.{same}
-use Rattle.markup.specs.Bytes.{is_ws, is_name_start, is_name, is_text, run_length, front, after}
-use Rattle.markup.specs.Classes.{class}
+use Rattle.std.specs.Prelude.{Option, Some, None}
+use Rattle.markup.specs.declared.Text.{Text}
+use Rattle.markup.specs.Bytes.{is_ws, is_name_start, is_name, is_text, run_length, front, after, in_value}
 use Rattle.markup.specs.NamesAndValues.{Read, then, skip_ws, byte, name}
 use Rattle.markup.specs.NamesAndValues.Read.{refused, read}
 use Rattle.markup.specs.Comments.{dashed}
@@ -23,8 +25,6 @@ use Rattle.markup.specs.Tags.{Attributes, attributes, differ, Tag, tag_of, tag, 
 use Rattle.markup.specs.Elements.{Inside, Tree, piece, onto, after_piece, content_step, content, element, kid_on}
 use Rattle.markup.specs.Elements.Piece.{words, aside, closing, child}
 use Rattle.markup.specs.View.{ok_got, left, ending_of}
-use Rattle.markup.specs.declared.Got.{Got}
-use Rattle.markup.specs.declared.Got.TheVariants as got
 use Rattle.markup.proofs.AtBytes.{run_after}
 use Rattle.markup.proofs.AtTags.{attributes_none}
 use Rattle.markup.proofs.AtElements.{piece_tag}
@@ -33,9 +33,9 @@ use Rattle.reading.proofs.Leaves.{byte_is, byte_back, after_none}
 use Rattle.reading.proofs.Steps.{content_of, built, inside_less, on_close}
 
 -- what lies past b lies past what stands before b
-pub ok_got_back : (s : List ℕ) (a b : ℕ) (r : Got) → a ≤ b → ok_got s b r → ok_got s a r
-ok_got_back s a b (got.Text x e c) h k = omega arith
-ok_got_back s a b got.Refused h k = tt
+pub ok_got_back : (s : List ℕ) (a b : ℕ) (r : Option Text) → a ≤ b → ok_got s b r → ok_got s a r
+ok_got_back s a b (Some t) h k = omega arith
+ok_got_back s a b None h k = tt
 
 -- ---- runs: what passes p and all of which pass r is no end of a run of r
 
@@ -69,12 +69,10 @@ name_text b e = ap not (no_byte is_name 60 refl b e)
 space_text : (b : ℕ) → is_ws b ≡ true → is_text b ≡ true
 space_text b e = ap not (no_byte is_ws 60 refl b e)
 
-name_in : (b : ℕ) → is_name b ≡ true → class 62 b ≡ true
-unfolding class
+name_in : (b : ℕ) → is_name b ≡ true → in_value 62 b ≡ true
 name_in b e = rw (no_byte is_name 60 refl b e, no_byte is_name 62 refl b e)
 
-space_in : (b : ℕ) → is_ws b ≡ true → class 62 b ≡ true
-unfolding class
+space_in : (b : ℕ) → is_ws b ≡ true → in_value 62 b ≡ true
 space_in b e = rw (no_byte is_ws 60 refl b e, no_byte is_ws 62 refl b e)
 
 -- up to the next `<` an end tag and what follows it are alike
@@ -83,9 +81,9 @@ unfolding run_length
 end_text n l m e = end_run is_text name_text space_text n l m e
 
 -- up to the next `>` it is the end tag
-end_here : (n l m : List ℕ) → end_tag n l ≡ read tt m → byte 62 (after (class 62) l) ≡ read tt m
-unfolding run_length class
-end_here n l m e = ap (byte 62) (end_run (class 62) name_in space_in n l m e) ∙ byte_back 62 m
+end_here : (n l m : List ℕ) → end_tag n l ≡ read tt m → byte 62 (after (in_value 62) l) ≡ read tt m
+unfolding run_length
+end_here n l m e = ap (byte 62) (end_run (in_value 62) name_in space_in n l m e) ∙ byte_back 62 m
 
 -- ---- what stands in an element, a step at a time, with what is left after it
 
@@ -163,9 +161,9 @@ module _ (l : List ℕ) (g : Tag) (m : List ℕ) (e : tag l ≡ read g m) where
       never cc
 
 -- a start tag without attributes, by the end of its name
-pub tag_plain : (s : List ℕ) (q e b : ℕ) → e ≡ q + 1 + run_length (class 1) (drop (q + 1) s) → b ≡ get_or s e 0 → b ≡ 62 → (g : Tag) (m : List ℕ) → tag (drop q s) ≡ read g m
+pub tag_plain : (s : List ℕ) (q e b : ℕ) → e ≡ q + 1 + run_length is_name (drop (q + 1) s) → b ≡ get_or s e 0 → b ≡ 62 → (g : Tag) (m : List ℕ) → tag (drop q s) ≡ read g m
     → read false (drop (e + 1) s) ≡ read g.shut m
-unfolding tag name class
+unfolding tag name
 tag_plain s q e b k w z g m t =
     let p = then_is (byte 60 (drop q s)) (λ _ m. then (name m) (λ n m. then (attributes m) (tag_of n))) t in
     let r = then_is (name p.1) (λ n m. then (attributes m) (tag_of n)) p.3 in
@@ -198,9 +196,8 @@ open_left : (d : ℕ) (g : Tag) (z : List ℕ) {i : Inside} {y : List ℕ} → c
 open_left d g z e k = rw k at e
 
 -- at a `<` of the input, after a text, before the byte c
-module _ (s : List ℕ) (at q c : ℕ) (k : q ≡ at + run_length (class 60) (drop at s)) (h : q < length s) (w : c ≡ get_or s (q + 1) 0) where
+module _ (s : List ℕ) (at q c : ℕ) (k : q ≡ at + run_length is_text (drop at s)) (h : q < length s) (w : c ≡ get_or s (q + 1) 0) where
   tag_here : get_or s q 0 ≡ 60
-  unfolding class
   tag_here = go (eqb (get_or s q 0) 60) refl (run_stops is_text s at q k h)
     where
       go : (t : Bool) → eqb (get_or s q 0) 60 ≡ t → not (eqb (get_or s q 0) 60) ≡ false → get_or s q 0 ≡ 60
@@ -208,7 +205,6 @@ module _ (s : List ℕ) (at q c : ℕ) (k : q ≡ at + run_length (class 60) (dr
       go false e z = let v = rw e at z in never cc
 
   text_here : after is_text (drop at s) ≡ drop q s
-  unfolding class
   text_here = sym (run_after is_text s at q k)
 
   module _ (d : ℕ) (n : List ℕ) {i : Inside} {y : List ℕ} (e : content (element d) n (drop q s) ≡ read i y) where
@@ -244,13 +240,13 @@ module _ (s : List ℕ) (at q c : ℕ) (k : q ≡ at + run_length (class 60) (dr
 
   -- the laws of the loop, one for each way on and out
   module _ (o : ℕ) (m : List ℕ) (r : Pending o (after is_text (drop at s)) m) where
-    pub pend_last : o ≡ 1 → c ≡ 47 → byte 62 (after (class 62) (drop (q + 2) s)) ≡ read tt m
+    pub pend_last : o ≡ 1 → c ≡ 47 → byte 62 (after (in_value 62) (drop (q + 2) s)) ≡ read tt m
     pend_last u b = go r text_here u
       where
         out_of : {y : List ℕ} → Pending 0 y m → y ≡ m
         out_of out = refl
 
-        go : {o : ℕ} {l : List ℕ} → Pending o l m → l ≡ drop q s → o ≡ 1 → byte 62 (after (class 62) (drop (q + 2) s)) ≡ read tt m
+        go : {o : ℕ} {l : List ℕ} → Pending o l m → l ≡ drop q s → o ≡ 1 → byte 62 (after (in_value 62) (drop (q + 2) s)) ≡ read tt m
         go out f u = absurd (omega arith)
         go (within {k = zero} d n l i {y = y} e x) f u = end_here n (drop (q + 2) s) m (close_is d n (rw f at e) b ∙ ap (read tt) (out_of x))
         go (within {k = suc k} d n l i e x) f u = absurd (omega arith)
@@ -301,7 +297,7 @@ module _ (s : List ℕ) (at q c : ℕ) (k : q ≡ at + run_length (class 60) (dr
               let y = open_left j.1.d j.1.g j.1.z j.1.holds (sym p.0) in
               pend_text (within j.1.d j.1.g.named z j.1.i (rw p.1 y) (within d n j.0 j.2 j.3 x))
 
-      pub pend_no_tag : {A : Type 0} → v ≡ refused → A
+      pend_no_tag : {A : Type 0} → v ≡ refused → A
       pend_no_tag {A} u = go r text_here t
         where
           go : {o : ℕ} {l : List ℕ} → Pending o l m → l ≡ drop q s → 1 ≤ o → A
@@ -312,8 +308,8 @@ module _ (s : List ℕ) (at q c : ℕ) (k : q ≡ at + run_length (class 60) (dr
               never cc
 
 -- nothing stands at the end of the input
-pub pend_none : {A : Type 0} (s : List ℕ) (at q o : ℕ) (m : List ℕ) → q ≡ at + run_length (class 60) (drop at s) → length s ≤ q → 1 ≤ o → Pending o (after is_text (drop at s)) m → A
-unfolding class piece
+pend_none : {A : Type 0} (s : List ℕ) (at q o : ℕ) (m : List ℕ) → q ≡ at + run_length is_text (drop at s) → length s ≤ q → 1 ≤ o → Pending o (after is_text (drop at s)) m → A
+unfolding piece
 pend_none {A} s at q o m k h t r = go r (sym (run_after is_text s at q k) ∙ drop_of_length-le s h) t
   where
     none : (d : ℕ) (n : List ℕ) {i : Inside} {y : List ℕ} → content (element d) n [] ≡ read i y → A
@@ -322,6 +318,15 @@ pend_none {A} s at q o m k h t r = go r (sym (run_after is_text s at q k) ∙ dr
     go : {o : ℕ} {l : List ℕ} → Pending o l m → l ≡ [] → 1 ≤ o → A
     go out f t = absurd (omega arith)
     go (within d n l i e x) f t = none d n (rw f at e)
+
+-- no tag can be read at the end of a text
+pub no_more : {A : Type 0} (s : List ℕ) (at q c : ℕ) → q ≡ at + run_length is_text (drop at s) → c ≡ get_or s (q + 1) 0 → (o : ℕ) (m : List ℕ) → Pending o (after is_text (drop at s)) m → 1 ≤ o
+    → (c ≡ 47 → ⊥) → (c ≡ 33 → ⊥) → ((g : Tag) (m : List ℕ) → tag (drop q s) ≡ read g m → refused ≡ read g.shut m) → A
+no_more {A} s at q c k w o m r t a b g = go (dec_lt q (length s))
+  where
+    go : Dec (q < length s) → A
+    go (Dec.yes h) = pend_no_tag s at q c k h w o m r t a b g refl
+    go (Dec.no h) = pend_none s at q o m k (omega (arith, h)) t r
 
 pub none_past : {A : Type 0} (s : List ℕ) (at d : ℕ) (n : List ℕ) {i : Inside} {m : List ℕ} → length s ≤ at → content (element d) n (drop at s) ≡ read i m → A
 unfolding piece

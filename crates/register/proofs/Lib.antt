@@ -4,7 +4,6 @@ pub mod RowBytes
 pub mod States
 pub mod Seams
 pub mod Changes
-pub mod Shift
 pub mod Header
 pub mod Keys
 pub mod Halving

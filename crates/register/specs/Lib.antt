@@ -9,3 +9,4 @@ pub mod View
 pub mod Gap
 pub mod State
 pub mod RoomAndEmptying
+pub mod Emptying

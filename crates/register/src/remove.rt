@@ -6,7 +6,7 @@ ghost use Rattle.register.specs.TakenOutBytes.{case_taken};
 use crate::counts::{count, set_count};
 use crate::moving::{remove_row, remove_rows};
 use crate::room::room_for;
-use crate::search::{case_range, place, stands};
+use crate::search::{Span, case_range, place, stands};
 
 // Row i of c cases and the events from row lo up to hi go from n rows: every row behind them comes back once.
 fn close_case(reg: &mut [u8], w: usize, i: usize, lo: usize, hi: usize, c: usize, n: usize)
@@ -37,8 +37,6 @@ pub fn remove_case(reg: &mut [u8], w: usize, kbits: usize, probe: &[u8])
     if !stands(reg, w, i, c, probe, kbits) {
         return;
     }
-    let span = case_range(reg, w, c, n, probe, kbits);
-    let lo = span.lo;
-    let hi = span.hi;
+    let Span { lo, hi } = case_range(reg, w, c, n, probe, kbits);
     close_case(reg, w, i, lo, hi, c, n);
 }

@@ -10,10 +10,7 @@ pub fn room_for(reg: &[u8], w: usize, n: usize) -> bool
     requires { w ≤ 65536 }
     ensures { result ≡ leb n most_rows && leb (4 + w * n) (length reg.now) }
 {
-    if MOST < n {
-        return false;
-    }
-    4 + w * n <= reg.len()
+    n <= MOST && 4 + w * n <= reg.len()
 }
 
 // The rows of w bytes that a register of that many bytes has room for.
@@ -21,12 +18,5 @@ pub fn room_of(w: usize, len: usize) -> usize
     requires { 1 ≤ w }
     ensures { (result ≡ min most_rows ((len - 4) / w)) × (result ≤ most_rows) }
 {
-    if len < 4 {
-        return 0;
-    }
-    let fit = (len - 4) / w;
-    if MOST < fit {
-        return MOST;
-    }
-    fit
+    MOST.min(len.saturating_sub(4) / w)
 }

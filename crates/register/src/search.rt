@@ -1,13 +1,14 @@
 // Rows found by binary search, by the first bits of a probe row.
-ghost use Rattle.std.specs.Prelude.{◌≡◌, ◌&&◌, ◌+◌, ◌*◌, ◌≤◌, ◌<◌, ltb, eqb, length};
+ghost use Rattle.std.specs.Prelude.{◌≡◌, ℕ, Bool, ◌&&◌, ◌+◌, ◌*◌, ◌≤◌, ◌<◌, ltb, eqb, length};
 ghost use Rattle.rows.specs.Ordering.{order_of};
 ghost use Rattle.register.specs.Gap.{field_in};
 ghost use Rattle.register.specs.Search.{key_at, probe_key, Placed, Ranged};
 
-use rows::reader::{Order, compare, get};
+use rows::reader::{compare, get};
+use std::cmp::Ordering;
 
 // How the key of row i stands to the probe's.
-pub fn compare_row(reg: &[u8], w: usize, i: usize, probe: &[u8], kbits: usize) -> Order
+pub fn compare_row(reg: &[u8], w: usize, i: usize, probe: &[u8], kbits: usize) -> Ordering
     requires { (4 + w * (i + 1) ≤ length reg.now) × (length probe.now ≡ w) × (kbits ≤ 8 * w) }
     ensures { result ≡ order_of (key_at w kbits reg.now i) (probe_key w kbits probe.now) }
 {
@@ -21,12 +22,30 @@ pub fn below(reg: &[u8], w: usize, i: usize, probe: &[u8], kbits: usize, t: usiz
     requires { (4 + w * (i + 1) ≤ length reg.now) × (length probe.now ≡ w) × (kbits ≤ 8 * w) × (t ≤ 1) }
     ensures { result ≡ ltb (key_at w kbits reg.now i) (probe_key w kbits probe.now + t) }
 {
-    let o = compare_row(reg, w, i, probe, kbits);
-    match o {
-        Order::Less => true,
-        Order::Same => 0 < t,
-        Order::More => false,
+    match compare_row(reg, w, i, probe, kbits) {
+        Ordering::Less => true,
+        Ordering::Equal => 0 < t,
+        Ordering::Greater => false,
     }
+}
+
+// The first place from lo up to hi that is not below, or hi, by halving what is left: of numbers that don't fall, where `below` tells which are below v.
+fn halved<F: Fn(usize) -> bool>(lo: usize, hi: usize, below: F) -> usize
+    requires order { lo ≤ hi }
+    requires callable { (i : ℕ) → lo ≤ i → i < hi → F.pre below i }
+    ensures { (f : ℕ → ℕ) (v : ℕ) → ((i : ℕ) (told : Bool) → lo ≤ i → i < hi → F.post below i told → told ≡ ltb (f i) v) → Placed f v lo hi result }
+{
+    let mut a = lo;
+    let mut e = hi;
+    while a < e {
+        let mid = a + (e - a) / 2;
+        if below(mid) {
+            a = mid + 1;
+        } else {
+            e = mid;
+        }
+    }
+    a
 }
 
 // The first row from lo up to hi whose key is not below the probe's, or, with t 1, above it; or hi.
@@ -42,17 +61,7 @@ pub fn place(
     requires { (lo ≤ hi) × (4 + w * hi ≤ length reg.now) × (length probe.now ≡ w) × (kbits ≤ 8 * w) × (t ≤ 1) }
     ensures { Placed (key_at w kbits reg.now) (probe_key w kbits probe.now + t) lo hi result }
 {
-    let mut a = lo;
-    let mut e = hi;
-    while a < e {
-        let mid = a + (e - a) / 2;
-        if below(reg, w, mid, probe, kbits, t) {
-            a = mid + 1;
-        } else {
-            e = mid;
-        }
-    }
-    a
+    halved(lo, hi, |i| below(reg, w, i, probe, kbits, t))
 }
 
 // Whether row i, which is at most hi, has the probe's key.
@@ -60,15 +69,7 @@ pub fn stands(reg: &[u8], w: usize, i: usize, hi: usize, probe: &[u8], kbits: us
     requires { (4 + w * hi ≤ length reg.now) × (length probe.now ≡ w) × (kbits ≤ 8 * w) }
     ensures { result ≡ ltb i hi && eqb (key_at w kbits reg.now i) (probe_key w kbits probe.now) }
 {
-    if hi <= i {
-        return false;
-    }
-    let o = compare_row(reg, w, i, probe, kbits);
-    match o {
-        Order::Less => false,
-        Order::Same => true,
-        Order::More => false,
-    }
+    i < hi && compare_row(reg, w, i, probe, kbits).is_eq()
 }
 
 // The rows from lo up to hi.
@@ -107,15 +108,5 @@ pub fn place_by(reg: &[u8], w: usize, lo: usize, hi: usize, at: usize, wide: usi
     requires { (lo ≤ hi) × (4 + w * hi ≤ length reg.now) × (wide ≤ 56) × (at + wide ≤ 8 * w) }
     ensures { Placed (field_in w at wide reg.now) v lo hi result }
 {
-    let mut a = lo;
-    let mut e = hi;
-    while a < e {
-        let mid = a + (e - a) / 2;
-        if field_in(reg, w, mid, at, wide) < v {
-            a = mid + 1;
-        } else {
-            e = mid;
-        }
-    }
-    a
+    halved(lo, hi, |i| field_in(reg, w, i, at, wide) < v)
 }

@@ -10,52 +10,30 @@ use std::rt::Files;
 use std::{env, io};
 use streams::read_file;
 
-fn word(rt: &impl Print, s: &str) -> io::Result<()> {
-    print!(rt; "{s}")
-}
-
-fn number(rt: &impl Print, n: u64) -> io::Result<()> {
-    print!(rt; " {n}")
-}
-
-fn answer(rt: &impl Print, s: &str, n: u64) -> io::Result<()> {
-    word(rt, s)?;
-    number(rt, n)?;
-    word(rt, "\n")
-}
-
-fn yes(rt: &impl Print, s: &str, b: bool) -> io::Result<()> {
-    if b {
-        answer(rt, s, 1)
-    } else {
-        answer(rt, s, 0)
-    }
+fn answer(rt: &impl Print, name: &str, number: u64) -> io::Result<()> {
+    println!(rt; "{name} {number}")
 }
 
 // The case of region 010, ASL 101, 2018-05-01, Id_Rec of 88 letters A: answer and place.
 fn find(rt: &impl Print, reg: &[u8]) -> io::Result<()> {
     let id = [b'A'; 88];
     let mut place: u64 = 77;
-    let r = exports::siad_find(reg, b"010", b"101", b"2018-05-01", &id, &mut place);
-    word(rt, "find")?;
-    number(rt, r)?;
-    number(rt, place)?;
-    word(rt, "\n")
+    let found = exports::siad_find(reg, b"010", b"101", b"2018-05-01", &id, &mut place);
+    println!(rt; "find {found} {place}")
 }
 
 fn image(rt: &impl Print, reg: &[u8]) -> io::Result<()> {
-    word(rt, ": sound")?;
-    number(rt, exports::siad_sound(reg))?;
-    word(rt, " ")?;
+    let sound = exports::siad_sound(reg);
+    print!(rt; ": sound {sound} ")?;
     find(rt, reg)
 }
 
 fn one(rt: &(impl Files + Print), path: &str) -> io::Result<()> {
-    word(rt, path)?;
+    print!(rt; "{path}")?;
     let mut text = [0u8; 65536];
     match read_file(rt, path, &mut text)? {
         Some(long) => image(rt, &text[..long]),
-        None => word(rt, ": missing\n"),
+        None => println!(rt; ": missing"),
     }
 }
 
@@ -83,10 +61,7 @@ fn submit(reg: &mut [u8], track: u64, sub: &[u8]) -> bool {
 fn none(reg: &[u8], at: usize) -> bool
     requires { at ≤ 2 }
 {
-    if reg.len() < 4 {
-        return false;
-    }
-    register::counts::count(reg, at) == 0
+    4 <= reg.len() && register::counts::count(reg, at) == 0
 }
 
 // Any bytes, emptied: sound, and no case stands.
@@ -99,10 +74,10 @@ fn begin(rt: &impl Print, reg: &mut [u8]) -> io::Result<()> {
 
 // Two submissions put in the case and the event.
 fn fill(rt: &impl Print, reg: &mut [u8], case: &[u8], event: &[u8]) -> io::Result<()> {
-    yes(rt, "put_case", submit(reg, 1, case))?;
+    answer(rt, "put_case", u64::from(submit(reg, 1, case)))?;
     sound(rt, reg)?;
     find(rt, reg)?;
-    yes(rt, "put_event", submit(reg, 2, event))?;
+    answer(rt, "put_event", u64::from(submit(reg, 2, event)))?;
     sound(rt, reg)?;
     counts(rt, reg)
 }
@@ -117,10 +92,10 @@ fn remove(reg: &mut [u8], row: &[u8]) {
 // The case's row takes it out, and its event with it.
 fn clear(rt: &impl Print, reg: &mut [u8], case: &[u8]) -> io::Result<()> {
     remove(reg, case);
-    yes(rt, "drop_event", none(reg, 2))?;
-    yes(rt, "drop_case", none(reg, 0))?;
+    answer(rt, "drop_event", u64::from(none(reg, 2)))?;
+    answer(rt, "drop_case", u64::from(none(reg, 0)))?;
     sound(rt, reg)?;
-    yes(rt, "zero", home_care::texts::all_zero(reg))
+    answer(rt, "zero", u64::from(home_care::texts::all_zero(reg)))
 }
 
 // Room for three rows.
@@ -133,30 +108,23 @@ fn story(rt: &impl Print, put_case: &[u8], put_event: &[u8], case: &[u8]) -> io:
     answer(rt, "three bytes, empty", exports::siad_empty(&mut short))
 }
 
-// The bytes of a file, into a lent buffer: how many.
-fn read(rt: &(impl Files + Print), path: &str, buf: &mut [u8]) -> io::Result<usize> {
+// The bytes of a file, in a lent buffer.
+fn read<'a>(rt: &(impl Files + Print), path: &str, buf: &'a mut [u8]) -> io::Result<&'a [u8]> {
     match read_file(rt, path, buf)? {
-        Some(n) => Ok(n),
+        Some(long) => Ok(&buf[..long]),
         None => {
-            word(rt, "missing\n")?;
-            Ok(0)
+            println!(rt; "missing")?;
+            Ok(&buf[..0])
         }
     }
 }
 
 fn from_files(rt: &(impl Files + Print)) -> io::Result<()> {
-    let mut put_case = [0u8; 4096];
-    let c = read(rt, "put_case", &mut put_case)?;
-    let mut put_event = [0u8; 4096];
-    let e = read(rt, "put_event", &mut put_event)?;
-    let mut cases = [0u8; 4096];
-    read(rt, "one_case", &mut cases)?;
-    story(
-        rt,
-        part(&put_case, 0, c),
-        part(&put_event, 0, e),
-        part(&cases, 4, 100),
-    )
+    let (mut first, mut second, mut third) = ([0u8; 4096], [0u8; 4096], [0u8; 4096]);
+    let put_case = read(rt, "put_case", &mut first)?;
+    let put_event = read(rt, "put_event", &mut second)?;
+    read(rt, "one_case", &mut third)?;
+    story(rt, put_case, put_event, part(&third, 4, 100))
 }
 
 fn main(rt: HostRuntime) -> io::Result<()> {

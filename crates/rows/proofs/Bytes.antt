@@ -7,9 +7,10 @@ use native.Mathlib.Numerals.{add-one}
 use native.Mathlib.Omega.{arith}
 use lib.ListN.{length, replicate, take, drop, get_or, take-append-drop, length-drop}
 use lib.Pow.{shr_mono, shr-shr, pow_pos}
+use Rattle.std.proofs.lemmas.List.{drop-take}
 use lib.Seq.{take-suc, take-take, length-take-le}
 use Rattle.rows.specs.Packing.{Field, bits, each, packs, width, Fit, num, field_at, digits, unpacks, values, widths, total, fields, first_bits}
-use Rattle.rows.proofs.Packing.{packs_append, packs_lt, packs_high, unpacks-packs, packs-unpacks}
+use Rattle.rows.proofs.Packing.{packs_append, packs_shift, packs_lt, packs_high, unpacks-packs, packs-unpacks}
 
 pub each_append : (w : ℕ) (cs bs : List ℕ) → each w (cs ++ bs) ≡ each w cs ++ each w bs
 each_append w [] bs = refl
@@ -104,6 +105,31 @@ num-digits k n h =
 pub num_lt : (bs : List ℕ) → Fit (each 8 bs) → num bs < 2 ^ (8 * length bs)
 num_lt bs f = rw (each_width 8 bs) at (packs_lt (each 8 bs) f)
 
+-- bytes behind bytes
+pub num_append : (cs bs : List ℕ) → num (cs ++ bs) ≡ num cs * 2 ^ (8 * length bs) + num bs
+num_append cs bs =
+    ap (λ (l : List Field). packs l 0) (each_append 8 cs bs)
+    ∙ packs_append (each 8 cs) (each 8 bs) 0
+    ∙ packs_shift (each 8 bs) (num cs)
+    ∙ ap (λ (k : ℕ). num cs * 2 ^ k + num bs) (each_width 8 bs)
+
+-- the bytes from one place to another
+pub num_mid : (bs : List ℕ) (first end : ℕ) → first ≤ end → end ≤ length bs
+    → num (take end bs) ≡ num (take first bs) * 2 ^ (8 * (end - first)) + num (take (end - first) (drop first bs))
+num_mid bs first end h l =
+    let e : first + (end - first) ≡ end = omega arith in
+    let mid = take (end - first) (drop first bs) in
+    let long : length (take (end - first) (drop first bs)) ≡ end - first = length-take-le (end - first) (drop first bs) (simp length-drop (omega arith)) in
+    ap num (sym (take-append-drop first (take end bs)) ∙ ap₂ (λ (x y : List ℕ). x ++ y) (take-take first end bs h) (ap (λ (n : ℕ). drop first (take n bs)) (sym e) ∙ drop-take first (end - first) bs))
+    ∙ num_append (take first bs) mid
+    ∙ ap (λ (n : ℕ). num (take first bs) * 2 ^ (8 * n) + num mid) long
+
+-- zero bytes
+pub num_zeros : (n : ℕ) → num (replicate n 0) ≡ 0
+unfolding packs
+num_zeros zero = refl
+num_zeros (suc n) = num_zeros n
+
 -- one more byte
 pub num_snoc : (cs : List ℕ) (b : ℕ) → num (cs ++ (b ∷ [])) ≡ num cs * 256 + b
 unfolding packs
@@ -120,24 +146,11 @@ prefix bs k f =
     (ap (λ (n : ℕ). 8 * n) (sym (length-drop k bs)) ∙ sym (each_width 8 (drop k bs)))
     ∙ packs_high (each 8 (drop k bs)) (num (take k bs)) (fit_drop 8 k bs f)
 
--- the first bytes of the first bytes
-pub prefix_take : (bs : List ℕ) (n k : ℕ) → Fit (each 8 bs) → n ≤ length bs → k ≤ n → num (take n bs) / 2 ^ (8 * (n - k)) ≡ num (take k bs)
-prefix_take bs n k f h l =
-    ap (λ (z : ℕ). num (take n bs) / 2 ^ (8 * (z - k))) (sym (length-take-le n bs h)) ∙ prefix (take n bs) k (fit_take 8 n bs f) ∙ ap num (take-take k n bs l)
-
 -- ---- order
 
 -- of two numbers the one with the greater high part is greater
 pub lt_of_high : (m n k : ℕ) → m / 2 ^ k < n / 2 ^ k → m < n
 lt_of_high m n k h = lt_of_not-le (λ le. not-le_of_lt h (shr_mono k le))
-
--- the first byte that differs decides
-pub first_diff : (a b : List ℕ) (n i : ℕ) → Fit (each 8 a) → Fit (each 8 b) → n ≤ length a → n ≤ length b → i < n
-    → num (take i a) ≡ num (take i b) → get_or a i 0 < get_or b i 0 → num (take n a) < num (take n b)
-first_diff a b n i f g h k l e d =
-    let l' : i + 1 ≤ n = omega arith in
-    lt_of_high (num (take n a)) (num (take n b)) (8 * (n - (i + 1)))
-    (rw (prefix_take a n (i + 1) f h l', prefix_take b n (i + 1) g k l') (omega (arith, num-take a i (omega arith), num-take b i (omega arith))))
 
 -- the first k bits: whole bytes, and the rest
 pub first_split : (bs : List ℕ) (whole rest : ℕ) → Fit (each 8 bs) → 8 * whole + rest ≤ 8 * length bs

@@ -1,6 +1,6 @@
 -- A run of equal fields, one by one.
 use Prim.Native.Nat.{ℕ, zero, suc, ◌+◌, ◌-◌, ◌*◌, ◌/◌, ◌^◌, ◌≤◌, ◌<◌}
-use mathlib.Core.Path.{◌≡◌, refl, sym, ap, ◌∙◌}
+use mathlib.Core.Path.{◌≡◌, sym, ap, ◌∙◌}
 use mathlib.Core.List.{List}
 use native.Mathlib.Nat.{mul-add}
 use native.Mathlib.Omega.{arith}
@@ -46,9 +46,6 @@ pub record Got (row : List ℕ) (at w : ℕ) (out₀ out : List ℕ) (i : ℕ) :
   pub read : (j : ℕ) → j < i → get_or out j 0 ≡ get_or (run_of row at w out₀) j 0
 
 module _ (row : List ℕ) (at w : ℕ) (out₀ : List ℕ) where
-  pub got_none : Got row at w out₀ out₀ 0
-  got_none = record { within = omega arith; long = refl; read = λ j h. absurd (omega arith) }
-
   pub got_more : (out : List ℕ) (i r : ℕ) → i < length out → at + w * length out₀ ≤ 8 * length row →
       r ≡ field_at (8 * length row - (at + w * i + w)) w (num row) → Got row at w out₀ out i → Got row at w out₀ (set out i r) (i + 1)
   got_more out i r l h e g =

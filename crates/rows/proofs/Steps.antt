@@ -2,7 +2,7 @@
 use Prim.Native.Nat.{ℕ, ◌+◌, ◌*◌, ◌/◌, ◌%◌, ◌^◌, ◌≤◌, ◌<◌}
 use mathlib.Core.Path.{◌≡◌, sym, ap, ap₂, ◌∙◌}
 use mathlib.Core.List.{List}
-use native.Mathlib.Nat.{one-mul, lt_of_lt_of_le, add-zero, mul_assoc}
+use native.Mathlib.Nat.{one-mul, lt_of_lt_of_le}
 use native.Mathlib.Numerals.{add-one}
 use native.Mathlib.Omega.{arith}
 use lib.Arith.{digits_lt}
@@ -43,10 +43,6 @@ pub flushed : (n acc k have : ℕ) → 8 + k ≡ have → (n * 256 + acc / 2 ^ k
 flushed n acc k have e =
     regroup n 256 (2 ^ k) (acc / 2 ^ k) (acc % 2 ^ k)
     ∙ ap₂ (λ (x y : ℕ). n * x + y) (sym (pow-add 2 8 k) ∙ ap (λ (z : ℕ). 2 ^ z) e) (split acc k)
-
--- a zero byte below
-pub more_zero : (n k : ℕ) → n * 2 ^ k * 256 + 0 ≡ n * 2 ^ (k + 8)
-more_zero n k = add-zero (n * 2 ^ k * 256) ∙ mul_assoc n (2 ^ k) 256 ∙ ap (λ (z : ℕ). n * z) (sym (pow-add 2 k 8))
 
 -- a field of w bits shifted in below y, of h bits, which the word x holds
 pub joined : (size x y v h w : ℕ) → x ≡ y → y < 2 ^ h → v < 2 ^ w → h + w ≤ size → (x * 2 ^ w % 2 ^ size + v ≡ y * 2 ^ w + v) × (y * 2 ^ w + v < 2 ^ (h + w))

@@ -1,16 +1,21 @@
 -- Writing one run of fields after another, and filling up with zero bits.
 use Prim.Native.Nat.{ℕ, ◌+◌, ◌-◌, ◌*◌, ◌%◌, ◌^◌, ◌≤◌, ◌<◌}
 use mathlib.Core.Path.{◌≡◌, refl, sym, ap, ap₂, ◌∙◌}
-use mathlib.Core.List.{List, [], ◌∷◌, ◌++◌}
+use mathlib.Core.List.{List, [], ◌∷◌, ◌++◌, append-nil}
 use native.Mathlib.Nat.{add-zero, zero-add, mul-one, mul_assoc}
 use native.Mathlib.Omega.{arith}
-use lib.ListN.{length, take, drop}
+use lib.ListN.{length, take, drop, replicate, length-drop, length-replicate, drop_of_length-le}
+use borrow.Rule.Slice.PartMut.{put_mid, mid_len}
 use lib.Seq.{take-take, drop-drop}
 use lib.Pow.{pow-add}
 use Rattle.rows.specs.Packing.{Field, bits, packs, width, num, row_number}
 use Rattle.rows.specs.Writer.{so_far, count, Tidy, Wrote, start}
 use Rattle.rows.specs.declared.writer.Bits.{Bits}
+use Rattle.rows.proofs.Bytes.{num_append, num_zeros}
 use Rattle.rows.proofs.Packing.{packs_append, width_append}
+
+pub is_tidy : (s : Bits) → Tidy s
+is_tidy s = record { few = s.few; small = s.small }
 
 pub wrote_none : (a : List ℕ) (s : Bits) → Tidy s → Wrote a a s s []
 unfolding packs
@@ -60,6 +65,18 @@ padded n a b c s t h room w e =
     ∙ ap (λ (z : ℕ). z * 2 ^ (8 * (n - t.at))) (sym (even b t w.tidy at_end_lem) ∙ w.holds ∙ add-zero (so_far a s * 2 ^ pad))
     ∙ mul_assoc (so_far a s) (2 ^ pad) (2 ^ (8 * (n - t.at)))
     ∙ ap (λ (z : ℕ). so_far a s * z) (sym (pow-add 2 pad (8 * (n - t.at))) ∙ ap (λ (z : ℕ). 2 ^ z) k)
+
+-- a buffer whose bytes from a place on are zeros
+pub zeros_from : (b ys : List ℕ) (at : ℕ) → at ≤ length b → ys ≡ replicate (length (take (length b - at) (drop at b))) 0
+    → num (put_mid at (length b - at) b ys) ≡ num (take at b) * 2 ^ (8 * (length b - at))
+zeros_from b ys at h e =
+    let long : length (take (length b - at) (drop at b)) ≡ length b - at = mid_len at (length b) b (omega arith) in
+    let zeros : ys ≡ replicate (length b - at) 0 = e ∙ ap (λ (n : ℕ). replicate {A = ℕ} n 0) long in
+    let none : drop (length b - at) (drop at b) ≡ [] = drop_of_length-le (drop at b) (simp length-drop (omega arith)) in
+    ap (λ (l : List ℕ). num (take at b ++ l)) (ap₂ (λ (x y : List ℕ). x ++ y) zeros none ∙ append-nil (replicate (length b - at) 0))
+    ∙ num_append (take at b) (replicate (length b - at) 0)
+    ∙ ap₂ (λ (n z : ℕ). num (take at b) * 2 ^ (8 * n) + z) (length-replicate {A = ℕ} (length b - at) 0) (num_zeros (length b - at))
+    ∙ add-zero (num (take at b) * 2 ^ (8 * (length b - at)))
 
 -- a buffer that was written from its start and filled up is the fields' row
 pub packed : {a b : List ℕ} {r : Bits} {fs : List Field} (n : ℕ) (c : List ℕ) → Wrote a b start r fs → length b ≡ n

@@ -2,6 +2,7 @@
 use Rattle.std.specs.Prelude.{ℕ, ◌+◌, ◌*◌, ◌^◌, ◌<◌, ◌≡◌, List, length, take, drop}
 use Rattle.rows.specs.Packing.{Field, packs, num, width}
 use Rattle.rows.specs.declared.writer.Bits.{Bits}
+use Rattle.std.proofs.Common.{lit<}
 
 -- the number written so far
 abbrev pub so_far : List ℕ → Bits → ℕ
@@ -27,4 +28,4 @@ pub record Wrote (a b : List ℕ) (s r : Bits) (fs : List Field) : Type 0 where
 
 -- a writer that has written nothing
 abbrev pub start : Bits
-start = record { acc = 0; have = 0; at = 0 }
+start = record { acc = 0; have = 0; at = 0; few = lit< tt; small = lit< tt }

@@ -3,16 +3,16 @@ ghost use Rattle.std.specs.Prelude.{◌≡◌, ◌+◌, ◌-◌, ◌*◌, ◌^�
 ghost use Rattle.rows.specs.Packing.{num, first_bits, HeldAt, each_at};
 ghost use Rattle.rows.specs.Ordering.{order_of};
 
+use std::cmp::Ordering;
+
 // The bytes from `first` to `end`, at most eight, as a number.
 fn word(row: &[u8], first: usize, end: usize) -> u64
     requires { (first ≤ end) × (end ≤ first + 8) × (end ≤ length row.now) }
     ensures { (result < 2 ^ (8 * (end - first))) × (num (take end row.now) ≡ num (take first row.now) * 2 ^ (8 * (end - first)) + result) }
 {
-    let mut acc: u64 = 0;
-    let mut i = first;
-    while i < end {
-        acc = acc * 256 + row[i] as u64;
-        i += 1;
+    let mut acc = 0;
+    for byte in &row[first..end] {
+        acc = acc * 256 + u64::from(*byte);
     }
     acc
 }
@@ -29,58 +29,21 @@ pub fn get(row: &[u8], at: usize, w: usize) -> u64
     (acc >> (8 * bytes - read)) % (1 << w)
 }
 
-#[derive(Clone, Copy)]
-pub enum Order {
-    Less,
-    Same,
-    More,
-}
-
-pub fn order_of(x: u64, y: u64) -> Order
+pub fn order_of(x: u64, y: u64) -> Ordering
     ensures { result ≡ order_of x y }
 {
-    if x < y {
-        return Order::Less;
-    }
-    if y < x {
-        return Order::More;
-    }
-    Order::Same
-}
-
-// How the first n bytes of a stand to those of b.
-fn compare_bytes(a: &[u8], b: &[u8], n: usize) -> Order
-    requires { (n ≤ length a.now) × (n ≤ length b.now) }
-    ensures { result ≡ order_of (num (take n a.now)) (num (take n b.now)) }
-{
-    let mut i = 0;
-    while i < n {
-        if a[i] < b[i] {
-            return Order::Less;
-        }
-        if b[i] < a[i] {
-            return Order::More;
-        }
-        i += 1;
-    }
-    Order::Same
+    x.cmp(&y)
 }
 
 // How the first k bits of the row a stand to those of b: whole bytes, then what is left.
-pub fn compare(a: &[u8], b: &[u8], k: usize) -> Order
+pub fn compare(a: &[u8], b: &[u8], k: usize) -> Ordering
     requires { (length b.now ≡ length a.now) × (k ≤ 8 * length a.now) }
     ensures { result ≡ order_of (first_bits k a.now) (first_bits k b.now) }
 {
     let whole = k / 8;
-    let first = compare_bytes(a, b, whole);
-    match first {
-        Order::Less => Order::Less,
-        Order::More => Order::More,
-        Order::Same => {
-            let x = get(a, 8 * whole, k % 8);
-            let y = get(b, 8 * whole, k % 8);
-            order_of(x, y)
-        }
+    match a[..whole].cmp(&b[..whole]) {
+        Ordering::Equal => order_of(get(a, 8 * whole, k % 8), get(b, 8 * whole, k % 8)),
+        decided => decided,
     }
 }
 
@@ -89,9 +52,7 @@ pub fn read_run(row: &[u8], at: usize, w: usize, out: &mut [u8])
     requires { (length row.now < 65536) × (w ≤ 8) × (at + w * length out.old ≤ 8 * length row.now) }
     ensures { out.new ≡ each_at (8 * length row.now - (at + w * length out.old)) (length out.old) w (num row.now) }
 {
-    let mut i = 0;
-    while i < out.len() {
-        out[i] = get(row, at + w * i, w) as u8;
-        i += 1;
+    for (i, value) in out.iter_mut().enumerate() {
+        *value = get(row, at + w * i, w) as u8;
     }
 }

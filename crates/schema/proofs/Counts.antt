@@ -7,7 +7,8 @@ use native.Mathlib.Numerals.{add-one}
 use native.Mathlib.Omega.{arith}
 use lib.Dec.{eqb}
 use lib.ListN.{drop}
-use borrow.Author.Tests.{eq-eqb, ne_eqb}
+use borrow.Author.Tests.{ne_eqb}
+use mir.Val.{bool_byte}
 use Rattle.markup.specs.NamesAndValues.Read.{read}
 use Rattle.markup.specs.Elements.{Inside, Tree, content, element, kid_on}
 use Rattle.markup.specs.Elements.Inside.{end}
@@ -16,6 +17,8 @@ use Rattle.schema.specs.Schema.{Particle, Node, leaf, group, another, Nodes, non
 use Rattle.schema.specs.Shape.{here, seek, enough, fault_in, fault_of}
 use Rattle.schema.specs.CountedElements.{marked, child_count, count_in, count_of}
 use Rattle.schema.specs.Table.{kind_cell, number_cell, first_cell, many_cell, group_kind, another_kind, cell, name_at, texts_of, head_at, node_at}
+use Rattle.std.specs.Prelude.{Some}
+use Rattle.schema.specs.declared.children.Spot.{Spot}
 use Rattle.schema.specs.declared.steps.Step.TheVariants as step
 use Rattle.schema.specs.View.{nodes_from, nodes_of, view_spot, SaysStep}
 use Rattle.schema.proofs.Heads.{head_is, nodes_start, nodes_turn}
@@ -56,16 +59,16 @@ module _ (table pool ranges : List ℕ) where
   unfolding head_at
   marked_is row = refl
 
-  module _ (row : ℕ) {kind : ℕ} (k : kind ≡ cell table pool ranges row kind_cell) where
-    pub marked_other : (kind ≡ group_kind → ⊥) → 0 ≡ marked (head_at table pool ranges row)
-    marked_other h = rw (marked_is row, ← k, ne_eqb kind group_kind h)
+  module _ (row : ℕ) where
+    pub marked_other : (cell table pool ranges row kind_cell ≡ group_kind → ⊥) → 0 ≡ marked (head_at table pool ranges row)
+    marked_other h = rw (marked_is row, ne_eqb (cell table pool ranges row kind_cell) group_kind h)
 
-    module _ {say : ℕ} (v : say ≡ cell table pool ranges row number_cell) where
-      pub marked_yes : kind ≡ group_kind → (say ≡ 0 → ⊥) → 1 ≡ marked (head_at table pool ranges row)
-      marked_yes h f = rw (marked_is row, ← k, eq-eqb kind group_kind h, ← v, ne_eqb say 0 f)
-
-      pub marked_no : kind ≡ group_kind → say ≡ 0 → 0 ≡ marked (head_at table pool ranges row)
-      marked_no h f = rw (marked_is row, ← k, eq-eqb kind group_kind h, ← v, eq-eqb say 0 f)
+    pub marked_group : {say : ℕ} → cell table pool ranges row kind_cell ≡ group_kind → say ≡ cell table pool ranges row number_cell → bool_byte (not (eqb say 0)) ≡ marked (head_at table pool ranges row)
+    marked_group {say} h v = rw (marked_is row, h, ← v) (bool_is (not (eqb say 0)))
+      where
+        bool_is : (b : Bool) → bool_byte b ≡ cond b 1 0
+        bool_is true = refl
+        bool_is false = refl
 
   -- counted elements in what stands in an element of a row
   abbrev pub count_within : ℕ → ℕ → Inside → ℕ
@@ -82,12 +85,12 @@ module _ (table pool ranges : List ℕ) where
       by_kind (eqb (cell table pool ranges row kind_cell) group_kind) (eqb (cell table pool ranges row kind_cell) another_kind) (head_at table pool ranges row)
       (nodes_of table pool ranges d row) (texts_of table pool ranges row) t
 
-  pub another_count : (row : ℕ) {kind : ℕ} → kind ≡ cell table pool ranges row kind_cell → (d : ℕ) (t : Tree) → (kind ≡ group_kind → ⊥) → 0 ≡ count_of (node_at table pool ranges d row) t
+  pub another_count : (row d : ℕ) (t : Tree) → (cell table pool ranges row kind_cell ≡ group_kind → ⊥) → 0 ≡ count_of (node_at table pool ranges d row) t
   unfolding node_at
-  another_count row {kind} k d t h = go d
+  another_count row d t h = go d
     where
       p : eqb (cell table pool ranges row kind_cell) group_kind ≡ false
-      p = ne_eqb (cell table pool ranges row kind_cell) group_kind (λ e. h (k ∙ e))
+      p = ne_eqb (cell table pool ranges row kind_cell) group_kind h
 
       go : (d : ℕ) → 0 ≡ count_of (node_at table pool ranges d row) t
       go zero = rw p (sym (by_kind false (eqb (cell table pool ranges row kind_cell) another_kind) (head_at table pool ranges row) none (texts_of table pool ranges row) t))
@@ -122,9 +125,9 @@ module _ (table pool ranges : List ℕ) (d : ℕ) {name m : List ℕ} {fault cou
     count_past e h = let w = walk_past o e h in (w.0, count_end total (nodes_from table pool ranges d first n item) k w.1)
 
     -- a child without fault
-    pub count_next : (j c : ℕ) (x : SaysStep s at d name (nodes_from table pool ranges d first n item) k (view_spot table pool ranges d first n) o.left m (step.Child j c)) → j < n → {held mark : ℕ} {q : List ℕ}
-        → (x.0.named ≡ name_at table pool [] (first + j) → (fault_of (node_at table pool ranges d (first + j)) x.0 ≡ 0) × (held ≡ count_of (node_at table pool ranges d (first + j)) x.0) × (q ≡ x.2))
-        → mark ≡ marked (head_at table pool ranges (first + j)) → Counting table pool ranges d first n j (c + 1) z (total + held + mark) name m fault count q
-    count_next j c x h {held} {mark} v u =
-        walk_child table pool ranges s d at first n item o j c x h (count_on (total + held + mark) (nodes_from table pool ranges d first n j) (c + 1)) v
-        (λ e. rw (nodes_turn table pool ranges d first n j h, add-one c) (count_child (nodes_from table pool ranges d first n item) k x.0 x.6 total e (row-marked table pool ranges d (first + j) u) x.1))
+    pub count_next : (p : Spot) (x : SaysStep s at d name (nodes_from table pool ranges d first n item) k (view_spot table pool ranges d first n) o.left m (Some (step.Child p))) → p.item < n → {held mark : ℕ} {q : List ℕ}
+        → (x.0.named ≡ name_at table pool [] (first + p.item) → (fault_of (node_at table pool ranges d (first + p.item)) x.0 ≡ 0) × (held ≡ count_of (node_at table pool ranges d (first + p.item)) x.0) × (q ≡ x.2))
+        → mark ≡ marked (head_at table pool ranges (first + p.item)) → Counting table pool ranges d first n p.item (p.count + 1) z (total + held + mark) name m fault count q
+    count_next p x h {held} {mark} v u =
+        walk_child table pool ranges s d at first n item o p x h (count_on (total + held + mark) (nodes_from table pool ranges d first n p.item) (p.count + 1)) v
+        (λ e. rw (nodes_turn table pool ranges d first n p.item h, add-one p.count) (count_child (nodes_from table pool ranges d first n item) k x.0 x.6 total e (row-marked table pool ranges d (first + p.item) u) x.1))

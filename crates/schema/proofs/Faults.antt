@@ -6,7 +6,7 @@ use mathlib.Core.List.{List, []}
 use native.Mathlib.Omega.{arith}
 use lib.Dec.{eqb}
 use lib.ListN.{length, drop}
-use borrow.Author.Tests.{eq-eqb, ne_eqb}
+use borrow.Author.Tests.{ne_eqb}
 use Rattle.markup.specs.NamesAndValues.Read.{refused, read}
 use Rattle.markup.specs.NamesAndValues.{name}
 use Rattle.markup.specs.Tags.{Attributes, attributes}
@@ -40,38 +40,29 @@ module _ (table pool ranges : List ℕ) (row : ℕ) where
   by_kind d true t = refl
   by_kind d false t = two_tests (attrs_fit [] attrs_of t.pairs) (leaf_fits (texts_of table pool ranges row) t.inside) t.from
 
-  module _ {kind : ℕ} (k : kind ≡ cell table pool ranges row kind_cell) where
-    node_other : (d : ℕ) (t : Tree) → (kind ≡ another_kind → ⊥) → fault_of (node_at table pool ranges (suc d) row) t ≡ cond (attrs_fit [] attrs_of t.pairs) (fault_within table pool ranges d row t.from t.inside) t.from
-    unfolding node_at
-    node_other d t h =
-        let q : eqb (cell table pool ranges row kind_cell) another_kind ≡ false = ne_eqb (cell table pool ranges row kind_cell) another_kind (λ e. h (k ∙ e)) in
-        rw q (by_kind d (eqb (cell table pool ranges row kind_cell) group_kind) t)
+  node_other : (d : ℕ) (t : Tree) → (cell table pool ranges row kind_cell ≡ another_kind → ⊥) → fault_of (node_at table pool ranges (suc d) row) t ≡ cond (attrs_fit [] attrs_of t.pairs) (fault_within table pool ranges d row t.from t.inside) t.from
+  unfolding node_at
+  node_other d t h =
+      let q : eqb (cell table pool ranges row kind_cell) another_kind ≡ false = ne_eqb (cell table pool ranges row kind_cell) another_kind h in
+      rw q (by_kind d (eqb (cell table pool ranges row kind_cell) group_kind) t)
 
-    pub node_another : (d : ℕ) (t : Tree) → kind ≡ another_kind → fault_of (node_at table pool ranges d row) t ≡ 0
-    unfolding node_at
-    node_another d t h = go d
-      where
-        p : eqb (cell table pool ranges row kind_cell) group_kind ≡ false
-        p = ne_eqb (cell table pool ranges row kind_cell) group_kind (λ e. let i : kind ≡ group_kind = k ∙ e in omega arith)
-
-        q : eqb (cell table pool ranges row kind_cell) another_kind ≡ true
-        q = eq-eqb (cell table pool ranges row kind_cell) another_kind (sym k ∙ h)
-
-        go : (d : ℕ) → fault_of (node_at table pool ranges d row) t ≡ 0
-        go zero = rw (p, q)
-        go (suc d) = rw (p, q)
+  pub node_another : (d : ℕ) (t : Tree) → cell table pool ranges row kind_cell ≡ another_kind → fault_of (node_at table pool ranges d row) t ≡ 0
+  unfolding node_at
+  node_another d t h = go d
+    where
+      go : (d : ℕ) → fault_of (node_at table pool ranges d row) t ≡ 0
+      go zero = rw h
+      go (suc d) = rw h
 
 -- what stands in an element of a row, by its kind
-module _ (table pool ranges : List ℕ) (d row z : ℕ) (i : Inside) {kind : ℕ} (k : kind ≡ cell table pool ranges row kind_cell) where
-  pub within_group : kind ≡ group_kind
+module _ (table pool ranges : List ℕ) (d row z : ℕ) (i : Inside) where
+  pub within_group : cell table pool ranges row kind_cell ≡ group_kind
       → (fault_within table pool ranges d row z i ≡ fault_in (nodes_of table pool ranges d row) 0 z i) × (count_within table pool ranges d row i ≡ count_in (nodes_of table pool ranges d row) 0 i)
-  within_group e =
-      let q : eqb (cell table pool ranges row kind_cell) group_kind ≡ true = eq-eqb (cell table pool ranges row kind_cell) group_kind (sym k ∙ e) in
-      (rw q, rw q)
+  within_group e = (rw e, rw e)
 
-  pub within_leaf : (kind ≡ group_kind → ⊥) → (fault_within table pool ranges d row z i ≡ cond (leaf_fits (texts_of table pool ranges row) i) 0 z) × (count_within table pool ranges d row i ≡ 0)
+  pub within_leaf : (cell table pool ranges row kind_cell ≡ group_kind → ⊥) → (fault_within table pool ranges d row z i ≡ cond (leaf_fits (texts_of table pool ranges row) i) 0 z) × (count_within table pool ranges d row i ≡ 0)
   within_leaf e =
-      let q : eqb (cell table pool ranges row kind_cell) group_kind ≡ false = ne_eqb (cell table pool ranges row kind_cell) group_kind (λ h. e (k ∙ h)) in
+      let q : eqb (cell table pool ranges row kind_cell) group_kind ≡ false = ne_eqb (cell table pool ranges row kind_cell) group_kind e in
       (rw q, rw q)
 
 -- a start tag's end, as the code reads it
@@ -90,11 +81,11 @@ module _ (table pool ranges s : List ℕ) (at levels row : ℕ) (t : Tree) (m : 
   abbrev the_count : ℕ
   the_count = count_of (node_at table pool ranges levels row) t
 
-  pub another_known : {kind : ℕ} {y : List ℕ} → kind ≡ cell table pool ranges row kind_cell → kind ≡ another_kind → y ≡ m → (the_fault ≡ 0) × (0 ≡ the_count) × (y ≡ m)
-  another_known k h p = (node_another table pool ranges row k levels t h, another_count table pool ranges row k levels t (λ e. omega arith), p)
+  pub another_known : {y : List ℕ} → cell table pool ranges row kind_cell ≡ another_kind → y ≡ m → (the_fault ≡ 0) × (0 ≡ the_count) × (y ≡ m)
+  another_known h p = (node_another table pool ranges row levels t h, another_count table pool ranges row levels t (λ e. omega arith), p)
 
-  pub another_past : {kind : ℕ} {y : List ℕ} → kind ≡ cell table pool ranges row kind_cell → kind ≡ another_kind → read tt y ≡ left (element levels (drop at s)) → (the_fault ≡ 0) × (0 ≡ the_count) × (y ≡ m)
-  another_past k h p = another_known k h (read_in (rw e at p)).1
+  pub another_past : {y : List ℕ} → cell table pool ranges row kind_cell ≡ another_kind → read tt y ≡ left (element levels (drop at s)) → (the_fault ≡ 0) × (0 ≡ the_count) × (y ≡ m)
+  another_past h p = another_known h (read_in (rw e at p)).1
 
   pub another_refused : refused ≡ left (element levels (drop at s)) → ⊥
   another_refused p = let v = rw e at p in never cc
@@ -116,11 +107,11 @@ module _ (table pool ranges s : List ℕ) (at levels row : ℕ) (t : Tree) (m : 
       ∙ node_count table pool ranges (levels - 1) row t
       ∙ ap (λ (t : Tree). count_within table pool ranges (levels - 1) row t.inside) parts.is
 
-  module _ {kind : ℕ} (k : kind ≡ cell table pool ranges row kind_cell) (h : kind ≡ another_kind → ⊥) where
+  module _ (h : cell table pool ranges row kind_cell ≡ another_kind → ⊥) where
     fault_is : the_fault ≡ cond (attrs_fit [] (attrs_of table pool ranges row) parts.attrs.pairs) (fault_within table pool ranges (levels - 1) row (length s - at) parts.inside) (length s - at)
     fault_is =
         ap (λ (d : ℕ). fault_of (node_at table pool ranges d row) t) some_levels
-        ∙ node_other table pool ranges row k (levels - 1) t h
+        ∙ node_other table pool ranges row (levels - 1) t h
         ∙ ap (λ (t : Tree). cond (attrs_fit [] (attrs_of table pool ranges row) t.pairs) (fault_within table pool ranges (levels - 1) row t.from t.inside) t.from) parts.is
 
     module _ (n after : List ℕ) (u : read n after ≡ name (drop (at + 1) s)) where

@@ -1,7 +1,7 @@
 -- What stands in a group, step after step, held against the nodes still to come: its first fault, and beside that what g makes of it.
 use Prim.Native.Nat.{ℕ, zero, suc, ◌+◌, ◌<◌}
 use mathlib.Core.Path.{◌≡◌, refl, sym, ap, ◌∙◌}
-use mathlib.Core.Bool.{true, false}
+use mathlib.Core.Bool.{Bool, true, false}
 use mathlib.Core.List.{List, []}
 use native.Mathlib.Numerals.{add-one}
 use native.Mathlib.Omega.{arith}
@@ -12,11 +12,15 @@ use Rattle.markup.specs.NamesAndValues.Read.{read}
 use Rattle.markup.specs.Elements.{Inside, Tree, content, element, kid_on}
 use Rattle.markup.specs.Elements.Inside.{end, says, note}
 use Rattle.schema.specs.Schema.{Node, leaf, group, another, Nodes, ◌▸◌}
-use Rattle.schema.specs.Shape.{nowhere, here, seek, enough, first_fault, child_fault, fault_in, fault_of}
+use Rattle.schema.specs.Shape.{Seek, nowhere, here, seek, enough, first_fault, child_fault, fault_in, fault_of}
 use Rattle.schema.specs.CountedElements.{count_of}
 use Rattle.schema.specs.Table.{name_at, node_at}
+use Rattle.std.specs.Prelude.{Option, Some}
+use Rattle.std.specs.Bool.{then_some}
+use Rattle.schema.specs.declared.children.Spot.{Spot}
+use Rattle.schema.specs.declared.steps.Step.{Step}
 use Rattle.schema.specs.declared.steps.Step.TheVariants as step
-use Rattle.schema.specs.View.{nodes_from, view_spot, Passes, white, comment, SaysStep}
+use Rattle.schema.specs.View.{nodes_from, view_spot, Passes, white, comment, SaysStep, ok_step}
 use Rattle.schema.proofs.Heads.{nodes_turn, spot_named}
 
 -- a child's own fault comes before those that follow it
@@ -50,6 +54,20 @@ module _ (ns : Nodes) (k : ℕ) {i : Inside} where
   unfolding fault_in
   wrong_child e h z = rw (e, ← h)
 
+-- a step by a test: the group ends, or white space is passed
+module _ (s : List ℕ) (at d : ℕ) (name : List ℕ) (ns : Nodes) (k : ℕ) (view : Option Spot → Seek) {i : Inside} {m : List ℕ} (p : ℕ) where
+  pub step_past : i ≡ end → drop p s ≡ m → (b : Bool) → b ≡ enough ns k → SaysStep s at d name ns k view i m (then_some b (step.Past p))
+  step_past e q true h = (e, sym h, q)
+  step_past e q false h = wrong_end ns k e (sym h)
+
+  pub step_white : {t : List ℕ} (j : Inside) → i ≡ says t j → content (element d) name (drop p s) ≡ read j m → (b : Bool) → b ≡ all is_ws t → SaysStep s at d name ns k view i m (then_some b (step.On p))
+  step_white {t} j e q true h = (j, white t e (sym h), q)
+  step_white j e q false h = wrong_text ns k e (sym h)
+
+pub ok_then : (s : List ℕ) (at n count : ℕ) (x : Step) (b : Bool) → ok_step s at n count (Some x) → ok_step s at n count (then_some b x)
+ok_then s at n count x true h = h
+ok_then s at n count x false h = tt
+
 -- what g makes of it does not depend on texts and comments
 pub record Quiet {R : Type 0} (g : Inside → R) : Type 0 where
   pub texts : (t : List ℕ) (i : Inside) → g (says t i) ≡ g i
@@ -77,28 +95,28 @@ module _ {R : Type 0} {d : ℕ} {n m : List ℕ} {fault : ℕ} {told : R} {ns : 
 
 -- a child, by the rows of a table
 module _ {R : Type 0} (table pool ranges s : List ℕ) (d at first n item : ℕ) {name m : List ℕ} {fault : ℕ} {told : R} {k z : ℕ} {g : Inside → R}
-    (o : Walk d name m fault told (nodes_from table pool ranges d first n item) k z g (drop at s)) (j c : ℕ)
-    (x : SaysStep s at d name (nodes_from table pool ranges d first n item) k (view_spot table pool ranges d first n) o.left m (step.Child j c)) (h : j < n) where
-  child_named : x.0.named ≡ name_at table pool [] (first + j)
-  child_named = spot_named table pool ranges d (first + j) (nodes_from table pool ranges d first n item) k x.6
+    (o : Walk d name m fault told (nodes_from table pool ranges d first n item) k z g (drop at s)) (p : Spot)
+    (x : SaysStep s at d name (nodes_from table pool ranges d first n item) k (view_spot table pool ranges d first n) o.left m (Some (step.Child p))) (h : p.item < n) where
+  child_named : x.0.named ≡ name_at table pool [] (first + p.item)
+  child_named = spot_named table pool ranges d (first + p.item) (nodes_from table pool ranges d first n item) k x.6
 
-  fault_is : fault ≡ first_fault (fault_of (node_at table pool ranges d (first + j)) x.0) (fault_in (nodes_from table pool ranges d first n j) (c + 1) z x.1)
+  fault_is : fault ≡ first_fault (fault_of (node_at table pool ranges d (first + p.item)) x.0) (fault_in (nodes_from table pool ranges d first n p.item) (p.count + 1) z x.1)
   fault_is =
       sym o.faulty
       ∙ ap (fault_in (nodes_from table pool ranges d first n item) k z) x.3
       ∙ kid_here (nodes_from table pool ranges d first n item) k z x.0 x.1 x.6
-      ∙ rw (nodes_turn table pool ranges d first n j h, add-one c)
+      ∙ rw (nodes_turn table pool ranges d first n p.item h, add-one p.count)
 
-  pub walk_fault : {w : ℕ} → (x.0.named ≡ name_at table pool [] (first + j) → (fault_of (node_at table pool ranges d (first + j)) x.0 ≡ w) × (0 < w)) → (fault ≡ w) × (0 < w)
+  pub walk_fault : {w : ℕ} → (x.0.named ≡ name_at table pool [] (first + p.item) → (fault_of (node_at table pool ranges d (first + p.item)) x.0 ≡ w) × (0 < w)) → (fault ≡ w) × (0 < w)
   walk_fault {w} u =
       let v = u child_named in
-      (fault_is ∙ rw v.0 (first_fault_lem w (fault_in (nodes_from table pool ranges d first n j) (c + 1) z x.1) v.1), v.1)
+      (fault_is ∙ rw v.0 (first_fault_lem w (fault_in (nodes_from table pool ranges d first n p.item) (p.count + 1) z x.1) v.1), v.1)
 
   -- after one without fault: g' makes of what follows what g makes of it with the child
   pub walk_child : (g' : Inside → R) {held : ℕ} {q : List ℕ}
-      → (x.0.named ≡ name_at table pool [] (first + j) → (fault_of (node_at table pool ranges d (first + j)) x.0 ≡ 0) × (held ≡ count_of (node_at table pool ranges d (first + j)) x.0) × (q ≡ x.2))
-      → (held ≡ count_of (node_at table pool ranges d (first + j)) x.0 → g (kid_on x.0 x.1) ≡ g' x.1)
-      → Walk d name m fault told (nodes_from table pool ranges d first n j) (c + 1) z g' q
+      → (x.0.named ≡ name_at table pool [] (first + p.item) → (fault_of (node_at table pool ranges d (first + p.item)) x.0 ≡ 0) × (held ≡ count_of (node_at table pool ranges d (first + p.item)) x.0) × (q ≡ x.2))
+      → (held ≡ count_of (node_at table pool ranges d (first + p.item)) x.0 → g (kid_on x.0 x.1) ≡ g' x.1)
+      → Walk d name m fault told (nodes_from table pool ranges d first n p.item) (p.count + 1) z g' q
   walk_child g' u e =
       let v = u child_named in
       record {

@@ -1,11 +1,12 @@
 -- What stands in an element, by its first piece; a leaf's text, and an element that is empty.
 use Prim.Native.Nat.{ℕ, ◌≤◌}
-use mathlib.Core.Path.{◌≡◌, refl, sym, ◌∙◌}
+use mathlib.Core.Path.{◌≡◌, refl, sym, ap, ◌∙◌}
 use mathlib.Core.Bool.{Bool, true, false, cond}
 use mathlib.Core.List.{List, []}
 use native.Mathlib.Omega.{arith}
 use lib.Dec.{eqb}
-use borrow.Author.Tests.{eq-eqb, ne_eqb}
+use lib.ListN.{drop}
+use borrow.Author.Tests.{ne_eqb}
 use Rattle.markup.specs.NamesAndValues.{Read}
 use Rattle.markup.specs.NamesAndValues.Read.{refused, read}
 use Rattle.markup.specs.Elements.{Inside, Tree, Piece, piece, content, element, kid_on}
@@ -14,9 +15,13 @@ use Rattle.markup.specs.Elements.Piece.{words, aside, closing, child}
 use Rattle.schema.specs.Texts.{Texts, fits_text}
 use Rattle.schema.specs.Shape.{leaf_fits, enough, fault_in}
 use Rattle.schema.specs.Table.{kind_cell, first_cell, many_cell, group_kind, cell, texts_of}
-use Rattle.schema.specs.declared.Outcome.{Outcome}
-use Rattle.schema.specs.declared.Outcome.TheVariants as outcome
-use Rattle.schema.specs.View.{nodes_from, Tells, ok_outcome, is_end, fault_within}
+use Rattle.std.specs.Bool.{then_some}
+use Rattle.markup.specs.View.{view_piece, ahead}
+use Rattle.markup.specs.declared.Cursor.{Cursor}
+use Rattle.markup.specs.declared.Piece.{Piece as PieceRead}
+use Rattle.markup.specs.declared.Piece.TheVariants as read_piece
+use Rattle.std.specs.Prelude.{Option, Some, None}
+use Rattle.schema.specs.View.{nodes_from, is_end, fault_within, SaysLeaf, ok_leaf}
 use Rattle.schema.proofs.Heads.{nodes_start}
 use Rattle.schema.proofs.Onward.{Onward, onward_start, onward_text, onward_note, onward_close, onward_refused, onward_child}
 
@@ -25,7 +30,7 @@ module _ (d : ℕ) (n l : List ℕ) (i : Inside) (m : List ℕ) (e : content (el
   whole : Onward d n m i (λ j. j) l
   whole = onward_start d n l i m (λ j. j) e
 
-  abbrev Known : Read Piece → Type 0
+  abbrev pub Known : Read Piece → Type 0
   Known r = (piece n l ≡ refused → ⊥) → r ≡ piece n l
 
   known : piece n l ≡ refused → ⊥
@@ -46,43 +51,60 @@ module _ (d : ℕ) (n l : List ℕ) (i : Inside) (m : List ℕ) (e : content (el
   pub first_refused : Known refused → ⊥
   first_refused p = onward_refused d n m i (λ j. j) l whole (p known)
 
--- the fault of what is no end, of what no leaf may hold
-abbrev pub end_fault : ℕ → Inside → ℕ
-end_fault z i = cond (is_end i) 0 z
+-- by the piece that the code reads at a place
+module _ (s : List ℕ) (at d : ℕ) (n : List ℕ) (i : Inside) (m : List ℕ) (e : content (element d) n (drop at s) ≡ read i m) where
+  -- another piece than the end
+  pub end_other : (r : PieceRead) → Known d n (drop at s) i m e (view_piece s at (Some r)) → ((c : Cursor) → r ≡ read_piece.Close c → ⊥) → is_end i ≡ false
+  end_other (read_piece.Words a b) p h = ap is_end (first_text d n (drop at s) i m e p).2
+  end_other (read_piece.Aside c) p h = ap is_end (first_note d n (drop at s) i m e p).2
+  end_other (read_piece.Close c) p h = absurd (h c refl)
+  end_other read_piece.Kid p h = ap is_end (first_child d n (drop at s) i m e p).3
 
-abbrev pub leaf_fault : Texts → ℕ → Inside → ℕ
-leaf_fault x z i = cond (leaf_fits x i) 0 z
+  -- another than the end or a text
+  pub leaf_other : (x : Texts) (r : PieceRead) → Known d n (drop at s) i m e (view_piece s at (Some r))
+      → ((a b : ℕ) → r ≡ read_piece.Words a b → ⊥) → ((c : Cursor) → r ≡ read_piece.Close c → ⊥) → leaf_fits x i ≡ false
+  leaf_other x (read_piece.Words a b) p h k = absurd (h a b refl)
+  leaf_other x (read_piece.Aside c) p h k = ap (leaf_fits x) (first_note d n (drop at s) i m e p).2
+  leaf_other x (read_piece.Close c) p h k = absurd (k c refl)
+  leaf_other x read_piece.Kid p h k = ap (leaf_fits x) (first_child d n (drop at s) i m e p).3
 
-pub leaf_text : (x : Texts) (z : ℕ) (t : List ℕ) (k : Inside) {b : Bool} → b ≡ fits_text x t → b ≡ true → leaf_fault x z (says t k) ≡ end_fault z k
-leaf_text x z t end e f = let i = sym e ∙ f in rw i
-leaf_text x z t (says u k) e f = refl
-leaf_text x z t (note k) e f = refl
-leaf_text x z t (elem y n ps i k) e f = refl
+-- a leaf's text
+pub leaf_text : (x : Texts) (t : List ℕ) (k : Inside) {b : Bool} → b ≡ fits_text x t → b ≡ true → leaf_fits x (says t k) ≡ is_end k
+leaf_text x t end e f = sym e ∙ f
+leaf_text x t (says u k) e f = refl
+leaf_text x t (note k) e f = refl
+leaf_text x t (elem y n ps i k) e f = refl
 
-pub leaf_other : (x : Texts) (z : ℕ) (t : List ℕ) (k : Inside) {b : Bool} → b ≡ fits_text x t → b ≡ false → leaf_fault x z (says t k) ≡ z
-leaf_other x z t end e f = let i = sym e ∙ f in rw i
-leaf_other x z t (says u k) e f = refl
-leaf_other x z t (note k) e f = refl
-leaf_other x z t (elem y n ps i k) e f = refl
+pub leaf_no_text : (x : Texts) (t : List ℕ) (k : Inside) {b : Bool} → b ≡ fits_text x t → b ≡ false → leaf_fits x (says t k) ≡ false
+leaf_no_text x t end e f = sym e ∙ f
+leaf_no_text x t (says u k) e f = refl
+leaf_no_text x t (note k) e f = refl
+leaf_no_text x t (elem y n ps i k) e f = refl
 
-pub leaf_empty : (x : Texts) (z : ℕ) {b : Bool} → b ≡ fits_text x [] → leaf_fault x z end ≡ cond b 0 z
-leaf_empty x z e = rw e
+-- no text
+pub leaf_closes : (s : List ℕ) (x : Texts) {i : Inside} {m : List ℕ} (p : ℕ) → i ≡ end → drop p s ≡ m → (b : Bool) → b ≡ fits_text x [] → SaysLeaf s (leaf_fits x i) m (then_some b p)
+leaf_closes s x p e q true f = (ap (leaf_fits x) e ∙ sym f, q)
+leaf_closes s x p e q false f = ap (leaf_fits x) e ∙ sym f
 
-pub tells_to : (s : List ℕ) (r : Outcome) {f g k c : ℕ} (m : List ℕ) → g ≡ f → c ≡ k → Tells s r f k m → Tells s r g c m
-tells_to s r m e h w = rw (e, h) w
+pub leaf_closes_at : (s : List ℕ) (at : ℕ) {p : ℕ} (b : Bool) → ahead s at p → ok_leaf s at (then_some b p)
+leaf_closes_at s at true h = h
+leaf_closes_at s at false h = tt
 
-pub further : (s : List ℕ) (a b : ℕ) (r : Outcome) → a ≤ b → ok_outcome s b r → ok_outcome s a r
-further s a b (outcome.Past p c) h k = omega arith
-further s a b (outcome.Fault z) h k = tt
+pub says_leaf_to : (s : List ℕ) (r : Option ℕ) {f g : Bool} (m : List ℕ) → g ≡ f → SaysLeaf s f m r → SaysLeaf s g m r
+says_leaf_to s r m e w = rw e w
+
+pub further : (s : List ℕ) (a b : ℕ) (r : Option ℕ) → a ≤ b → ok_leaf s b r → ok_leaf s a r
+further s a b (Some p) h k = omega arith
+further s a b None h k = tt
 
 -- an element of a row that is empty
-module _ (table pool ranges : List ℕ) (d row z : ℕ) {kind : ℕ} (k : kind ≡ cell table pool ranges row kind_cell) where
-  pub empty_group : {first n : ℕ} {b : Bool} → kind ≡ group_kind → first ≡ cell table pool ranges row first_cell → n ≡ cell table pool ranges row many_cell
+module _ (table pool ranges : List ℕ) (d row z : ℕ) where
+  pub empty_group : {first n : ℕ} {b : Bool} → cell table pool ranges row kind_cell ≡ group_kind → first ≡ cell table pool ranges row first_cell → n ≡ cell table pool ranges row many_cell
       → b ≡ enough (nodes_from table pool ranges d first n 0) 0 → cond b 0 z ≡ fault_within table pool ranges d row z end
   unfolding fault_in
-  empty_group {first} {n} e f m g = rw (← k, eq-eqb kind group_kind e, nodes_start table pool ranges d row f m, g)
+  empty_group {first} {n} e f m g = rw (e, nodes_start table pool ranges d row f m, g)
 
-  pub empty_leaf : {b : Bool} → (kind ≡ group_kind → ⊥) → b ≡ fits_text (texts_of table pool ranges row) [] → cond b 0 z ≡ fault_within table pool ranges d row z end
+  pub empty_leaf : {b : Bool} → (cell table pool ranges row kind_cell ≡ group_kind → ⊥) → b ≡ fits_text (texts_of table pool ranges row) [] → cond b 0 z ≡ fault_within table pool ranges d row z end
   empty_leaf e g =
-      let q : eqb (cell table pool ranges row kind_cell) group_kind ≡ false = ne_eqb (cell table pool ranges row kind_cell) group_kind (λ h. e (k ∙ h)) in
+      let q : eqb (cell table pool ranges row kind_cell) group_kind ≡ false = ne_eqb (cell table pool ranges row kind_cell) group_kind e in
       rw (q, g)

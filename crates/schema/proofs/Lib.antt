@@ -1,6 +1,6 @@
+pub mod RowKinds
 pub mod Names
 pub mod Ranges
-pub mod Digits
 pub mod Fitting
 pub mod Pairs
 pub mod Heads

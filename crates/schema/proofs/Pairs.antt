@@ -112,12 +112,6 @@ module _ (a : Attr) (seen : Bool) (p : Pair) (ps : List Pair) where
       let i = sym e ∙ f in
       rw i (sym (and-false (seen || (is_named a.named p || any (is_named a.named) ps))))
 
-pub value_is : (named key x : List ℕ) (u : Bool) (w r : Bool) → u ≡ same named key → u ≡ true → r ≡ w → r ≡ (not (same named key) || w)
-value_is named key x u w r e f g = let i : same named key ≡ true = sym e ∙ f in rw (i, g)
-
-pub value_other : (named key : List ℕ) (u w : Bool) → u ≡ same named key → u ≡ false → true ≡ (not (same named key) || w)
-value_other named key u w e f = let i : same named key ≡ false = sym e ∙ f in rw i
-
 -- the names of the attributes' rows are the rows' names
 names_attrs : (table pool ranges key : List ℕ) (first n : ℕ)
     → any (λ x. takes false x key) (names_at table pool ranges first n) ≡ any (λ (a : Attr). same a.named key) (attrs_at table pool ranges first n)

@@ -7,7 +7,7 @@ use native.Mathlib.Numerals.{add-one}
 use native.Mathlib.Omega.{arith}
 use lib.Dec.{eqb, ltb}
 use lib.ListN.{length, drop}
-use borrow.Author.Tests.{ne_eqb, lt-ltb, le-ltb}
+use borrow.Author.Tests.{ne_eqb}
 use Rattle.laws.specs.Lists.{same}
 use Rattle.markup.specs.NamesAndValues.Read.{refused, read}
 use Rattle.markup.specs.NamesAndValues.{name}
@@ -21,9 +21,11 @@ use Rattle.schema.specs.Schema.{particle_of, Schema}
 use Rattle.schema.specs.Shape.{attrs_fit, enough, first_fault, fault_in, fault_of, named_in, Shape, faulty, first_bad, records_of, shape_of}
 use Rattle.schema.specs.CountedElements.{count_of, first_over, Held, good, bad, over, held_by, held_of}
 use Rattle.schema.specs.Table.{number_cell, first_cell, many_cell, cell, name_at, head_at, node_at, schema_at}
-use Rattle.schema.specs.declared.file.Seen.{Seen}
-use Rattle.schema.specs.declared.file.Seen.TheVariants as seen
-use Rattle.schema.specs.View.{nodes_from, held_after, ok_seen, held_inside}
+use Rattle.std.specs.Prelude.{Option, None, Some, Result, Ok, Err}
+use Rattle.std.specs.Option.{option_or}
+use Rattle.schema.specs.declared.file.Records.{Records}
+use Rattle.schema.specs.declared.file.BadRecord.{BadRecord}
+use Rattle.schema.specs.View.{nodes_from, view_over, ok_over, held_after, ok_seen, held_inside}
 use Rattle.schema.proofs.Heads.{head_is, nodes_start}
 use Rattle.schema.proofs.Group.{Quiet}
 use Rattle.schema.proofs.Tagged.{Tagged, tagged}
@@ -32,38 +34,34 @@ use Rattle.schema.proofs.Faults.{ends_with, ends_refused}
 -- ---- the records
 
 -- the first record with too many, after one more
-over_next : (o n f : ℕ) (b : Bool) → first_fault (first_fault o (cond b (suc n) 0)) f ≡ first_fault o (cond b (suc n) f)
-over_next zero n f true = refl
-over_next zero n f false = refl
-over_next (suc o) n f b = refl
+over_next : (o : Option ℕ) (n f : ℕ) (b : Bool) → ok_over n o → first_fault (view_over (option_or o (cond b (Some (suc n)) None))) f ≡ first_fault (view_over o) (cond b (suc n) f)
+over_next None n f true h = refl
+over_next None n f false h = refl
+over_next (Some zero) n f b h = absurd (omega arith)
+over_next (Some (suc k)) n f b h = refl
 
-module _ (o n : ℕ) {most m c : ℕ} (e : most ≡ m) (f : o ≡ 0) where
-  pub over_new : most < c → n ≡ first_fault o (cond (ltb m c) n 0)
-  over_new h = rw (f, ← e, lt-ltb most c h)
-
-  pub over_none : c ≤ most → o ≡ first_fault o (cond (ltb m c) n 0)
-  over_none h = rw (f, ← e, le-ltb most c h)
-
-pub over_old : (o x : ℕ) → (o ≡ 0 → ⊥) → o ≡ first_fault o x
-over_old zero x h = absurd (h refl)
-over_old (suc o) x h = refl
-
-module _ (sc : Schema) (t : Tree) (ts : List Tree) where
-  known_other : (n o : ℕ) → same (particle_of sc.each).named t.named ≡ false → held_after sc (seen.Good n o) ts ≡ held_after sc (seen.Good n o) (t ∷ ts)
+module _ (sc : Schema) (t : Tree) (ts : List Tree) (r : Records) where
+  known_other : same (particle_of sc.each).named t.named ≡ false → held_after sc (Ok r) ts ≡ held_after sc (Ok r) (t ∷ ts)
   unfolding named_in
-  known_other n o e = rw e
+  known_other e = rw e
 
-  module _ (n o : ℕ) (e : same (particle_of sc.each).named t.named ≡ true) where
-    known_bad : {z : ℕ} → fault_of sc.each t ≡ z → 0 < z → held_after sc (seen.Bad (n + 1) z) ts ≡ held_after sc (seen.Good n o) (t ∷ ts)
+  module _ (e : same (particle_of sc.each).named t.named ≡ true) where
+    known_bad : {z : ℕ} → fault_of sc.each t ≡ z → 0 < z → held_after sc (Err (record { number = r.number + 1; from = z })) ts ≡ held_after sc (Ok r) (t ∷ ts)
     unfolding first_bad named_in
-    known_bad {z} f h = rw (e, f, ne_eqb z 0 (λ q. omega arith), add-one n)
+    known_bad {z} f h = rw (e, f, ne_eqb z 0 (λ q. omega arith), add-one r.number)
 
-    known_good : {c r : ℕ} → fault_of sc.each t ≡ 0 → c ≡ count_of sc.each t → r ≡ first_fault o (cond (ltb sc.most c) (n + 1) 0)
-        → held_after sc (seen.Good (n + 1) r) ts ≡ held_after sc (seen.Good n o) (t ∷ ts)
+    known_good : {c : ℕ} {o : Option ℕ} → ok_over r.number r.over → fault_of sc.each t ≡ 0 → c ≡ count_of sc.each t → o ≡ option_or r.over (cond (ltb sc.most c) (Some (r.number + 1)) None)
+        → held_after sc (Ok (record { number = r.number + 1; over = o })) ts ≡ held_after sc (Ok r) (t ∷ ts)
     unfolding first_bad first_over named_in
-    known_good {c} f g h =
-        rw (e, f, ← g, h, add-one n)
-        (ap (held_by (first_bad sc.each (suc n) (named_in (particle_of sc.each).named ts))) (over_next o n (first_over sc.each sc.most (suc n) (named_in (particle_of sc.each).named ts)) (ltb sc.most c)))
+    known_good {c} k f g h =
+        rw (e, f, ← g, h, add-one r.number)
+        (ap (held_by (first_bad sc.each (suc r.number) (named_in (particle_of sc.each).named ts))) (over_next r.over r.number (first_over sc.each sc.most (suc r.number) (named_in (particle_of sc.each).named ts)) (ltb sc.most c) k))
+
+-- the first record with too many is one of them
+pub over_ok : (n : ℕ) (o : Option ℕ) (b : Bool) → ok_over n o → ok_over (n + 1) (option_or o (cond b (Some (n + 1)) None))
+over_ok n None true h = omega arith
+over_ok n None false h = tt
+over_ok n (Some k) b h = omega arith
 
 -- a child, as the code reads it by the record's row
 module _ (table pool ranges : List ℕ) {each : ℕ} (a : each ≡ cell table pool ranges 0 number_cell) (t : Tree) {b : Bool} (h : b ≡ same (name_at table pool ranges each) t.named) where
@@ -71,47 +69,44 @@ module _ (table pool ranges : List ℕ) {each : ℕ} (a : each ≡ cell table po
   unfolding head_at
   named_is g = rw (head_is table pool ranges below_root (cell table pool ranges 0 number_cell), ← a) (sym h ∙ g)
 
-  module _ {k : Seen} {n o : ℕ} (i : k ≡ seen.Good n o) where
-    pub take_other : b ≡ false → (ts : List Tree) → held_after (schema_at table pool ranges below_root) (seen.Good n o) ts ≡ held_after (schema_at table pool ranges below_root) k (t ∷ ts)
-    take_other g ts = rw i (known_other (schema_at table pool ranges below_root) t ts n o (named_is g))
+  module _ {k : Result Records BadRecord} {r : Records} (i : k ≡ Ok r) where
+    pub take_other : b ≡ false → (ts : List Tree) → held_after (schema_at table pool ranges below_root) (Ok r) ts ≡ held_after (schema_at table pool ranges below_root) k (t ∷ ts)
+    take_other g ts = rw i (known_other (schema_at table pool ranges below_root) t ts r (named_is g))
 
-    pub take_bad : {z : ℕ} → b ≡ true → (fault_of (node_at table pool ranges below_root each) t ≡ z) × (0 < z) → (ts : List Tree) → held_after (schema_at table pool ranges below_root) (seen.Bad (n + 1) z) ts ≡ held_after (schema_at table pool ranges below_root) k (t ∷ ts)
-    take_bad g u ts = rw i (known_bad (schema_at table pool ranges below_root) t ts n o (named_is g) (rw (← a) u.0) u.1)
+    pub take_bad : {z : ℕ} → b ≡ true → (fault_of (node_at table pool ranges below_root each) t ≡ z) × (0 < z)
+        → (ts : List Tree) → held_after (schema_at table pool ranges below_root) (Err (record { number = r.number + 1; from = z })) ts ≡ held_after (schema_at table pool ranges below_root) k (t ∷ ts)
+    take_bad g u ts = rw i (known_bad (schema_at table pool ranges below_root) t ts r (named_is g) (rw (← a) u.0) u.1)
 
-    pub take_good : {c r : ℕ} → b ≡ true → fault_of (node_at table pool ranges below_root each) t ≡ 0 → c ≡ count_of (node_at table pool ranges below_root each) t → r ≡ first_fault o (cond (ltb (schema_at table pool ranges below_root).most c) (n + 1) 0)
-        → (ts : List Tree) → held_after (schema_at table pool ranges below_root) (seen.Good (n + 1) r) ts ≡ held_after (schema_at table pool ranges below_root) k (t ∷ ts)
-    take_good g u v w ts = rw i (known_good (schema_at table pool ranges below_root) t ts n o (named_is g) (rw (← a) u) (rw (← a) v) w)
+    pub take_good : {c : ℕ} {o : Option ℕ} → ok_over r.number r.over → b ≡ true → fault_of (node_at table pool ranges below_root each) t ≡ 0 → c ≡ count_of (node_at table pool ranges below_root each) t
+        → o ≡ option_or r.over (cond (ltb (schema_at table pool ranges below_root).most c) (Some (r.number + 1)) None)
+        → (ts : List Tree) → held_after (schema_at table pool ranges below_root) (Ok (record { number = r.number + 1; over = o })) ts ≡ held_after (schema_at table pool ranges below_root) k (t ∷ ts)
+    take_good y g u v w ts = rw i (known_good (schema_at table pool ranges below_root) t ts r (named_is g) y (rw (← a) u) (rw (← a) v) w)
 
-pub take_none : (sc : Schema) (k : Seen) {i z : ℕ} → k ≡ seen.Bad i z → (t : Tree) (ts : List Tree) → held_after sc k ts ≡ held_after sc k (t ∷ ts)
-take_none sc k e t ts = rw e
-
-pub further_on : (k : Seen) {a b : ℕ} → a ≤ b → ok_seen a k → ok_seen b k
-further_on (seen.Good n o) h e = omega arith
-further_on (seen.Bad i z) h e = omega arith
+pub further_on : (k : Result Records BadRecord) {a b : ℕ} → a ≤ b → ok_seen a k → ok_seen b k
+further_on (Ok r) h e = (omega arith, e.1)
+further_on (Err b) h e = omega arith
 
 -- after all of them
-module _ (sc : Schema) {k : Seen} {n o : ℕ} where
-  pub answer_good : k ≡ seen.Good n o → o ≡ 0 → good n ≡ held_after sc k []
+module _ (sc : Schema) where
+  pub answer_good : (r : Records) → r.over ≡ None → good r.number ≡ held_after sc (Ok r) []
   unfolding first_bad first_over named_in
-  answer_good e f = rw (e, f)
+  answer_good r e = rw e
 
-  pub answer_over : k ≡ seen.Good n o → (o ≡ 0 → ⊥) → over o ≡ held_after sc k []
+  pub answer_over : (r : Records) (k : ℕ) → r.over ≡ Some k → 0 < k → over k ≡ held_after sc (Ok r) []
   unfolding first_bad first_over named_in
-  answer_over e f = rw (e, ← over_old o 0 f, ne_eqb o 0 f)
-
-  pub answer_bad : k ≡ seen.Bad n o → bad n o ≡ held_after sc k []
-  answer_bad e = rw e
+  answer_over r zero e h = absurd (omega arith)
+  answer_over r (suc k) e h = rw (e, ne_eqb (suc k) 0 (λ q. omega arith))
 
 -- ---- what stands in the root
 
-pub held_quiet : (sc : Schema) (k : Seen) → Quiet (λ i. held_after sc k (kids i))
+pub held_quiet : (sc : Schema) (k : Result Records BadRecord) → Quiet (λ i. held_after sc k (kids i))
 held_quiet sc k = record { texts = λ t i. refl; notes = λ i. refl }
 
 module _ (sc : Schema) (z : ℕ) (i : Inside) where
   pub inside_bad : {w : ℕ} → fault_in sc.nodes 0 z i ≡ w → 0 < w → bad 0 z ≡ held_inside sc z i
   inside_bad {w} e h = sym (rw (e, ne_eqb w 0 (λ q. omega arith)))
 
-  pub inside_good : {h : Held} → fault_in sc.nodes 0 z i ≡ 0 → h ≡ held_after sc (seen.Good 0 0) (kids i) → h ≡ held_inside sc z i
+  pub inside_good : {h : Held} → fault_in sc.nodes 0 z i ≡ 0 → h ≡ held_after sc (Ok (record { number = 0; over = None })) (kids i) → h ≡ held_inside sc z i
   inside_good e q = q ∙ sym (rw e)
 
 -- ---- the root

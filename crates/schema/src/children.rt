@@ -4,99 +4,74 @@ ghost use Rattle.schema.specs.Shape.{may_come, enough};
 ghost use Rattle.schema.specs.Table.{head_at};
 ghost use Rattle.schema.specs.View.{nodes_from, Sought, Spotted};
 
-use crate::table::{LEAST, MOST, cell, name_of};
-use markup::bytes::{part, same};
-use markup::{Cursor, Got};
+use crate::table::{LEAST, MOST, Rows, Tables};
+use markup::Cursor;
+use markup::bytes::part;
 
 // Where a child stands: the item of its group's rows, and how many of that item have been before.
 #[derive(Clone, Copy)]
-pub enum Spot {
-    Here { item: usize, count: usize },
-    Nowhere,
+pub struct Spot {
+    pub item: usize,
+    pub count: usize,
 }
 
-// One more of a row may come after so many.
-fn may_come(table: &[u16], pool: &[u8], row: usize, count: usize, x: &[u8]) -> bool
-    ensures { (ranges : List ℕ) → result ≡ may_come x.now (head_at table.now pool.now ranges row) count }
-{
-    let most = cell(table, row, MOST);
-    same(x, name_of(table, pool, row)) & ((most == 0) | (count < most))
+impl Spot {
+    pub const START: Spot = Spot { item: 0, count: 0 };
 }
 
-// The item of a name, from an item on of which `count` have been.
-fn seek(
-    table: &[u16],
-    pool: &[u8],
-    first: usize,
-    n: usize,
-    item: usize,
-    count: usize,
-    x: &[u8],
-) -> Spot
-    requires { (first < 65536) × (n < 65536) }
-    ensures { Sought table.now pool.now x.now first n item count result }
-{
-    let mut j = item;
-    let mut k = count;
-    while j < n {
-        let row = first + j;
-        if may_come(table, pool, row, k, x) {
-            return Spot::Here { item: j, count: k };
-        }
-        if k < cell(table, row, LEAST) {
-            return Spot::Nowhere;
-        }
-        j += 1;
-        k = 0;
+impl Tables<'_> {
+    // One more of a row may come after so many.
+    fn may_come(&self, row: usize, count: usize, x: &[u8]) -> bool
+        ensures { (ranges : List ℕ) → result ≡ may_come x.now (head_at self.now.table.now self.now.pool.now ranges row) count }
+    {
+        let most = self.cell(row, MOST) as usize;
+        (x == self.name_of(row)) & ((most == 0) | (count < most))
     }
-    Spot::Nowhere
-}
 
-// None that must come is left, from an item on of which `count` have been.
-pub fn enough(table: &[u16], first: usize, n: usize, item: usize, count: usize) -> bool
-    requires { (first < 65536) × (n < 65536) }
-    ensures { (pool ranges : List ℕ) (d : ℕ) → result ≡ enough (nodes_from table.now pool ranges d first n item) count }
-{
-    let mut j = item;
-    let mut k = count;
-    while j < n {
-        if k < cell(table, first + j, LEAST) {
-            return false;
+    // The item of a name, from an item on of which so many have been.
+    fn seek(&self, rows: Rows, from: Spot, x: &[u8]) -> Option<Spot>
+        requires { (rows.first < 65536) × (rows.n < 65536) }
+        ensures { Sought self.now.table.now self.now.pool.now x.now rows.first rows.n from.item from.count result }
+    {
+        let mut count = from.count;
+        for item in from.item..rows.n {
+            let row = rows.first + item;
+            if self.may_come(row, count, x) {
+                return Some(Spot { item, count });
+            }
+            if count < self.cell(row, LEAST) as usize {
+                return None;
+            }
+            count = 0;
         }
-        j += 1;
-        k = 0;
+        None
     }
-    true
-}
 
-// Where the child at a place stands.
-pub fn spot_of(
-    table: &[u16],
-    pool: &[u8],
-    s: &[u8],
-    at: usize,
-    first: usize,
-    n: usize,
-    item: usize,
-    count: usize,
-) -> Spot
-    requires { (first < 65536) × (n < 65536) }
-    ensures { Spotted table.now pool.now s.now at first n item count result }
-{
-    if s.len() <= at {
-        return Spot::Nowhere;
+    // None that must come is left, from an item on of which so many have been.
+    pub fn enough(&self, rows: Rows, from: Spot) -> bool
+        requires { (rows.first < 65536) × (rows.n < 65536) }
+        ensures { (pool ranges : List ℕ) (d : ℕ) → result ≡ enough (nodes_from self.now.table.now pool ranges d rows.first rows.n from.item) from.count }
+    {
+        let mut count = from.count;
+        for item in from.item..rows.n {
+            if count < self.cell(rows.first + item, LEAST) as usize {
+                return false;
+            }
+            count = 0;
+        }
+        true
     }
-    let name = Cursor { at: at + 1 };
-    match name.name(s) {
-        Got::Text { start, end, .. } => seek(
-            table,
-            pool,
-            first,
-            n,
-            item,
-            count,
-            part(s, start, end),
-        ),
-        Got::Refused => Spot::Nowhere,
+
+    // Where the child at a place stands.
+    pub fn spot_of(&self, s: &[u8], at: usize, rows: Rows, from: Spot) -> Option<Spot>
+        requires { (rows.first < 65536) × (rows.n < 65536) }
+        ensures { Spotted self.now.table.now self.now.pool.now s.now at rows.first rows.n from.item from.count result }
+    {
+        if s.len() <= at {
+            return None;
+        }
+        let first = Cursor { at: at + 1 };
+        let name = first.name(s)?;
+        self.seek(rows, from, part(s, name.start, name.end))
     }
 }

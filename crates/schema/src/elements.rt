@@ -1,107 +1,98 @@
 // The first fault in an element, by a row of the table, and the number of counted elements in it: element by element, with one level less left in each.
 ghost use Rattle.schema.specs.View.{Entered, Judged};
 
-use crate::Outcome;
-use crate::attrs::attrs_fit;
-use crate::leaves::{leaf_inside, may_be_empty};
-use crate::steps::{Step, advance};
-use crate::table::{ANOTHER, FIRST, GROUP, KIND, MANY, cell, marked, name_of};
-use markup::{Cursor, Ending, Move};
+use crate::children::Spot;
+use crate::steps::Step;
+use crate::table::{Kind, Tables};
+use crate::{Fault, Name, Past};
+use markup::{Cursor, Ending};
 use reading::skips::skip;
 
-// What is said of an element whose children need not be looked at; or that a group opened: where its name ends, and where what stands in it begins.
+// The place past an element without fault, in which no counted elements stand; or that a group opened: where its name ends, and where what stands in it begins.
 #[derive(Clone, Copy)]
 pub enum Entry {
-    Told(Outcome),
+    Past(usize),
     Open { end: usize, inside: usize },
 }
 
-// The start tag at a place, of an element whose name is its row's: whoever found the row has compared the two, so the row tells where the name ends. An element
-// that may hold anything is passed by its tags alone.
-fn enter(table: &[u16], pool: &[u8], ranges: &[u16], s: &[u8], at: usize, row: usize) -> Entry
-    ensures { Entered table.now pool.now ranges.now s.now at row result }
-{
-    if s.len() <= at {
-        return Entry::Told(Outcome::Fault(0));
-    }
-    let kind = cell(table, row, KIND);
-    if kind == ANOTHER {
-        let Move::To(done) = skip(s, at) else {
-            return Entry::Told(Outcome::Fault(0));
-        };
-        let next = done.at;
-        return Entry::Told(Outcome::Past { next, count: 0 });
-    }
-    let from = s.len() - at;
-    let start = at + 1;
-    let end = start + name_of(table, pool, row).len();
-    if !attrs_fit(table, pool, ranges, row, s, end) {
-        return Entry::Told(Outcome::Fault(from));
-    }
-    let named = Cursor { at: end };
-    match named.attributes(s) {
-        Ending::Refused => Entry::Told(Outcome::Fault(0)),
-        Ending::Shut(done) => {
-            if may_be_empty(table, ranges, row) {
-                let next = done.at;
-                return Entry::Told(Outcome::Past { next, count: 0 });
-            }
-            Entry::Told(Outcome::Fault(from))
+impl Tables<'_> {
+    // The start tag at a place, of an element whose name is its row's: whoever found the row has compared the two, so the row tells where the name ends. An
+    // element that may hold anything is passed by its tags alone.
+    fn enter(&self, s: &[u8], at: usize, row: usize) -> Result<Entry, Fault>
+        ensures { Entered self.now.table.now self.now.pool.now self.now.ranges.now s.now at row result }
+    {
+        if s.len() <= at {
+            return Err(Fault { from: 0 });
         }
-        Ending::Open(done) => {
-            let inside = done.at;
-            if kind == GROUP {
-                return Entry::Open { end, inside };
+        let kind = self.kind(row);
+        if let Kind::Another = kind {
+            let done = skip(s, at).ok_or(Fault { from: 0 })?;
+            return Ok(Entry::Past(done.at));
+        }
+        let from = s.len() - at;
+        let start = at + 1;
+        let end = start + self.name_of(row).len();
+        if !self.attrs_fit(row, s, end) {
+            return Err(Fault { from });
+        }
+        let named = Cursor { at: end };
+        match named.attributes(s).ok_or(Fault { from: 0 })? {
+            Ending::Shut(done) => {
+                if self.may_be_empty(row) {
+                    Ok(Entry::Past(done.at))
+                } else {
+                    Err(Fault { from })
+                }
             }
-            Entry::Told(leaf_inside(table, ranges, row, s, inside, start, end, from))
+            Ending::Open(done) => {
+                let inside = done.at;
+                if let Kind::Group = kind {
+                    return Ok(Entry::Open { end, inside });
+                }
+                match self.leaf_inside(row, s, inside, Name { start, end }) {
+                    Some(next) => Ok(Entry::Past(next)),
+                    None => Err(Fault { from }),
+                }
+            }
         }
     }
-}
 
-// The element at a place, of at most so many levels, whose name is its row's.
-pub fn fault(
-    table: &[u16],
-    pool: &[u8],
-    ranges: &[u16],
-    s: &[u8],
-    at: usize,
-    levels: usize,
-    row: usize,
-) -> Outcome
-    ensures { Judged table.now pool.now ranges.now s.now at levels row result }
-{
-    if levels == 0 {
-        return Outcome::Fault(0);
-    }
-    match enter(table, pool, ranges, s, at, row) {
-        Entry::Told(outcome) => outcome,
-        Entry::Open { end, inside } => {
-            let first = cell(table, row, FIRST);
-            let n = cell(table, row, MANY);
-            let mut here = inside;
-            let mut item = 0;
-            let mut count = 0;
-            let mut total = 0;
-            loop {
-                match advance(table, pool, s, here, at + 1, end, first, n, item, count) {
-                    Step::Past(next) => {
-                        return Outcome::Past { next, count: total };
-                    }
-                    Step::Wrong => {
-                        return Outcome::Fault(s.len() - at);
-                    }
-                    Step::On(next) => {
-                        here = next;
-                    }
-                    Step::Child { now, before } => {
-                        let child = fault(table, pool, ranges, s, here, levels - 1, first + now);
-                        let Outcome::Past { next, count: held } = child else {
-                            return child;
-                        };
-                        here = next;
-                        item = now;
-                        count = before + 1;
-                        total = total + held + marked(table, first + now);
+    // The element at a place, of at most so many levels, whose name is its row's.
+    pub fn fault(&self, s: &[u8], at: usize, levels: usize, row: usize) -> Result<Past, Fault>
+        ensures { Judged self.now.table.now self.now.pool.now self.now.ranges.now s.now at levels row result }
+    {
+        if levels == 0 {
+            return Err(Fault { from: 0 });
+        }
+        match self.enter(s, at, row)? {
+            Entry::Past(next) => Ok(Past { next, count: 0 }),
+            Entry::Open { end, inside } => {
+                let name = Name { start: at + 1, end };
+                let rows = self.children(row);
+                let mut here = inside;
+                let mut spot = Spot::START;
+                let mut total = 0;
+                loop {
+                    match self.advance(s, here, name, rows, spot) {
+                        None => {
+                            return Err(Fault { from: s.len() - at });
+                        }
+                        Some(Step::Past(next)) => {
+                            return Ok(Past { next, count: total });
+                        }
+                        Some(Step::On(next)) => {
+                            here = next;
+                        }
+                        Some(Step::Child(now)) => {
+                            let child_row = rows.first + now.item;
+                            let child = self.fault(s, here, levels - 1, child_row)?;
+                            here = child.next;
+                            spot = Spot {
+                                item: now.item,
+                                count: now.count + 1,
+                            };
+                            total = total + child.count + self.marked(child_row);
+                        }
                     }
                 }
             }

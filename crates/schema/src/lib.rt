@@ -11,10 +11,22 @@ pub mod table;
 pub mod texts;
 pub mod too_many;
 
-// The place past an element that has no fault, and how many counted elements stand in it; or the first fault, as the bytes left at the `<` of the element
-// that it is told of.
+// An element that has no fault: the place past it, and how many counted elements stand in it.
 #[derive(Clone, Copy)]
-pub enum Outcome {
-    Past { next: usize, count: usize },
-    Fault(usize),
+pub struct Past {
+    pub next: usize,
+    pub count: usize,
+}
+
+// The first fault in an element, as the bytes left at the `<` of the element that it is told of.
+#[derive(Clone, Copy)]
+pub struct Fault {
+    pub from: usize,
+}
+
+// Where an element's name stands.
+#[derive(Clone, Copy)]
+pub struct Name {
+    pub start: usize,
+    pub end: usize,
 }

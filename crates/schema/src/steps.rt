@@ -2,59 +2,33 @@
 ghost use Rattle.std.specs.Prelude.{◌<◌};
 ghost use Rattle.schema.specs.View.{Stepped};
 
-use crate::children::{Spot, enough, spot_of};
+use crate::Name;
+use crate::children::Spot;
 use crate::leaves::all_ws;
+use crate::table::{Rows, Tables};
 use markup::bytes::part;
 use markup::{Cursor, Piece};
 
-// The place past the group, in which none is missing; a fault that is the group's; the place past white space or a comment; or the item of a child, and how
-// many of that item have been before.
+// The place past the group, in which none is missing; the place past white space or a comment; or where a child stands.
 #[derive(Clone, Copy)]
 pub enum Step {
     Past(usize),
-    Wrong,
     On(usize),
-    Child { now: usize, before: usize },
+    Child(Spot),
 }
 
-// The step from a place in a group of a name, by the n rows from the first on, at an item of which `count` have been.
-pub fn advance(
-    table: &[u16],
-    pool: &[u8],
-    s: &[u8],
-    at: usize,
-    name: usize,
-    name_end: usize,
-    first: usize,
-    n: usize,
-    item: usize,
-    count: usize,
-) -> Step
-    requires { (first < 65536) × (n < 65536) }
-    ensures { Stepped table.now pool.now s.now at name name_end first n item count result }
-{
-    let here = Cursor { at };
-    match here.known_piece(s, name, name_end) {
-        Piece::Close(done) => {
-            if enough(table, first, n, item, count) {
-                return Step::Past(done.at);
-            }
-            Step::Wrong
+impl Tables<'_> {
+    // The step from a place in a group of a name, by the group's rows, at an item of which so many have been; None for a fault that is the group's.
+    pub fn advance(&self, s: &[u8], at: usize, name: Name, rows: Rows, from: Spot) -> Option<Step>
+        requires { (rows.first < 65536) × (rows.n < 65536) }
+        ensures { Stepped self.now.table.now self.now.pool.now s.now at name.start name.end rows.first rows.n from.item from.count result }
+    {
+        let here = Cursor { at };
+        match here.known_piece(s, name.start, name.end)? {
+            Piece::Close(done) => self.enough(rows, from).then_some(Step::Past(done.at)),
+            Piece::Words { start, end } => all_ws(part(s, start, end)).then_some(Step::On(end)),
+            Piece::Aside(done) => Some(Step::On(done.at)),
+            Piece::Kid => Some(Step::Child(self.spot_of(s, at, rows, from)?)),
         }
-        Piece::Words { start, end } => {
-            if all_ws(part(s, start, end)) {
-                return Step::On(end);
-            }
-            Step::Wrong
-        }
-        Piece::Aside(done) => Step::On(done.at),
-        Piece::Kid => match spot_of(table, pool, s, at, first, n, item, count) {
-            Spot::Here {
-                item: now,
-                count: before,
-            } => Step::Child { now, before },
-            Spot::Nowhere => Step::Wrong,
-        },
-        Piece::Refused => Step::Wrong,
     }
 }

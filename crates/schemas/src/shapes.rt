@@ -9,21 +9,32 @@ ghost use Rattle.schema.specs.View.{view_shape, ok_shape};
 ghost use Rattle.schemas.specs.Schemas.{schema_of};
 
 use crate::tables::{POOL, RANGES, TABLE1, TABLE2};
-use schema::file::{ShapeAnswer, shape};
+use schema::file::ShapeFault;
+use schema::table::Tables;
 
 // The file whose root stands at a place, as a file of a track. The proof is where the tables are shown to be the schemas, each by one computed test.
-pub fn held(track: u64, s: &[u8], root: usize) -> ShapeAnswer
+pub fn held(track: u64, s: &[u8], root: usize) -> Result<usize, ShapeFault>
     ensures { ((tree : Tree) (m : List ℕ) → element depth (drop root s.now) ≡ read tree m → view_shape result ≡ held_of (schema_of track) tree) × ok_shape s.now result }
 {
     if track == 1 {
         let table = TABLE1;
         let pool = POOL;
         let ranges = RANGES;
-        shape(&table, &pool, &ranges, s, root)
+        let tables = Tables {
+            table: &table,
+            pool: &pool,
+            ranges: &ranges,
+        };
+        tables.shape(s, root)
     } else {
         let table = TABLE2;
         let pool = POOL;
         let ranges = RANGES;
-        shape(&table, &pool, &ranges, s, root)
+        let tables = Tables {
+            table: &table,
+            pool: &pool,
+            ranges: &ranges,
+        };
+        tables.shape(s, root)
     }
 }

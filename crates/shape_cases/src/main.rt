@@ -1,33 +1,30 @@
 // Holds each file that its arguments name against the shape of its track, which the name's first byte says.
 #![tactic(auto)]
 
-use markup::Document;
 use markup::bytes::peek;
 use markup::file::document;
-use schema::file::{ShapeAnswer, place_of};
+use schema::file::{ShapeFault, place_of};
 use std::rt::Files;
 use std::{env, io};
 use streams::read_file;
 use tracks::shapes::shape_of;
 
-fn say(rt: &impl Print, s: &[u8], shape: ShapeAnswer) -> io::Result<()> {
+fn say(rt: &impl Print, s: &[u8], shape: Result<usize, ShapeFault>) -> io::Result<()> {
     match shape {
-        ShapeAnswer::Fine(n) => println!(rt; ": of the shape, {n} records"),
-        ShapeAnswer::Faulty { number, from } => {
+        Ok(n) => println!(rt; ": of the shape, {n} records"),
+        Err(ShapeFault::Faulty { number, from }) => {
             let place = place_of(s.len(), from);
             println!(rt; ": at fault, record {number}, place {place}")
         }
-        ShapeAnswer::Crowded(number) => println!(rt; ": too many events, record {number}"),
+        Err(ShapeFault::Crowded(number)) => println!(rt; ": too many events, record {number}"),
     }
 }
 
 fn judge(rt: &impl Print, track: u64, s: &[u8]) -> io::Result<()> {
-    let Document::Root(root) = document(s) else {
-        return println!(rt; ": not in the markup");
-    };
-    let at = root.at;
-    let shape = shape_of(track, s, at);
-    say(rt, s, shape)
+    match document(s) {
+        Some(root) => say(rt, s, shape_of(track, s, root.at)),
+        None => println!(rt; ": not in the markup"),
+    }
 }
 
 fn track_of(name: &[u8]) -> u64 {

@@ -1,11 +1,11 @@
 -- A case's events one after the other: each allowed, above the one before it and fitting it, which decides whether they are good together.
 use Prim.Native.Nat.{ℕ, suc, ◌+◌, ◌*◌, ◌^◌, max}
 use mathlib.Core.Path.{◌≡◌, refl, sym, ◌∙◌, subst}
-use mathlib.Core.Bool.{Bool, true, false, not, ◌&&◌, ◌||◌, false≢true}
+use mathlib.Core.Bool.{Bool, true, false, ◌&&◌, ◌||◌, false≢true}
 use mathlib.Core.List.{[], ◌∷◌, map}
 use native.Mathlib.Omega.{arith}
 use lib.Dec.{eqb, ltb, leb}
-use borrow.Author.Tests.{eqb-true, eq-eqb, ne_eqb, leb-true, le-leb}
+use borrow.Author.Tests.{eqb-true, ne_eqb, leb-true, le-leb}
 use Rattle.laws.specs.Lists.{all}
 use Rattle.laws.proofs.Truth.{and_left, and_right}
 use Rattle.laws.proofs.Every.{Every, all_told, all_tell, same_truth, and_tell}
@@ -14,25 +14,11 @@ use Rattle.model.specs.Map.{Row, Map, Asc}
 use Rattle.register.specs.Sound.{ascending}
 use Rattle.register.proofs.Ascending.{asc_told, asc_tell}
 use Rattle.home_care.specs.Row.{never, kind_of, date_of, end_of, event_key_of, event_number_in_wide, event_in, own_bits}
-use Rattle.home_care.specs.Anomalies.{share_day}
 use Rattle.home_care.specs.Allowed.{event_allowed, end_allowed, event_row_allowed_wide}
 use Rattle.home_care.proofs.EventKeys.{narrow}
 use Rattle.soundness.specs.Sound.{events_free}
 use Rattle.soundness.proofs.EventFacts.{fits, late, passes, Rising, Sane}
 use Rattle.soundness.proofs.Neighbours.{neighbours}
-
--- ---- the tests of one event
-
-pub fits_is : (taken least prev latest e date end kind last key : ℕ) (shared : Bool) → date ≡ date_of e → end ≡ end_of e → kind ≡ kind_of e → last ≡ kind_of prev → shared ≡ share_day prev e → key ≡ event_key_of e →
-    leb least key && (leb taken date && (not (eqb kind 2 && ltb end date) && (not shared && (not (eqb last 3 && eqb kind 3) && not (eqb kind 3 && ltb date latest))))) ≡ leb least (event_key_of e) && fits taken prev latest e
-fits_is taken least prev latest e date end kind last key shared d n k l s g = rw (d, n, k, l, s, g)
-
-module _ (latest e end date day : ℕ) (n : end ≡ end_of e) (d : date ≡ date_of e) (y : day ≡ max latest date) where
-  pub later_none : end ≡ never → day ≡ max latest (late e)
-  later_none h = rw (eq-eqb (end_of e) never (sym n ∙ h)) (omega arith)
-
-  pub later_some : (r : ℕ) → (end ≡ never → ⊥) → r ≡ max day end → r ≡ max latest (late e)
-  later_some r h g = rw (ne_eqb (end_of e) never (λ k. h (n ∙ k))) (omega arith)
 
 -- a conclusion has no end
 ended : (e : ℕ) → event_allowed (event_in e) ≡ true → kind_of e ≡ 3 → end_of e ≡ never

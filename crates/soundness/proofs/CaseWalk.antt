@@ -1,5 +1,5 @@
 -- The walk over a case's events, at places of a register.
-use Prim.Native.Nat.{ℕ, suc, ◌+◌, ◌-◌, ◌*◌, ◌/◌, ◌^◌, ◌<◌, max}
+use Prim.Native.Nat.{◌≤◌, ℕ, suc, ◌+◌, ◌-◌, ◌*◌, ◌/◌, ◌^◌, ◌<◌, max}
 use mathlib.Core.Path.{◌≡◌, sym, ap, ap₂, ◌∙◌, subst}
 use mathlib.Core.Bool.{Bool, true, false, cond, ◌&&◌}
 use mathlib.Core.List.{List, [], ◌∷◌}
@@ -27,8 +27,7 @@ use Rattle.home_care.proofs.Laid.{laid_wide}
 use Rattle.home_care.proofs.EventKeys.{cut_parts}
 use Rattle.home_care.proofs.RowFields.{taken_at, taken_is}
 use Rattle.soundness.specs.Walk.{run_of, case_at, ran}
-use Rattle.soundness.specs.declared.one_case.Run.{Run}
-use Rattle.soundness.specs.declared.one_case.Run.TheVariants.{End, Bad}
+use Rattle.std.specs.Prelude.{Option, None, Some}
 use Rattle.soundness.proofs.EventFacts.{fits, late}
 use Rattle.soundness.proofs.CaseRuns.{run_own, run_part}
 use Rattle.soundness.proofs.CaseEvents.{Mine, follow, follow_is}
@@ -53,12 +52,12 @@ module _ (w : ℕ) where
     abbrev run : ℕ → Map ℕ
     run k = run_of (case_named (home_care w)) (case_at w reg i) (events_from (home_care w) reg k (rows - k))
 
-    abbrev answer : Run
+    abbrev answer : Option ℕ
     answer = ran w (case_at w reg i) j (events_from (home_care w) reg j (rows - j))
 
     -- the rows from k on give the same as the whole
     abbrev pub Onward : ℕ → ℕ → ℕ → ℕ → ℕ → Type 0
-    Onward t b p m k = answer ≡ cond (follow w t b p m (run k)) (End (k + length (run k))) Bad
+    Onward t b p m k = answer ≡ cond (follow w t b p m (run k)) (Some (k + length (run k))) None
 
     -- its key is that of the case that it names and the event's own
     abbrev Keyed : Row ℕ → Type 0
@@ -71,7 +70,15 @@ module _ (w : ℕ) where
         let g : Every (Mine w c) (run j) =
         every_both (run j) (λ r o s. s ∙ ap (λ (k : ℕ). k * 2 ^ own_bits + event_key_of (event_number_in_wide w r)) o) (run_own (case_named (home_care w)) c m)
         (run_part (case_named (home_care w)) Keyed c m (from_every event_row Keyed j (rows - j) (λ k x y. cut_parts w wide (row_in (home_care w) reg k)))) in
-        ap (λ (z : Bool). cond z (End (j + length (run j))) Bad) (sym (ap (λ (d : ℕ). follow w d 0 0 0 (run j)) e ∙ follow_is w c (taken_in c) (run j) g))
+        ap (λ (z : Bool). cond z (Some (j + length (run j))) None) (sym (ap (λ (d : ℕ). follow w d 0 0 0 (run j)) e ∙ follow_is w c (taken_in c) (run j) g))
+
+    -- no row is left
+    pub walk_past : (t b p m k : ℕ) → Onward t b p m k → rows ≤ k → k ≤ rows → Some rows ≡ answer
+    unfolding follow run_of
+    walk_past t b p m k inv h l =
+        let n : run k ≡ [] = ap (run_of (case_named (home_care w)) (case_at w reg i)) (from_none event_row k rows h) in
+        let z : k + 0 ≡ rows = omega arith in
+        sym (inv ∙ rw (n, z))
 
     module _ (wide : RowWidth w) (case : List ℕ) (k : ℕ) (stand : Bool) (own : num case ≡ row_in (home_care w) reg i) (told : stand ≡ ltb k rows && eqb (key_at w key_bits reg k) (probe_key w key_bits case)) where
       case_key : key_at w key_bits reg k ≡ case_named (home_care w) (event_row k).key
@@ -110,13 +117,13 @@ module _ (w : ℕ) where
           go (above l _ _) = ap (run_of (case_named (home_care w)) (case_at w reg i)) (from_none event_row k rows (omega arith))
 
       module _ (t b p m : ℕ) (inv : Onward t b p m k) where
-        pub walk_end : stand ≡ false → End k ≡ answer
+        pub walk_end : stand ≡ false → Some k ≡ answer
         unfolding follow
         walk_end s = let z : k + 0 ≡ k = omega arith in sym (inv ∙ rw (run_none s, z))
 
         module _ (row : List ℕ) (e : ℕ) (row_good fit : Bool) (s : stand ≡ true) (here : num row ≡ row_in (home_care w) reg k) (long : length row ≡ w)
             (read : e ≡ event_number_in_wide (length row) (as_event row)) (allowed : row_good ≡ event_row_allowed_wide (length row) (as_event row)) (f : fit ≡ leb b (event_key_of e) && fits t p m e) where
-          step : answer ≡ cond ((row_good && fit) && follow w t (suc (event_key_of e)) e (max m (late e)) (run (k + 1))) (End (k + 1 + length (run (k + 1)))) Bad
+          step : answer ≡ cond ((row_good && fit) && follow w t (suc (event_key_of e)) e (max m (late e)) (run (k + 1))) (Some (k + 1 + length (run (k + 1)))) None
           unfolding follow
           step =
               let q : e ≡ event_number_in_wide w (event_row k) = read ∙ ap₂ (λ (v n : ℕ). event_number_in_wide v (split_of events (home_care v) n)) long here in
@@ -124,7 +131,7 @@ module _ (w : ℕ) where
               let z : k + suc (length (run (k + 1))) ≡ k + 1 + length (run (k + 1)) = omega arith in
               inv ∙ rw (run_more s, ← a, ← q, ← f, z)
 
-          pub walk_bad : row_good && fit ≡ false → Bad ≡ answer
+          pub walk_bad : row_good && fit ≡ false → None ≡ answer
           walk_bad g = sym (step ∙ rw g)
 
           pub walk_on : (b' p' m' : ℕ) → b' ≡ event_key_of e + 1 → p' ≡ e → m' ≡ max m (late e) → row_good && fit ≡ true → Onward t b' p' m' (k + 1)

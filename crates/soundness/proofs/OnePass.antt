@@ -1,7 +1,7 @@
 -- The pass over the rows, at places of a register: a case and then its events decide what stands to be valid.
 use Prim.Native.Nat.{ℕ, ◌+◌, ◌-◌, ◌*◌, ◌/◌, ◌^◌, ◌≤◌, ◌<◌}
 use mathlib.Core.Path.{◌≡◌, refl, sym, ap, ap₂, ◌∙◌}
-use mathlib.Core.Bool.{Bool, true, false, cond, ◌&&◌, ◌||◌, true≢false}
+use mathlib.Core.Bool.{Bool, true, false, ◌&&◌, ◌||◌, true≢false}
 use mathlib.Core.List.{List, []}
 use native.Mathlib.Nat.{add-zero}
 use native.Mathlib.Omega.{arith}
@@ -29,19 +29,11 @@ use Rattle.home_care.specs.Fits.{as_case}
 use Rattle.home_care.specs.Allowed.{case_row_allowed_wide}
 use Rattle.soundness.specs.Sound.{home_care_rules}
 use Rattle.soundness.specs.Walk.{run_of, good_run, case_at, ran}
-use Rattle.soundness.specs.declared.one_case.Run.{Run}
-use Rattle.soundness.specs.declared.one_case.Run.TheVariants.{End, Bad}
+use Rattle.std.specs.Prelude.{Option, None, Some}
+use Rattle.soundness.proofs.KeyTexts.{picked, refused}
 use Rattle.soundness.proofs.CaseRuns.{rest_of, run_rest, grouped, grouped_is}
 
 -- ---- the answers of a run
-
-picked : (b : Bool) (n e : ℕ) → cond b (End n) Bad ≡ End e → (b ≡ true) × (n ≡ e)
-picked true n e h = (refl, cc)
-picked false n e h = let z : ◌≡◌ {A = ℕ} 0 1 = cc in absurd (omega arith)
-
-refused : (b : Bool) (n : ℕ) → cond b (End n) Bad ≡ Bad → b ≡ false
-refused true n h = let z : ◌≡◌ {A = ℕ} 0 1 = cc in absurd (omega arith)
-refused false n h = refl
 
 and_under : (c x y : Bool) → (c ≡ true → x ≡ y) → c && x ≡ c && y
 and_under true x y h = h refl
@@ -165,7 +157,7 @@ module _ (w : ℕ) where
           unfolding grouped
           one_case_lem = rest.runs ∙ ap (λ (l : Map ℕ). walked l (es j)) (from_next case_row i cases h)
 
-          pub run_bad : (r : Run) → r ≡ ran w (case_at w reg i) j (es j) → r ≡ Bad → false ≡ valid (home_care w) (home_care_rules w) n state
+          pub run_bad : (r : Option ℕ) → r ≡ ran w (case_at w reg i) j (es j) → r ≡ None → false ≡ valid (home_care w) (home_care_rules w) n state
           run_bad r told e =
               let g = refused (good_run (home_care_rules w) (case_at w reg i) run) (j + length run) (sym told ∙ e) in
               sym (valid_is ∙ rw (one_case_lem, g, and-false (ascending cs)) (and-false (all (case_row_allowed_wide w) cs)))
@@ -185,7 +177,7 @@ module _ (w : ℕ) where
               ∙ drop_at (from event_row j (j + length run - j)) (es (j + length run)) (length run) k
 
           -- a good run ends within the rows, and the rest goes on from there
-          pub run_on : (good : Bool) (r : Run) (end : ℕ) → good ≡ case_fits reg i → good ≡ true → r ≡ ran w (case_at w reg i) j (es j) → r ≡ End end → j ≤ rows → (j ≤ end) × (end ≤ rows) × Rest (i + 1) end
+          pub run_on : (good : Bool) (r : Option ℕ) (end : ℕ) → good ≡ case_fits reg i → good ≡ true → r ≡ ran w (case_at w reg i) j (es j) → r ≡ Some end → j ≤ rows → (j ≤ end) × (end ≤ rows) × Rest (i + 1) end
           run_on good r end fit f told e l =
               let g = picked (good_run (home_care_rules w) (case_at w reg i) run) (j + length run) end (sym told ∙ e) in
               let s = run_short l in

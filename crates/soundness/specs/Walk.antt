@@ -1,13 +1,11 @@
 -- The walk over the rows: a case's events are the next ones.
-use Rattle.std.specs.Prelude.{ℕ, ◌+◌, ◌/◌, ◌^◌, Bool, cond, ◌&&◌, List, [], ◌∷◌, eqb, length}
+use Rattle.std.specs.Prelude.{ℕ, ◌+◌, ◌/◌, ◌^◌, Bool, cond, ◌&&◌, List, [], ◌∷◌, eqb, length, Option, None, Some}
 use Rattle.laws.specs.Lists.{all}
 use Rattle.model.specs.Map.{Map}
 use Rattle.register.specs.Layout.{case_named, case_rest, row_in}
 use Rattle.register.specs.Sound.{Rules, ascending}
 use Rattle.home_care.specs.Row.{home_care}
 use Rattle.soundness.specs.Sound.{home_care_rules}
-use Rattle.soundness.specs.declared.one_case.Run.{Run}
-use Rattle.soundness.specs.declared.one_case.Run.TheVariants.{End, Bad}
 
 -- the rows of the case c at the front, where own is the case that a key names
 unfoldable pub run_of : (ℕ → ℕ) → ℕ → Map ℕ → Map ℕ
@@ -23,6 +21,6 @@ abbrev pub case_at : ℕ → List ℕ → ℕ → ℕ
 case_at w reg i = row_in (home_care w) reg i / 2 ^ case_rest (home_care w)
 
 -- the answer for the case c and the rows m of w bytes, of which the first is row j: the row at which its events end, where they are good
-abbrev pub ran : ℕ → ℕ → ℕ → Map ℕ → Run
+abbrev pub ran : ℕ → ℕ → ℕ → Map ℕ → Option ℕ
 ran w c j m =
-    cond (good_run (home_care_rules w) c (run_of (case_named (home_care w)) c m)) (End (j + length (run_of (case_named (home_care w)) c m))) Bad
+    cond (good_run (home_care_rules w) c (run_of (case_named (home_care w)) c m)) (Some (j + length (run_of (case_named (home_care w)) c m))) None

@@ -1,8 +1,7 @@
 // Finding a case by the texts of its key (RULES.md, C9 to C13).
-ghost use Rattle.std.specs.Prelude.{◌≡◌, true, cond, ◌&&◌, ◌*◌, ◌≤◌, eqb, ltb, length};
+ghost use Rattle.std.specs.Prelude.{◌≡◌, true, cond, ◌&&◌, ◌*◌, ◌≤◌, eqb, ltb, length, None, Some};
 ghost use Rattle.laws.specs.Decimal.{decimal, is_digit};
 ghost use Rattle.laws.specs.Lists.{all};
-ghost use Rattle.days.specs.Table.{Firsts};
 ghost use Rattle.model.specs.Map.{has, keep};
 ghost use Rattle.register.specs.Layout.{row_at, cases_held};
 ghost use Rattle.register.specs.State.{state_of};
@@ -11,38 +10,56 @@ ghost use Rattle.register.specs.Sound.{ascending};
 ghost use Rattle.home_care.specs.Row.{key_bits, key_number, home_care};
 ghost use Rattle.home_care.specs.Fits.{RowWidth};
 ghost use Rattle.soundness.specs.Finding.{texts_allowed, key_of_texts, found};
-ghost use Rattle.soundness.specs.View.{view_find};
+ghost use Rattle.soundness.specs.View.{ProbeTold, number_of, view_find};
 
 use crate::sound::sound;
 use codes::digits::read_digits;
-use days::dates::Date;
+use days::dates::read_date;
+use days::table::Table;
 use home_care::layout::{CASE_KEY, ROW};
 use register::counts::count;
 use register::search::{place, stands};
 
+// The texts that name a case.
 #[derive(Clone, Copy)]
-pub enum Lookup {
-    At(usize),
+pub struct CaseTexts<'a> {
+    pub region: &'a [u8],
+    pub asl: &'a [u8],
+    pub date: &'a [u8],
+    pub id: &'a [u8],
+}
+
+// Why no place is answered: the register is unsound, or no such case stands in it.
+#[derive(Clone, Copy)]
+pub enum Missing {
     Unsound,
     Nowhere,
 }
 
-// The number of a text of three digits; 0, which is no region, for any other text.
-fn region_of(s: &[u8]) -> u64
-    ensures { result ≡ cond (eqb (length s.now) 3 && all is_digit s.now) (decimal s.now) 0 }
+impl From<Missing> for u64 {
+    ghost from_gives = { λ missing n. n ≡ number_of missing };
+
+    fn from(missing: Missing) -> u64 {
+        match missing {
+            Missing::Unsound => 3,
+            Missing::Nowhere => 30,
+        }
+    }
+}
+
+// The number of a text of three digits.
+fn region_of(s: &[u8]) -> Option<u64>
+    ensures { result ≡ cond (eqb (length s.now) 3 && all is_digit s.now) (Some (decimal s.now)) None }
 {
     if s.len() != 3 {
-        return 0;
+        return None;
     }
     let read = read_digits(s, 9999);
-    if !read.good {
-        return 0;
-    }
-    read.number
+    if read.good { Some(read.number) } else { None }
 }
 
 // The case with the probe's key, where rows have w bytes.
-fn find_key(reg: &[u8], w: usize, probe: &[u8]) -> Lookup
+fn find_key(reg: &[u8], w: usize, probe: &[u8]) -> Result<usize, Missing>
     requires { RowWidth w × (4 ≤ length reg.now) × (row_at (home_care w) (cases_held reg.now) ≤ length reg.now) × (length probe.now ≡ w) }
     ensures { ascending (state_of (home_care w) reg.now).cases ≡ true
         → view_find result ≡ cond (has (probe_key w key_bits probe.now) (state_of (home_care w) reg.now).cases)
@@ -55,62 +72,38 @@ fn find_key(reg: &[u8], w: usize, probe: &[u8]) -> Lookup
     let cases = count(reg, 0);
     let i = place(reg, w, 0, cases, probe, CASE_KEY, 0);
     if !stands(reg, w, i, cases, probe, CASE_KEY) {
-        return Lookup::Nowhere;
+        return Err(Missing::Nowhere);
     }
-    Lookup::At(4 + w * i)
+    Ok(4 + w * i)
 }
 
-// The probe row of the texts' key, where they are allowed.
-pub fn probe_of(
-    t: &[u32; 2400],
-    out: &mut [u8],
-    region: &[u8],
-    asl: &[u8],
-    date: &[u8],
-    id: &[u8],
-) -> bool
-    requires { Firsts t.now × (key_bits ≤ 8 * length out.old) }
-    ensures { (result ≡ texts_allowed region.now asl.now date.now id.now)
-        × (result ≡ true → probe_key (length out.old) key_bits out.new
-        ≡ key_number (key_of_texts region.now asl.now date.now id.now)) }
+// The probe row, of N bytes, of the texts' key, where they are allowed.
+pub fn probe_of<const N: usize>(t: &Table, texts: &CaseTexts) -> Option<[u8; N]>
+    requires { key_bits ≤ 8 * N }
+    ensures { ProbeTold N result texts.now.region.now texts.now.asl.now texts.now.date.now texts.now.id.now }
 {
-    if (asl.len() != 3) | ((date.len() != 10) | (id.len() != 88)) {
-        return false;
+    if (texts.asl.len() != 3) | ((texts.date.len() != 10) | (texts.id.len() != 88)) {
+        return None;
     }
-    let number = region_of(region);
-    if !(codes::code_lists::is_region(number)
-        & (codes::characters::all_alnum(asl) & codes::characters::all_id(id)))
+    let region = region_of(texts.region)?;
+    if !(codes::code_lists::is_region(region)
+        & (codes::characters::all_alnum(texts.asl) & codes::characters::all_id(texts.id)))
     {
-        return false;
+        return None;
     }
-    let read = days::dates::read_date(t, date, 0);
-    match read {
-        Date::Day { day, next: _ } => {
-            home_care::pack::pack_key(out, number, asl, day as u64, id);
-            true
-        }
-        Date::Refused => false,
-    }
+    let taken = read_date(t, texts.date, 0)?;
+    let mut probe = [0u8; N];
+    home_care::pack::pack_key(&mut probe, region, texts.asl, taken.day as u64, texts.id);
+    Some(probe)
 }
 
 // A case by its texts: unsound registers first, then texts that are not allowed or a key that does not stand.
-pub fn find(
-    t: &[u32; 2400],
-    reg: &[u8],
-    region: &[u8],
-    asl: &[u8],
-    date: &[u8],
-    id: &[u8],
-) -> Lookup
-    requires { Firsts t.now }
-    ensures { view_find result ≡ found reg.now region.now asl.now date.now id.now }
+pub fn find(t: &Table, reg: &[u8], texts: &CaseTexts) -> Result<usize, Missing>
+    ensures { view_find result ≡ found reg.now texts.now.region.now texts.now.asl.now texts.now.date.now texts.now.id.now }
 {
     if !sound(t, reg) {
-        return Lookup::Unsound;
+        return Err(Missing::Unsound);
     }
-    let mut probe = [0u8; ROW];
-    if !probe_of(t, &mut probe, region, asl, date, id) {
-        return Lookup::Nowhere;
-    }
+    let probe: [u8; ROW] = probe_of(t, texts).ok_or(Missing::Nowhere)?;
     find_key(reg, ROW, &probe)
 }

@@ -8,9 +8,9 @@ ghost use Rattle.home_care.specs.Anomalies.{is_suspension, is_conclusion, share_
 ghost use Rattle.soundness.specs.Walk.{case_at, ran};
 
 use codes::code_lists::{CONCLUSION, SUSPENSION};
-use home_care::allowed::event_row_allowed;
 use home_care::event_bits::{date_of, end_of, event_key_of, event_of, kind_of, share_day};
 use home_care::layout::{CASE_KEY, DAY_BITS, NEVER, TAKEN};
+use home_care::row::RowBytes;
 use register::row::row_at;
 use register::search::stands;
 
@@ -22,32 +22,13 @@ struct Before {
     latest: u64,
 }
 
-// The row at which a case's events end, where they are good.
-#[derive(Clone, Copy)]
-pub enum Run {
-    End(usize),
-    Bad,
-}
-
-fn larger(a: u64, b: u64) -> u64
-    ensures { result ≡ max a b }
-{
-    if a < b {
-        return b;
-    }
-    a
-}
-
 // The latest day with the event's: its date, and its end where it has one.
 fn later(latest: u64, e: u64) -> u64
     ensures { result ≡ max latest (max (date_of e) (cond (eqb (end_of e) never) 0 (end_of e))) }
 {
     let end = end_of(e);
-    let day = larger(latest, date_of(e));
-    if end == NEVER {
-        return day;
-    }
-    larger(day, end)
+    let day = latest.max(date_of(e));
+    if end == NEVER { day } else { day.max(end) }
 }
 
 // Whether an event fits its case: its key above the last, the taking in, the event before it and the latest day so far.
@@ -81,8 +62,10 @@ fn passed(b: Before, e: u64) -> Before
     }
 }
 
-// The events of the case in row i, of w bytes: the rows from j on, as long as they name it.
-pub fn case_events(reg: &[u8], w: usize, i: usize, j: usize, rows: usize) -> Run
+// The events of the case in row i, of w bytes: the rows from j on, as long as they name it. The row at which they end, where they are good.
+// Its clauses stay: a struct that holds them with register, width and rows would ask more of a caller than this public function does.
+#[tactic(auto, using(crate::proofs::Within::rows_before))]
+pub fn case_events(reg: &[u8], w: usize, i: usize, j: usize, rows: usize) -> Option<usize>
     requires { RowWidth w × (i < rows) × (j ≤ rows) × (row_at (home_care w) rows ≤ length reg.now) }
     ensures { result ≡ ran w (case_at w reg.now i) j (events_from (home_care w) reg.now j (rows - j)) }
 {
@@ -93,15 +76,18 @@ pub fn case_events(reg: &[u8], w: usize, i: usize, j: usize, rows: usize) -> Run
         prev: 0,
         latest: 0,
     };
-    let mut k = j;
-    while stands(reg, w, k, rows, case, CASE_KEY) {
-        let row = row_at(reg, w, k);
-        let e = event_of(row);
-        if !(event_row_allowed(row, e) & fits_after(taken, b, e)) {
-            return Run::Bad;
+    for k in j..rows {
+        if !stands(reg, w, k, rows, case, CASE_KEY) {
+            return Some(k);
+        }
+        let row = RowBytes {
+            bytes: row_at(reg, w, k),
+        };
+        let e = event_of(row.bytes);
+        if !(row.event_row_allowed(e) & fits_after(taken, b, e)) {
+            return None;
         }
         b = passed(b, e);
-        k += 1;
     }
-    Run::End(k)
+    Some(rows)
 }

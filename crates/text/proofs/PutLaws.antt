@@ -6,10 +6,13 @@ use mathlib.Core.List.{List, [], ◌∷◌, ◌++◌}
 use native.Mathlib.Omega.{arith}
 use native.Mathlib.Nat.{add-zero}
 use native.Mathlib.Numerals.{add-one}
-use lib.ListN.{length, get_or, set, take, drop, length-set, length-append}
-use lib.Seq.{set_out, sets, sets-eq, take-suc, take_all}
+use lib.ListN.{length, set, take, drop, drop_of_length-le, length-append}
+use lib.Seq.{set_out, sets, sets-eq, length-sets, take_all, length-take-le}
 use lib.Dec.{leb}
 use borrow.Author.Tests.{leb-true, leb-false}
+use borrow.Rule.Slice.PartMut.{put_mid}
+use Rattle.std.proofs.lemmas.Slice.{put_mid-paste}
+use Rattle.std.proofs.lemmas.List.{take-append-drop}
 use Rattle.text.specs.Put.{written, Put, Starts}
 
 -- past the end nothing is written
@@ -70,18 +73,34 @@ put_starts {r} {t} {x} {y} p h =
     let e : 0 + length t ≡ r = omega (arith, w.1) in
     record { bytes = w.0 ∙ ap (λ (n : ℕ). t ++ drop n x) e; count = omega (arith, w.1); inside = omega (arith, w.1, p.long) }
 
--- one byte, where there is room for it; and anything where there is none
-pub put_inside : (at b : ℕ) (out : List ℕ) → at < length out → Put at (b ∷ []) out (set out at b) (at + 1)
-unfolding written
-put_inside at b out h = record { bytes = refl; long = length-set out at b; place = omega arith }
-
+-- anything where there is no room
 pub put_past : (at : ℕ) (t out : List ℕ) → length out ≤ at → Put at t out out at
 put_past at t out h = record { bytes = sym (written_past at t out h); long = refl; place = omega arith }
 
--- a text put byte after byte
-module _ {at m : ℕ} {x y : List ℕ} (t : List ℕ) (i : ℕ) (p : Put at (take i t) x y m) where
-  pub put_next : {r : ℕ} {z : List ℕ} → i < length t → Put m (get_or t i 0 ∷ []) y z r → Put at (take (i + 1) t) x z r
-  put_next h q = rw (add-one, take-suc t i 0) (put_on p q)
+-- what the buffer has no room for changes nothing
+written_front : (at n : ℕ) (t out : List ℕ) → n ≡ min (length t) (length out - at) → written at t out ≡ written at (take n t) out
+unfolding written
+written_front at n t out e =
+    let l : length (take n t) ≡ n = length-take-le n t (omega arith) in
+    ap (λ (x : List ℕ). written at x out) (sym (take-append-drop n t))
+    ∙ written_append at (take n t) (drop n t) out
+    ∙ rw l (go (leb (length t) n) refl)
+  where
+    front : List ℕ
+    front = written at (take n t) out
 
-  pub put_done : length t ≤ i → Put at t x y m
-  put_done h = rw (take_all i t h) at p
+    long : length front ≡ length out
+    long = ap length (written-sets at (take n t) out) ∙ length-sets out at (take n t)
+
+    go : (b : Bool) → leb (length t) n ≡ b → written (at + n) (drop n t) front ≡ front
+    go true h = rw (drop_of_length-le t {i = n} (leb-true (length t) n h))
+    go false h = written_past (at + n) (drop n t) front (omega (arith, long, leb-false (length t) n h))
+
+-- the front of a text that there is room for, copied
+pub put_front : (at k n : ℕ) (t out y : List ℕ) → at < length out → n ≡ min (length t) (length out - at) → k ≡ n → y ≡ take n t → Put at t out (put_mid at k out y) (at + n)
+put_front at k n t out y h e f g =
+    let l : length (take n t) ≡ n = length-take-le n t (omega arith) in
+    let s = written-sets at (take n t) out in
+    let p : put_mid at k out y ≡ sets out at (take n t) =
+    put_mid-paste at k out y (take n t) n g (sym f) (sym l) ∙ rw (take_all n (take n t) (omega arith)) (sym (rw l at (sets-eq (take n t) out at (omega arith)))) in
+    record { bytes = p ∙ sym (written_front at n t out e ∙ s); long = ap length p ∙ length-sets out at (take n t); place = omega arith }

@@ -1,19 +1,19 @@
 -- What `spelled` writes: digits that read back as the number, no leading zero, and how many they are.
 use Prim.Native.Nat.{ℕ, zero, suc, ◌+◌, ◌-◌, ◌*◌, ◌/◌, ◌%◌, ◌^◌, ◌≤◌, ◌<◌}
 use Prim.Native.Char.{code}
-use mathlib.Core.Path.{◌≡◌, refl, sym, ap, ap₂, ◌∙◌}
+use mathlib.Core.Path.{◌≡◌, refl, sym, ap, ◌∙◌}
 use mathlib.Core.Bool.{Bool, true, false, cond}
 use mathlib.Core.List.{List, [], ◌∷◌, ◌++◌, append_assoc, append-nil}
 use native.Mathlib.Omega.{arith}
 use native.Mathlib.Nat.{pow-suc, div-lt_iff_lt-mul}
 use lib.Dec.{leb, ltb}
-use lib.Seq.{take-suc, take_all, get_or-take, length-take-le, lt-length-set, get_or-set_same, drop-set-lt}
+use lib.Seq.{take-suc, take_all, get_or-take, length-take-le}
 use lib.ListN.{length, get_or, take, drop, set, drop_of_length-le, length-set, length-append, get_or-append}
 use borrow.Author.Tests.{le-leb, leb-true, lt-ltb, le-ltb, ltb-true, ltb-false}
 use Rattle.laws.specs.Decimal.{is_digit, decimal_after, decimal}
 use Rattle.laws.specs.Lists.{all}
 use Rattle.laws.proofs.Lists.{all_join, all_left, all_right}
-use Rattle.laws.proofs.Places.{front}
+use Rattle.std.proofs.lemmas.List.{drop-set}
 use Rattle.laws.proofs.Every.{and_tell}
 use Rattle.laws.proofs.Truth.{and_left, and_right}
 use Rattle.text.specs.Spelled.{digit, spelled_in, spelled, most_digits}
@@ -167,13 +167,7 @@ spelled_64 n h = spelled_short 19 n (omega arith)
 pub spelled_tens : (n : ℕ) → 10 ≤ n → length (spelled (n / 10)) + 1 ≡ length (spelled n)
 spelled_tens n h = sym (rw (spelled_more n h, length-append (spelled (n / 10)) (digit (n % 10) ∷ [])))
 
--- digits written from the last one on
-drop-set : (i d : ℕ) (t : List ℕ) → i < length t → drop i (set t i d) ≡ d ∷ drop (i + 1) t
-drop-set i d t h =
-    front (set t i d) i (lt-length-set t i d h)
-    ∙ ap₂ (λ (b : ℕ) (l : List ℕ). b ∷ l) (get_or-set_same t i d 0 h) (drop-set-lt (i + 1) t i d (omega arith))
-
--- what the loop that writes a number's digits keeps: those of `rest` are still to come before the place after `at`
+-- digits written from the last one on: what the loop that writes a number's digits keeps: those of `rest` are still to come before the place after `at`
 pub record Spelling (n : ℕ) (t : List ℕ) (at rest : ℕ) : Type 0 where
   pub so_far : spelled n ≡ spelled rest ++ drop (at + 1) t
   pub room : length (spelled rest) ≤ at + 1
@@ -202,11 +196,11 @@ module _ {n rest at : ℕ} {t : List ℕ} (s : Spelling n t at rest) where
             s.so_far
             ∙ ap (λ (x : List ℕ). x ++ drop (at + 1) t) (spelled_more rest h)
             ∙ append_assoc (spelled (rest / 10)) (digit (rest % 10) ∷ []) (drop (at + 1) t)
-            ∙ ap (λ (x : List ℕ). spelled (rest / 10) ++ x) (sym (rw (k, drop-set at d t s.inside, f)));
+            ∙ ap (λ (x : List ℕ). spelled (rest / 10) ++ x) (sym (rw (k, drop-set t at d s.inside, f)));
         room = omega (arith, s.room, spelled_tens rest h);
         inside = rw (length-set t at d) (omega (arith, s.inside));
         long = length-set t at d ∙ s.long;
       }
 
   pub spell_end : {d : ℕ} → rest < 10 → d ≡ digit rest → drop at (set t at d) ≡ spelled n
-  spell_end {d} h f = sym (s.so_far ∙ rw (spelled_one rest h) (sym (rw (drop-set at d t s.inside, f))))
+  spell_end {d} h f = sym (s.so_far ∙ rw (spelled_one rest h) (sym (rw (drop-set t at d s.inside, f))))

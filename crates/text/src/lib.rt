@@ -2,31 +2,20 @@
 // the place after what it put, so that pieces are put one after the other; what they leave together is one law (`put_on`, proofs/PutLaws.antt).
 #![tactic(auto)]
 
-ghost use Rattle.std.specs.Prelude.{◌≡◌, [], ◌∷◌, ◌<◌, length, drop};
+ghost use Rattle.std.specs.Prelude.{◌≡◌, ◌<◌, length, drop};
 ghost use Rattle.text.specs.Put.{Put};
 ghost use Rattle.text.specs.Spelled.{spelled, most_digits, digit as digit_of};
-
-fn put_byte(out: &mut [u8], at: usize, b: u8) -> usize
-    ensures { Put at (b ∷ []) out.old out.new result }
-{
-    if at < out.len() {
-        out[at] = b;
-        return at + 1;
-    }
-    at
-}
 
 // Puts a text as it is.
 pub fn put_text(out: &mut [u8], at: usize, text: &[u8]) -> usize
     ensures { Put at text.now out.old out.new result }
 {
-    let mut next = at;
-    let mut i = 0;
-    while i < text.len() {
-        next = put_byte(out, next, text[i]);
-        i += 1;
+    if out.len() <= at {
+        return at;
     }
-    next
+    let fits = text.len().min(out.len() - at);
+    out[at..at + fits].copy_from_slice(&text[..fits]);
+    at + fits
 }
 
 fn digit(n: u64) -> u8
@@ -36,7 +25,7 @@ fn digit(n: u64) -> u8
     b'0' + n as u8
 }
 
-// A number's digits, made from the last one on, at the end of 20 bytes; where they begin.
+// A number's digits, made from the last one on, at the end of 20 bytes; where they begin. No `for` over the bytes: the number decides how many there are.
 fn spell(n: u64, text: &mut [u8]) -> usize
     requires { length text.old ≡ most_digits }
     ensures { (result < most_digits) × (drop result text.new ≡ spelled n) }

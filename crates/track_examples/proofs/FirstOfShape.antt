@@ -19,7 +19,7 @@ use Rattle.schema.specs.Shape.{fault_of, named_in, records_of, Shape, fine, faul
 use Rattle.schema.specs.CountedElements.{good, over, held_by}
 use Rattle.nodes.specs.Lookup.{first_named, child_of, has_child}
 use Rattle.nodes.specs.Stands.{Stands, lacks, stands}
-use Rattle.nodes.specs.declared.Six.{Six}
+use Rattle.tracks.specs.declared.record.Top.{Top}
 use Rattle.nodes.proofs.Taken.{Meets}
 use Rattle.nodes.proofs.Naming.{found_child}
 use Rattle.nodes.proofs.Legible.{Legible, document_legible}
@@ -86,7 +86,7 @@ stood : {d : ℕ} {l : List ℕ} {t : Tree} → d ≡ below_root → Stands d l 
 stood z (lacks a b) = absurd (omega arith)
 stood z (stands m e) = (m, rw z at e)
 
-pub first_here : (track : ℕ) (s : List ℕ) {l : List ℕ} {at levels : ℕ} {top : Six} {t : Tree} {n : ℕ} → Stands depth l t
+pub first_here : (track : ℕ) (s : List ℕ) {l : List ℕ} {at levels : ℕ} {top : Top} {t : Tree} {n : ℕ} → Stands depth l t
     → document s ≡ read t [] → good n ≡ held_by (shape_of (schema_of track) t) (crowded_in track t) → Stands levels (drop at s) (child_of assistenza t) → levels ≡ below_root
     → ((a : Tree) (k : List ℕ) → element below_root (drop at s) ≡ read a k → TopOf s at a top) → (a : Tree) × OfShape track s top a
 first_here track s {at = at} {levels = levels} {t = t} e q g x z tops =

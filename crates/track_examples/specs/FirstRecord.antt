@@ -1,11 +1,10 @@
 -- The first record of a file, with its children at hand.
-use Rattle.std.specs.Prelude.{ℕ, List}
+use Rattle.std.specs.Prelude.{ℕ, List, Option, Some, None}
 use Rattle.markup.specs.Elements.{Tree}
+use Rattle.tracks.specs.declared.record.Top.{Top}
 use Rattle.tracks.specs.Top.{OfShape}
-use Rattle.track_examples.specs.declared.First.{First}
-use Rattle.track_examples.specs.declared.First.TheVariants as first
 
 -- where there is one, it is of its track's shape
-abbrev pub IsFirst : ℕ → List ℕ → First → Type 0
-IsFirst track s (first.Record top) = (a : Tree) × OfShape track s top a
-IsFirst track s first.Nothing = Unit
+abbrev pub IsFirst : ℕ → List ℕ → Option Top → Type 0
+IsFirst track s (Some top) = (a : Tree) × OfShape track s top a
+IsFirst track s None = Unit

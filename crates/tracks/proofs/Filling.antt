@@ -1,9 +1,9 @@
 -- Parts of a text by its first place, and a text filled up with zeros.
-use Prim.Native.Nat.{ℕ, ◌+◌, ◌-◌}
-use mathlib.Core.Path.{◌≡◌, refl, ap, ◌∙◌}
-use mathlib.Core.List.{List, [], ◌∷◌}
+use Prim.Native.Nat.{ℕ, ◌+◌, ◌-◌, min}
+use mathlib.Core.Path.{◌≡◌, ap, ◌∙◌}
+use mathlib.Core.List.{List, [], ◌∷◌, ◌++◌}
 use native.Mathlib.Omega.{arith}
-use lib.ListN.{length, get_or, length-take, length-drop}
+use lib.ListN.{length, take, drop, length-take, length-drop}
 use Rattle.markup.specs.View.{part, held}
 use Rattle.home_care.specs.Record.{padded}
 
@@ -18,10 +18,10 @@ by_place s a e n h p l =
     let w : a + n ≡ e = omega arith in
     ap (λ (e : ℕ). part s a e) w ∙ p
 
-pub padded_is : (x : List ℕ) → get_or x 0 0 ∷ get_or x 1 0 ∷ get_or x 2 0 ∷ get_or x 3 0 ∷ get_or x 4 0 ∷ [] ≡ padded x
-padded_is [] = refl
-padded_is (a ∷ []) = refl
-padded_is (a ∷ b ∷ []) = refl
-padded_is (a ∷ b ∷ c ∷ []) = refl
-padded_is (a ∷ b ∷ c ∷ d ∷ []) = refl
-padded_is (a ∷ b ∷ c ∷ d ∷ e ∷ x) = refl
+pub filled_up : (x : List ℕ) (n : ℕ) → n ≡ min (length x) 5 → take n x ++ drop n (0 ∷ 0 ∷ 0 ∷ 0 ∷ 0 ∷ []) ≡ padded x
+filled_up [] n e = let z : n ≡ 0 = omega arith in rw z
+filled_up (a ∷ []) n e = let z : n ≡ 1 = omega arith in rw z
+filled_up (a ∷ b ∷ []) n e = let z : n ≡ 2 = omega arith in rw z
+filled_up (a ∷ b ∷ c ∷ []) n e = let z : n ≡ 3 = omega arith in rw z
+filled_up (a ∷ b ∷ c ∷ d ∷ []) n e = let z : n ≡ 4 = omega arith in rw z
+filled_up (a ∷ b ∷ c ∷ d ∷ f ∷ x) n e = let z : n ≡ 5 = omega arith in rw z

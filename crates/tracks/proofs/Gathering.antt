@@ -1,7 +1,7 @@
 -- The events of Eventi's children one after the other: a tally and two buffers that each child moves on, and the children ahead worded as their names say.
 use Prim.Native.Nat.{ℕ, suc, ◌+◌}
 use mathlib.Core.Path.{◌≡◌, refl, sym, ap, ◌∙◌, subst}
-use mathlib.Core.Bool.{Bool, true, false, cond, ◌||◌}
+use mathlib.Core.Bool.{Bool, true, false, cond, ◌||◌, or_assoc, or-false}
 use mathlib.Core.List.{List, [], ◌∷◌, map}
 use native.Mathlib.Numerals.{add-one}
 use native.Mathlib.Omega.{arith}
@@ -19,8 +19,8 @@ use Rattle.tracks.specs.RecordFields.{said_of, is_event, said_in}
 use Rattle.tracks.specs.Typed.{WordedByName}
 use Rattle.tracks.specs.View.{laid, IsEvents, told, happened_at, counted, kept, kept_beside}
 use Rattle.tracks.specs.declared.events.EventsRead.{EventsRead}
-use Rattle.tracks.specs.declared.events.Happened.{Happened}
-use Rattle.tracks.specs.declared.events.Happened.TheVariants as happened
+use Rattle.std.specs.Prelude.{Option, Some, None}
+use Rattle.tracks.specs.declared.events.EventRead.{EventRead}
 
 pub record Gathered : Type 0 where
   pub tally : EventsRead
@@ -41,28 +41,20 @@ pub gather_end : (r : EventsRead) (b v : List ℕ) → gather r b v [] ≡ gathe
 unfolding gather
 gather_end r b v = refl
 
-pub gather_on : (r : EventsRead) (b v : List ℕ) (t : Tree) {h : Happened} {m : EventsRead} {a u : List ℕ} (ts : List Tree) → h ≡ happened_at t → m ≡ counted h r → a ≡ kept h r.count b
+pub gather_on : (r : EventsRead) (b v : List ℕ) (t : Tree) {h : Option EventRead} {m : EventsRead} {a u : List ℕ} (ts : List Tree) → h ≡ happened_at t → m ≡ counted h r → a ≡ kept h r.count b
     → u ≡ kept_beside h r.count v → gather r b v (t ∷ ts) ≡ gather m a u ts
 unfolding gather
 gather_on r b v t ts e m a u = rw (← e, ← m, ← a, ← u)
 
 -- a buffer stays as long as it is
-pub kept-length : (h : Happened) (n : ℕ) (b : List ℕ) → (length (kept h n b) ≡ length b) × (length (kept_beside h n b) ≡ length b)
-kept-length (happened.Event w p q v) n b = (length-set b n w, length-set b n v)
-kept-length happened.Other n b = (refl, refl)
+pub kept-length : (h : Option EventRead) (n : ℕ) (b : List ℕ) → (length (kept h n b) ≡ length b) × (length (kept_beside h n b) ≡ length b)
+kept-length (Some e) n b = (length-set b n e.number, length-set b n e.evaluation)
+kept-length None n b = (refl, refl)
 
 -- numbers stored from place n on
 unfoldable stored : ℕ → List ℕ → List ℕ → List ℕ
 stored n b [] = b
 stored n b (e ∷ es) = stored (n + 1) (set b n e) es
-
-or_assoc : (a b c : Bool) → ((a || b) || c) ≡ (a || (b || c))
-or_assoc true b c = refl
-or_assoc false b c = refl
-
-pub or-false : (a : Bool) → (a || false) ≡ a
-or-false true = refl
-or-false false = refl
 
 same_tally : {n m : ℕ} {p q u w : Bool} (b v : List ℕ) → n ≡ m → p ≡ q → u ≡ w → gathered (tallied n p u) b v ≡ gathered (tallied m q w) b v
 same_tally b v e f g = rw (e, f, g)
@@ -89,10 +81,10 @@ gather_is r b v (t ∷ ts) = go (is_event t) (λ q c w. gather_is q c w ts)
     es = said_in ts
 
     go : (p : Bool) → ((q : EventsRead) (c w : List ℕ) → gather q c w ts ≡ sum q c w es)
-        → gather (counted (cond p (told e) happened.Other) r) (kept (cond p (told e) happened.Other) r.count b) (kept_beside (cond p (told e) happened.Other) r.count v) ts ≡ sum r b v (cond p (e ∷ es) es)
+        → gather (counted (cond p (Some (told e)) None) r) (kept (cond p (Some (told e)) None) r.count b) (kept_beside (cond p (Some (told e)) None) r.count v) ts ≡ sum r b v (cond p (e ∷ es) es)
     go true h =
         let k : r.count + 1 + length es ≡ r.count + suc (length es) = omega arith in
-        h (counted (told e) r) (set b r.count e.event) (set v r.count e.evaluation)
+        h (counted (Some (told e)) r) (set b r.count e.event) (set v r.count e.evaluation)
         ∙ same_tally (stored (r.count + 1) (set b r.count e.event) (numbers es)) (stored (r.count + 1) (set v r.count e.evaluation) (evaluations es)) k (or_assoc r.bad_conferma (bad_conferma e) (any bad_conferma es)) (or_assoc r.zero_prevalente (zero_written e) (any zero_written es))
     go false h = h r b v
 

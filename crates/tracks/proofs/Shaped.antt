@@ -5,12 +5,13 @@ use mathlib.Core.Bool.{Bool, true, false, cond}
 use mathlib.Core.List.{List, [], ◌∷◌}
 use native.Mathlib.Omega.{arith}
 use lib.Dec.{eqb}
-use lib.ListN.{length}
+use lib.ListN.{length, drop}
 use Rattle.laws.specs.Lists.{same, bytes}
 use Rattle.codes.specs.CodesAndCharacters.{alnums, id_chars}
 use Rattle.days.specs.Dates.{is_date}
 use Rattle.markup.specs.NamesAndValues.Read.{read}
 use Rattle.markup.specs.Elements.{Tree, element}
+use Rattle.reading.specs.Many.{below_root}
 use Rattle.schema.specs.Texts.{Texts, date, fits_text}
 use Rattle.schema.specs.Schema.{Attr, Particle, Node, leaf, group, Nodes, none, ◌▸◌}
 use Rattle.schema.specs.Shape.{fault_of}
@@ -26,6 +27,8 @@ use Rattle.schemas.specs.Track2
 use Rattle.tracks.specs.RecordFields.{◌▹◌}
 use Rattle.tracks.specs.Typed.{IsNumber}
 use Rattle.tracks.specs.View.{each_of}
+use Rattle.tracks.specs.Top.{OfShape}
+use Rattle.tracks.specs.declared.record.Top.{Top}
 use Rattle.tracks.proofs.Texts.{chars_fit, spelled, region_number, date_is}
 
 -- an element that was read, without a fault by its node
@@ -103,3 +106,6 @@ head_shaped track a d l m e f = go (eqb track 1) f
     go : (b : Bool) → fault_of (cond b Track1.assistenza Track2.assistenza) a ≡ 0 → HeadShaped a
     go true f = head_1 a (clean Track1.assistenza d l a m e f)
     go false f = head_2 a (clean Track2.assistenza d l a m e f)
+
+pub head_in : {track : ℕ} {s : List ℕ} {top : Top} {a : Tree} → OfShape track s top a → HeadShaped a
+head_in {track} {s} {a = a} x = head_shaped track a below_root (drop x.at s) x.tops.after x.tops.reads x.clean

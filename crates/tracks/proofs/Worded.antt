@@ -1,7 +1,7 @@
 -- An event whose node in the schema has the fields that its kind's wording names: ONE PROOF for every kind.
 use Prim.Native.Nat.{ℕ, ◌<◌}
 use mathlib.Core.Path.{◌≡◌, refl, sym}
-use mathlib.Core.Bool.{Bool, true, false, cond, ◌&&◌, ◌||◌, false≢true}
+use mathlib.Core.Bool.{Bool, true, false, cond, ◌&&◌, ◌||◌, false≢true, or-true}
 use mathlib.Core.List.{List, [], ◌∷◌}
 use native.Mathlib.Omega.{arith}
 use lib.Dec.{eqb, ltb, leb}
@@ -54,10 +54,6 @@ pub record Tells (w : Wording) (h : Particle) (ns : Nodes) : Type 0 where
   pub conferma : Field h.attrs true FieldTexts.conferma_precedente (eqb w.kind revaluation ≡ false) (w.kind ≡ revaluation) w.conferma
 
 -- ---- so its fields are of their types
-
-pub or-true : (a : Bool) → a || true ≡ true
-or-true true = refl
-or-true false = refl
 
 few_accesses : (n : ℕ) → in_ranges ((1 to 99) ∷ []) n ≡ true → leb n 99 ≡ true
 unfolding all

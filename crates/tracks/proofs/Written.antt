@@ -79,18 +79,18 @@ module _ (x : List ℕ) (p : DateParts x) {y m d : ℕ} (ey : y ≡ decimal (yea
 -- ---- an attribute whose name may be empty
 
 module _ (x : List ℕ) (t : Tree) where
-  pub nameless : length x ≡ 0 → (value_at x t ≡ []) × (stands_at x t ≡ false)
+  pub nameless : true ≡ eqb (length x) 0 → (value_at x t ≡ []) × (stands_at x t ≡ false)
   nameless e = go x e
     where
-      go : (y : List ℕ) → length y ≡ 0 → (value_at y t ≡ []) × (stands_at y t ≡ false)
+      go : (y : List ℕ) → true ≡ eqb (length y) 0 → (value_at y t ≡ []) × (stands_at y t ≡ false)
       go [] e = (refl, refl)
-      go (b ∷ y) e = absurd (omega arith)
+      go (b ∷ y) e = let z = eqb-true (length (b ∷ y)) 0 (sym e) in absurd (omega arith)
 
-  pub named : (length x ≡ 0 → ⊥) → (value_at x t ≡ attr_of x t) × (stands_at x t ≡ has_attr x t)
+  pub named : false ≡ eqb (length x) 0 → (value_at x t ≡ attr_of x t) × (stands_at x t ≡ has_attr x t)
   named h = go x h
     where
-      go : (y : List ℕ) → (length y ≡ 0 → ⊥) → (value_at y t ≡ attr_of y t) × (stands_at y t ≡ has_attr y t)
-      go [] h = absurd (h refl)
+      go : (y : List ℕ) → false ≡ eqb (length y) 0 → (value_at y t ≡ attr_of y t) × (stands_at y t ≡ has_attr y t)
+      go [] h = never cc
       go (b ∷ y) h = (refl, refl)
 
 -- ---- what is missing

@@ -3,6 +3,7 @@ use Rattle.std.specs.Prelude.{ℕ, Bool, true, false, cond, List, [], ◌∷◌}
 use Rattle.laws.specs.Lists.{same, bytes}
 use Rattle.codes.specs.CodesAndCharacters.{revaluation, service, suspension, conclusion}
 use Rattle.markup.specs.Elements.{Tree}
+use Rattle.tracks.specs.declared.wordings.Wording.{Wording as Held}
 use Rattle.nodes.specs.Lookup.{child_of, attr_of, has_attr, text_of}
 
 -- an event's element and the attributes of its fields; a code may be a child's text instead; a kind lacks the fields whose names are empty
@@ -58,3 +59,7 @@ text_at child x t = cond child (text_of (child_of x t)) (value_at x t)
 abbrev pub wording : (kind : ℕ) → (element date end : List ℕ) → (child : Bool) → (code accesses conferma : List ℕ) → Wording
 wording kind element date end child code accesses conferma =
     record { kind = kind; element = element; date = date; end = end; child = child; code = code; accesses = accesses; conferma = conferma }
+
+-- a wording as the code holds it
+abbrev pub worded_by : Held → Wording
+worded_by w = wording w.kind w.element.now w.date.now w.end.now w.child w.code.now w.accesses.now w.conferma.now

@@ -1,5 +1,5 @@
 -- What the code's answers say of a record of the file s.
-use Rattle.std.specs.Prelude.{ℕ, ◌+◌, ◌≡◌, cond, ◌||◌, List, ◌++◌, map, eqb, length, take, drop, set}
+use Rattle.std.specs.Prelude.{ℕ, ◌+◌, ◌≡◌, cond, ◌||◌, List, ◌++◌, Option, Some, None, map, eqb, length, take, drop, set}
 use Rattle.laws.specs.Lists.{any}
 use Rattle.markup.specs.Elements.{Tree}
 use Rattle.markup.specs.View.{part}
@@ -10,8 +10,7 @@ use Rattle.schemas.specs.Track1.{track1}
 use Rattle.schemas.specs.Track2.{track2}
 use Rattle.tracks.specs.RecordFields.{said_of, is_event}
 use Rattle.tracks.specs.declared.events.EventsRead.{EventsRead}
-use Rattle.tracks.specs.declared.events.Happened.{Happened}
-use Rattle.tracks.specs.declared.events.Happened.TheVariants as happened
+use Rattle.tracks.specs.declared.events.EventRead.{EventRead}
 use Rattle.tracks.specs.declared.record.HeadRead.{HeadRead}
 use Rattle.tracks.specs.declared.record.AdmissionRead.{AdmissionRead}
 
@@ -49,23 +48,24 @@ pub record IsEvents (r : EventsRead) (before after before-kept after_kept : List
   pub bad : r.bad_conferma ≡ any bad_conferma es
   pub zero : r.zero_prevalente ≡ any zero_written es
 
--- what the code tells of an event, of any child of Eventi
-abbrev pub told : Said → Happened
-told e = happened.Event e.event (bad_conferma e) (zero_written e) e.evaluation
+-- what the code tells of an event
+abbrev pub told : Said → EventRead
+told e = record { number = e.event; bad_conferma = bad_conferma e; zero_prevalente = zero_written e; evaluation = e.evaluation }
 
-unfoldable pub happened_at : Tree → Happened
-happened_at t = cond (is_event t) (told (said_of t)) happened.Other
+-- and of any child of Eventi
+unfoldable pub happened_at : Tree → Option EventRead
+happened_at t = cond (is_event t) (Some (told (said_of t))) None
 
 -- what the code has of the events after one more child, and the two buffers; past a buffer's end nothing is kept
-abbrev pub counted : Happened → EventsRead → EventsRead
-counted (happened.Event w b z v) r =
-    record { count = r.count + 1; bad_conferma = r.bad_conferma || b; zero_prevalente = r.zero_prevalente || z }
-counted happened.Other r = r
+abbrev pub counted : Option EventRead → EventsRead → EventsRead
+counted (Some e) r =
+    record { count = r.count + 1; bad_conferma = r.bad_conferma || e.bad_conferma; zero_prevalente = r.zero_prevalente || e.zero_prevalente }
+counted None r = r
 
-abbrev pub kept : Happened → ℕ → List ℕ → List ℕ
-kept (happened.Event w b z v) n out = set out n w
-kept happened.Other n out = out
+abbrev pub kept : Option EventRead → ℕ → List ℕ → List ℕ
+kept (Some e) n out = set out n e.number
+kept None n out = out
 
-abbrev pub kept_beside : Happened → ℕ → List ℕ → List ℕ
-kept_beside (happened.Event w b z v) n out = set out n v
-kept_beside happened.Other n out = out
+abbrev pub kept_beside : Option EventRead → ℕ → List ℕ → List ℕ
+kept_beside (Some e) n out = set out n e.evaluation
+kept_beside None n out = out

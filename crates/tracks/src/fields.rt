@@ -1,43 +1,40 @@
 // Numbers, dates and texts of an element's attributes and children. The whole file was held against its schema before any record is read (answer 6), so each text
 // is known to be of its type: what reads it requires that, and has no refusal to pass on.
-ghost use Rattle.std.specs.Prelude.{◌≡◌, true, cond, ◌<◌, length, drop, get_or};
+ghost use Rattle.std.specs.Prelude.{◌≡◌, true, false, cond, ◌<◌, [], length, drop, get_or, MatchOption};
 ghost use Rattle.laws.specs.Decimal.{decimal};
 ghost use Rattle.days.specs.DayNumbers.{day_count};
 ghost use Rattle.days.specs.Dates.{is_date, day_of};
-ghost use Rattle.days.specs.Table.{Firsts};
 ghost use Rattle.markup.specs.Elements.{Tree};
 ghost use Rattle.markup.specs.View.{part, held};
-ghost use Rattle.nodes.specs.Lookup.{child_of, attr_of, text_of};
+ghost use Rattle.nodes.specs.Lookup.{child_of, attr_of, has_attr, text_of};
 ghost use Rattle.nodes.specs.Stands.{Stands};
 ghost use Rattle.home_care.specs.Row.{never};
 ghost use Rattle.tracks.specs.EventElements.{value_at, stands_at, text_at};
 ghost use Rattle.tracks.specs.Typed.{Found, IsNumber};
 
 use days::calendar::day_number;
+use days::table::Table;
 use home_care::layout::NEVER;
 use markup::bytes::part;
 use nodes::children::child;
 use nodes::values::{attribute, text};
-use nodes::{Node, Span, Value};
+use nodes::{Node, Span};
 
 // The number that digits write.
 fn number(x: &[u8]) -> u64
     requires { IsNumber x.now }
     ensures { result ≡ decimal x.now }
 {
-    let mut n: u64 = 0;
-    let mut i = 0;
-    while i < x.len() {
-        let b = x[i];
-        n = n * 10 + (b - b'0') as u64;
-        i += 1;
+    let mut n = 0;
+    for b in x {
+        n = n * 10 + u64::from(*b - b'0');
     }
     n
 }
 
 // The day of a date.
-fn day_of(t: &[u32; 2400], x: &[u8]) -> u64
-    requires { Firsts t.now × (is_date x.now ≡ true) }
+fn day_of(t: &Table, x: &[u8]) -> u64
+    requires { is_date x.now ≡ true }
     ensures { (result ≡ day_of x.now) × (result < day_count) }
 {
     let year = number(&x[0..4]) as u32;
@@ -46,36 +43,40 @@ fn day_of(t: &[u32; 2400], x: &[u8]) -> u64
     day_number(t, year, month, day) as u64
 }
 
-// The value of an attribute; of one that is missing it is empty.
-fn attr_text(s: &[u8], n: Node, x: &[u8]) -> Span
-    ensures { (tree : Tree) → Stands n.levels (drop n.at s.now) tree → part s.now result.start result.end ≡ attr_of x.now tree }
+// The value of an attribute, where it stands.
+fn attr<'a>(s: &'a [u8], n: Node, x: &[u8]) -> Option<&'a [u8]>
+    ensures { (tree : Tree) → Stands n.levels (drop n.at s.now) tree → MatchOption result ((attr_of x.now tree ≡ []) × (has_attr x.now tree ≡ false)) (λ v. (v.now ≡ attr_of x.now tree) × (has_attr x.now tree ≡ true)) }
 {
-    match attribute(s, n, x) {
-        Value::Missing => Span { start: 0, end: 0 },
-        Value::Text { start, end } => Span { start, end },
-    }
+    let v = attribute(s, n, x)?;
+    Some(part(s, v.start, v.end))
+}
+
+// The text of an attribute; of one that is missing it is empty.
+fn attr_text<'a>(s: &'a [u8], n: Node, x: &[u8]) -> &'a [u8]
+    ensures { (tree : Tree) → Stands n.levels (drop n.at s.now) tree → result.now ≡ attr_of x.now tree }
+{
+    attr(s, n, x).unwrap_or(b"")
 }
 
 // The day of an attribute.
-pub fn attr_day(t: &[u32; 2400], s: &[u8], n: Node, x: &[u8]) -> u64
-    requires { Firsts t.now × Found s.now n (λ tree. is_date (attr_of x.now tree) ≡ true) }
+pub fn attr_day(t: &Table, s: &[u8], n: Node, x: &[u8]) -> u64
+    requires { Found s.now n (λ tree. is_date (attr_of x.now tree) ≡ true) }
     ensures { ((tree : Tree) → Stands n.levels (drop n.at s.now) tree → result ≡ day_of (attr_of x.now tree)) × (result < day_count) }
 {
-    let v = attr_text(s, n, x);
-    day_of(t, part(s, v.start, v.end))
+    day_of(t, attr_text(s, n, x))
 }
 
 // The day of an attribute that may be missing, as it is where the name is empty.
-pub fn attr_end(t: &[u32; 2400], s: &[u8], n: Node, x: &[u8]) -> u64
-    requires { Firsts t.now × Found s.now n (λ tree. stands_at x.now tree ≡ true → is_date (value_at x.now tree) ≡ true) }
+pub fn attr_end(t: &Table, s: &[u8], n: Node, x: &[u8]) -> u64
+    requires { Found s.now n (λ tree. stands_at x.now tree ≡ true → is_date (value_at x.now tree) ≡ true) }
     ensures { (tree : Tree) → Stands n.levels (drop n.at s.now) tree → result ≡ cond (stands_at x.now tree) (day_of (value_at x.now tree)) never }
 {
-    if x.len() == 0 {
+    if x.is_empty() {
         return NEVER;
     }
-    match attribute(s, n, x) {
-        Value::Missing => NEVER,
-        Value::Text { start, end } => day_of(t, part(s, start, end)),
+    match attr(s, n, x) {
+        Some(v) => day_of(t, v),
+        None => NEVER,
     }
 }
 
@@ -84,13 +85,10 @@ pub fn attr_number(s: &[u8], n: Node, x: &[u8]) -> u64
     requires { Found s.now n (λ tree. IsNumber (value_at x.now tree)) }
     ensures { (tree : Tree) → Stands n.levels (drop n.at s.now) tree → result ≡ decimal (value_at x.now tree) }
 {
-    if x.len() == 0 {
+    if x.is_empty() {
         return 0;
     }
-    match attribute(s, n, x) {
-        Value::Missing => 0,
-        Value::Text { start, end } => number(part(s, start, end)),
-    }
+    number(attr_text(s, n, x))
 }
 
 // The first byte of an attribute's value.
@@ -98,9 +96,7 @@ pub fn attr_byte(s: &[u8], n: Node, x: &[u8]) -> u8
     requires { Found s.now n (λ tree. 0 < length (attr_of x.now tree)) }
     ensures { (tree : Tree) → Stands n.levels (drop n.at s.now) tree → result ≡ get_or (attr_of x.now tree) 0 0 }
 {
-    let v = attr_text(s, n, x);
-    let b = part(s, v.start, v.end);
-    b[0]
+    attr_text(s, n, x)[0]
 }
 
 // The text of a child.

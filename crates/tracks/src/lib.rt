@@ -5,3 +5,4 @@ pub mod events;
 pub mod fields;
 pub mod record;
 pub mod shapes;
+pub mod wordings;

@@ -1,8 +1,7 @@
 // A record's children and its end, its head, and a record of Track 1.
-ghost use Rattle.std.specs.Prelude.{◌≡◌, List, ℕ, ◌≤◌, ◌<◌, drop};
+ghost use Rattle.std.specs.Prelude.{◌≡◌, List, ℕ, ◌≤◌, ◌<◌, IfSome, drop};
 ghost use Rattle.laws.specs.Decimal.{decimal};
 ghost use Rattle.days.specs.DayNumbers.{day_count};
-ghost use Rattle.days.specs.Table.{Firsts};
 ghost use Rattle.markup.specs.NamesAndValues.Read.{read};
 ghost use Rattle.markup.specs.Elements.{Tree, element};
 ghost use Rattle.markup.specs.View.{part, view_move, ok_move, left};
@@ -17,12 +16,13 @@ ghost use Rattle.tracks.specs.Top.{TopOf, OfShape};
 ghost use Rattle.tracks.specs.View.{IsHead, IsAdmission};
 
 use crate::fields::{attr_byte, attr_day, child_number, child_text, text_number};
-use markup::Move;
+use days::table::Table;
+use markup::Cursor;
 use markup::bytes::{part, peek};
 use nodes::children::child;
-use nodes::several::{several, walk};
+use nodes::several::walk;
 use nodes::values::text;
-use nodes::{Node, Six, Span, Walked};
+use nodes::{Node, Span};
 use reading::skips::{past, skip};
 
 // The type, and the case's key: ASL's 3 bytes and Id_Rec's 88 by their places.
@@ -47,44 +47,66 @@ pub struct AdmissionRead {
     pub stato: Span,
 }
 
+// The children of a record that its fields are read from.
+#[derive(Clone, Copy)]
+pub struct Top {
+    pub transmission: Node,
+    pub patient: Node,
+    pub provider: Node,
+    pub events: Node,
+}
+
+// These, and the place inside the record where the walk ended, if anything stands in it.
+#[derive(Clone, Copy)]
+pub struct TopFound {
+    pub found: Top,
+    pub rest: Option<usize>,
+}
+
 // The children of the record at a place that its fields are read from, in one walk.
-pub fn top_of(s: &[u8], at: usize) -> Walked
-    ensures { ((a : Tree) (m : List ℕ) → element below_root (drop at s.now) ≡ read a m → TopOf s.now at a result.found × Unfinished s.now result.rest m) × (0 < result.rest → at ≤ result.rest) }
+pub fn top_of(s: &[u8], at: usize) -> TopFound
+    ensures { ((a : Tree) (m : List ℕ) → element below_root (drop at s.now) ≡ read a m → TopOf s.now at a result.found × Unfinished s.now result.rest m) × IfSome result.rest (λ p. at ≤ p) }
 {
-    walk(
+    let node = Node { at, levels: 11 };
+    let walked = walk::<4>(
         s,
-        Node { at, levels: 11 },
-        b"Trasmissione",
-        b"Assistito",
-        b"Erogatore",
-        b"Eventi",
-        b"Eventi",
-        b"Eventi",
-    )
+        node,
+        &[b"Trasmissione", b"Assistito", b"Erogatore", b"Eventi"],
+    );
+    let [transmission, patient, provider, events] = walked.found;
+    TopFound {
+        found: Top {
+            transmission,
+            patient,
+            provider,
+            events,
+        },
+        rest: walked.rest,
+    }
 }
 
 // The place past the record at a place, from the place where its walk ended on.
-pub fn record_end(s: &[u8], at: usize, rest: usize) -> Move
-    requires { 0 < rest → at ≤ rest }
+pub fn record_end(s: &[u8], at: usize, rest: Option<usize>) -> Option<Cursor>
+    requires { IfSome rest (λ p. at ≤ p) }
     ensures { ((a : Tree) (m : List ℕ) → element below_root (drop at s.now) ≡ read a m → Unfinished s.now rest m → view_move s.now result ≡ left (element below_root (drop at s.now))) × ok_move s.now at result }
 {
-    if rest == 0 {
+    let Some(place) = rest else {
         return skip(s, at);
-    }
-    past(s, rest)
+    };
+    past(s, place)
 }
 
 // The head of a record.
-pub fn head(t: &[u32; 2400], s: &[u8], top: Six) -> HeadRead
-    requires { Firsts t.now × ((track : ℕ) × (a : Tree) × OfShape track s.now top a) }
+pub fn head(t: &Table, s: &[u8], top: Top) -> HeadRead
+    requires { (track : ℕ) × (a : Tree) × OfShape track s.now top a }
     ensures { ((track : ℕ) (a : Tree) → OfShape track s.now top a → IsHead s.now result (head_of a)) × (result.day < day_count) }
 {
-    let taken = child(s, top.d, b"PresaInCarico");
-    let asl = child_text(s, top.c, b"CodiceASL");
+    let taken = child(s, top.events, b"PresaInCarico");
+    let asl = child_text(s, top.provider, b"CodiceASL");
     let id = child_text(s, taken, b"Id_Rec");
     HeadRead {
-        tipo: attr_byte(s, top.a, b"tipo"),
-        region: child_number(s, top.c, b"CodiceRegione"),
+        tipo: attr_byte(s, top.transmission, b"tipo"),
+        region: child_number(s, top.provider, b"CodiceRegione"),
         asl: asl.start,
         day: attr_day(t, s, taken, b"data"),
         id: id.start,
@@ -95,7 +117,10 @@ pub fn head(t: &[u32; 2400], s: &[u8], top: Six) -> HeadRead
 pub fn filled(x: &[u8]) -> [u8; 5]
     ensures { result ≡ padded x.now }
 {
-    [peek(x, 0), peek(x, 1), peek(x, 2), peek(x, 3), peek(x, 4)]
+    let n = x.len().min(5);
+    let mut out = [0; 5];
+    out[..n].copy_from_slice(&x[..n]);
+    out
 }
 
 // A scale from 1 to 3, and 0 where it is missing.
@@ -120,74 +145,56 @@ pub fn valued(s: &[u8], value: Node) -> ValueRead
     requires { Found s.now value Scaled }
     ensures { (tree : Tree) → Stands value.levels (drop value.at s.now) tree → (part s.now result.main.start result.main.end ≡ main_of tree) × (result.scales ≡ scales_of tree) }
 {
-    let v = several(
+    let [illness, autonomy, mobility, troubles, support, infection] = walk::<6>(
         s,
         value,
-        b"Patologia",
-        b"Autonomia",
-        b"GradoMobilita",
-        b"Disturbi",
-        b"SupportoSociale",
-        b"RischioInfettivo",
-    );
-    let main = child_text(s, v.a, b"Prevalente");
-    let troubles = v.d;
+        &[
+            b"Patologia",
+            b"Autonomia",
+            b"GradoMobilita",
+            b"Disturbi",
+            b"SupportoSociale",
+            b"RischioInfettivo",
+        ],
+    )
+    .found;
     let cognitive = child(s, troubles, b"Cognitivi");
     let behaviour = child(s, troubles, b"Comportamentali");
     ValueRead {
-        main,
+        main: child_text(s, illness, b"Prevalente"),
         scales: [
-            scale(s, v.b),
-            scale(s, v.c),
+            scale(s, autonomy),
+            scale(s, mobility),
             scale(s, cognitive),
             scale(s, behaviour),
-            scale(s, v.e),
-            scale(s, v.f),
+            scale(s, support),
+            scale(s, infection),
         ],
     }
 }
 
 // The case and the residence of a record.
-pub fn admission(s: &[u8], top: Six) -> AdmissionRead
+pub fn admission(s: &[u8], top: Top) -> AdmissionRead
     requires { (a : Tree) × OfShape 1 s.now top a }
     ensures { (a : Tree) → OfShape 1 s.now top a → IsAdmission s.now result (admission_of a) }
 {
-    let person = child(s, top.b, b"DatiAnagrafici");
-    let p = several(
+    let person = child(s, top.patient, b"DatiAnagrafici");
+    let [birth, home] = walk::<2>(s, person, &[b"AnnoNascita", b"Residenza"]).found;
+    let [region, asl, comune, stato] = walk::<4>(
         s,
-        person,
-        b"AnnoNascita",
-        b"Residenza",
-        b"Residenza",
-        b"Residenza",
-        b"Residenza",
-        b"Residenza",
-    );
-    let home = several(
-        s,
-        p.b,
-        b"Regione",
-        b"ASL",
-        b"Comune",
-        b"StatoEstero",
-        b"StatoEstero",
-        b"StatoEstero",
-    );
-    let v = valued(s, child(s, top.d, b"Valutazione"));
-    let main = v.main;
-    let prevalente = filled(part(s, main.start, main.end));
-    let scales = v.scales;
-    let region = text(s, home.a);
-    let asl = text(s, home.b);
-    let comune = text(s, home.c);
-    let stato = text(s, home.d);
+        home,
+        &[b"Regione", b"ASL", b"Comune", b"StatoEstero"],
+    ).found;
+    let value = valued(s, child(s, top.events, b"Valutazione"));
+    let prevalente = filled(part(s, value.main.start, value.main.end));
+    let scales = value.scales;
     AdmissionRead {
-        birth: text_number(s, p.a),
+        birth: text_number(s, birth),
         prevalente,
         scales,
-        region,
-        asl,
-        comune,
-        stato,
+        region: text(s, region),
+        asl: text(s, asl),
+        comune: text(s, comune),
+        stato: text(s, stato),
     }
 }

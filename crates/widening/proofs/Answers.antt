@@ -1,11 +1,11 @@
 -- Each answer of a conversion (RULES.md, T1 to T5), from what its tests tell, and what 0 tells.
 use Prim.Native.Nat.{ℕ, ◌+◌, ◌*◌, ◌≤◌, ◌<◌}
-use mathlib.Core.Path.{◌≡◌, refl, sym, ap, ap₂, subst, ◌∙◌}
+use mathlib.Core.Path.{◌≡◌, refl, sym, ap, ap₂, subst}
 use mathlib.Core.Bool.{Bool, true, false, not, cond, ◌||◌}
 use mathlib.Core.List.{List}
 use lib.Dec.{ltb}
 use lib.ListN.{length}
-use borrow.Author.Tests.{ltb-false, lt-ltb, le-ltb, not-true, not-false}
+use borrow.Author.Tests.{ltb-false, lt-ltb, le-ltb}
 use Rattle.laws.proofs.Truth.{or_left, or_right}
 use Rattle.register.specs.Layout.{row_at}
 use Rattle.register.specs.RoomAndEmptying.{room}
@@ -42,13 +42,10 @@ module _ (old new : List ℕ) where
   says : (c : Conversion) → converted old new ≡ c → Says c.answer c.register
   says c e = (ap (λ (x : Conversion). x.answer) (sym e), ap (λ (x : Conversion). x.register) (sym e))
 
-  pub not_sound : (b : Bool) → b ≡ is_sound_wide old_bytes old → not b ≡ true → Says 3 new
-  not_sound b e h = says (by_tests false short_for) (is_by false short_for (sym e ∙ not-true b h) refl)
+  pub not_sound : is_sound_wide old_bytes old ≡ false → Says 3 new
+  not_sound e = says (by_tests false short_for) (is_by false short_for e refl)
 
-  module _ (b : Bool) (e : b ≡ is_sound_wide old_bytes old) (h : not b ≡ false) where
-    sound : is_sound_wide old_bytes old ≡ true
-    sound = sym e ∙ not-false b h
-
+  module _ (sound : is_sound_wide old_bytes old ≡ true) where
     pub sound_long : 4 ≤ length old
     sound_long = (wide_told old_bytes old sound).long
 

@@ -78,29 +78,22 @@ row_put part row q z lp lr e f =
 
 -- ---- the turns
 
--- after i rows: the counts and these rows stand, in as many bytes as there were
-pub record RowsLaid (old new₀ new : List ℕ) (i rows : ℕ) : Type 0 where
-  pub long : length new ≡ length new₀
-  pub some : i ≤ rows
-  pub front : take (row_at siad i) new ≡ take 4 old ++ widened old 0 i
+-- after i rows the counts and these rows stand
+abbrev pub RowsLaid : (old new : List ℕ) → ℕ → Type 0
+RowsLaid old new i = take (row_at siad i) new ≡ take 4 old ++ widened old 0 i
 
 module _ (old : List ℕ) (rows : ℕ) (fits : 4 + old_bytes * rows ≤ length old) where
-  counts_long : length (take 4 old) ≡ 4
+  pub counts_long : length (take 4 old) ≡ 4
   counts_long = length-take-le 4 old (omega arith)
 
-  pub laid_none : (new p : List ℕ) → p ≡ take 4 old ++ drop (length (take 4 old)) new → RowsLaid old p p 0 rows
+  pub laid_none : (new counts : List ℕ) → counts ≡ take 4 old → RowsLaid old (counts ++ drop 4 new) 0
   unfolding widened
-  laid_none new p e =
-      record {
-        long = refl;
-        some = omega arith;
-        front = ap (take 4) e ∙ take_at (take 4 old) (drop (length (take 4 old)) new) 4 counts_long ∙ sym (append-nil (take 4 old));
-      }
+  laid_none new counts e = take_at counts (drop 4 new) 4 (ap length e ∙ counts_long) ∙ e ∙ sym (append-nil (take 4 old))
 
-  module _ (new₀ new part : List ℕ) (i : ℕ) (h : RowsLaid old new₀ new i rows) where
+  module _ (new part : List ℕ) (i : ℕ) (h : RowsLaid old new i) where
     -- a row more
     pub laid_next : i < rows → row_at siad (i + 1) ≤ length new → part ≡ wide_bytes old i →
-        RowsLaid old new₀ (put_mid (row_at siad i) (row_at siad i + row_bytes - row_at siad i) new part) (i + 1) rows
+        RowsLaid old (put_mid (row_at siad i) (row_at siad i + row_bytes - row_at siad i) new part) (i + 1)
     laid_next g r e =
         let k : ℕ = row_at siad i + row_bytes - row_at siad i in
         let x : List ℕ = take (row_at siad i) new in
@@ -108,26 +101,18 @@ module _ (old : List ℕ) (rows : ℕ) (fits : 4 + old_bytes * rows ≤ length o
         let lx : length x ≡ row_at siad i = length-take-le (row_at siad i) new (omega arith) in
         let lb : length (bytes_at old_bytes old i) ≡ old_bytes = bytes_long old i (omega arith) in
         let lp : length part ≡ row_bytes = ap length e ∙ length-append (bytes_at old_bytes old i) behind ∙ omega arith in
-        let ly : length y ≡ length new - row_at siad i - k = length-drop k (drop (row_at siad i) new) ∙ ap (λ (n : ℕ). n - k) (length-drop (row_at siad i) new) in
-        let s : length (x ++ (part ++ y)) ≡ length new = length-append x (part ++ y) ∙ omega (arith, length-append part y) in
         let b : length (x ++ part) ≡ row_at siad (i + 1) = length-append x part ∙ omega arith in
-        record {
-          long = s ∙ h.long;
-          some = omega arith;
-          front = ap (take (row_at siad (i + 1))) (sym (append_assoc x part y)) ∙ take_at (x ++ part) y (row_at siad (i + 1)) b
-              ∙ ap₂ (λ (u v : List ℕ). u ++ v) h.front e ∙ append_assoc (take 4 old) (widened old 0 i) (wide_bytes old i)
-              ∙ ap (λ (u : List ℕ). take 4 old ++ u) (sym (widened_next old i));
-        }
+        ap (take (row_at siad (i + 1))) (sym (append_assoc x part y)) ∙ take_at (x ++ part) y (row_at siad (i + 1)) b
+        ∙ ap₂ (λ (u v : List ℕ). u ++ v) h e ∙ append_assoc (take 4 old) (widened old 0 i) (wide_bytes old i)
+        ∙ ap (λ (u : List ℕ). take 4 old ++ u) (sym (widened_next old i))
 
     -- all rows, and zeros behind them in the n bytes that there are
-    pub laid_all : (n : ℕ) → length new₀ ≡ n → row_at siad rows ≤ n → rows ≡ rows_held old → rows ≤ i →
+    pub laid_all : (n : ℕ) → length new ≡ n → row_at siad rows ≤ n → rows ≡ rows_held old → i ≡ rows →
         part ≡ replicate (length (take (length new - row_at siad rows) (drop (row_at siad rows) new))) 0 →
         put_mid (row_at siad rows) (length new - row_at siad rows) new part ≡ in_bytes n old
-    laid_all n e r m g z =
-        let all : i ≡ rows = omega arith in
-        let long : length new ≡ n = h.long ∙ e in
+    laid_all n long r m all z =
         cleared new part (row_at siad rows) (omega arith) z
-        ∙ ap₂ (λ (u : List ℕ) (k : ℕ). u ++ replicate {A = ℕ} (k - row_at siad rows) 0) (ap (λ (j : ℕ). take (row_at siad j) new) (sym all) ∙ h.front) long
+        ∙ ap₂ (λ (u : List ℕ) (k : ℕ). u ++ replicate {A = ℕ} (k - row_at siad rows) 0) (ap (λ (j : ℕ). take (row_at siad j) new) (sym all) ∙ h) long
         ∙ ap (λ (j : ℕ). (take 4 old ++ widened old 0 j) ++ replicate {A = ℕ} (n - row_at siad rows) 0) (all ∙ m)
         ∙ append_assoc (take 4 old) (widened old 0 (rows_held old)) (replicate (n - row_at siad rows) 0)
         ∙ ap (λ (j : ℕ). take 4 old ++ (widened old 0 (rows_held old) ++ replicate {A = ℕ} (n - row_at siad j) 0)) m

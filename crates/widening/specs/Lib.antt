@@ -1,2 +1,3 @@
 pub mod Converted
 pub mod Widened
+pub mod View

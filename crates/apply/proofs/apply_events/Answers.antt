@@ -10,18 +10,18 @@ returns-then-inserts c =
     let a = c.args in
     let b = c.insert_events.new.reg in
     let k = probe_key row_bytes key_bits a.probe.now in
-    (events_applied a.reg.now b a.tipo k a.evs.now a.kept.now c.requires.2 (done_in k a.evs.now a.kept.now a.reg.now b (type_of a.tipo) (sym c.inserts.ensures ∙ c.if-inserts.true) c.insert_events.ensures), c.insert_events.auto.reg)
+    (events_applied a.reg.now b a.tipo k a.said.now.evs.now a.said.now.kept.now a.said.now.evaluations_fit (done_in k a.said.now.evs.now a.said.now.kept.now a.reg.now b (type_of a.tipo) (sym c.inserts.ensures ∙ c.if-inserts.true) (rw c.key_in.ensures at c.insert_events.ensures)), c.insert_events.auto.reg)
 
 pub returns-then-cancels : goal.returns-then-cancels
 returns-then-cancels c =
     let a = c.args in
     let b = c.cancel_events.new.reg in
     let k = probe_key row_bytes key_bits a.probe.now in
-    (events_applied a.reg.now b a.tipo k a.evs.now a.kept.now c.requires.2 (done_out k a.evs.now a.kept.now a.reg.now b (type_of a.tipo) (sym c.cancels.ensures ∙ c.if-cancels.true) c.cancel_events.ensures), c.cancel_events.auto.reg)
+    (events_applied a.reg.now b a.tipo k a.said.now.evs.now a.said.now.kept.now a.said.now.evaluations_fit (done_out k a.said.now.evs.now a.said.now.kept.now a.reg.now b (type_of a.tipo) (sym c.cancels.ensures ∙ c.if-cancels.true) c.cancel_events.ensures), c.cancel_events.auto.reg)
 
 pub returns : goal.returns
 returns c =
     let a = c.args in
     let b = c.vary_events.new.reg in
     let k = probe_key row_bytes key_bits a.probe.now in
-    (events_applied a.reg.now b a.tipo k a.evs.now a.kept.now c.requires.2 (done_over k a.evs.now a.kept.now a.reg.now b (type_of a.tipo) (sym c.inserts.ensures ∙ c.if-inserts.false) (sym c.cancels.ensures ∙ c.if-cancels.false) c.vary_events.ensures), c.vary_events.auto.reg)
+    (events_applied a.reg.now b a.tipo k a.said.now.evs.now a.said.now.kept.now a.said.now.evaluations_fit (done_over k a.said.now.evs.now a.said.now.kept.now a.reg.now b (type_of a.tipo) (sym c.inserts.ensures ∙ c.if-inserts.false) (sym c.cancels.ensures ∙ c.if-cancels.false) (rw c.key_in-2.ensures at c.vary_events.ensures)), c.vary_events.auto.reg)

@@ -38,10 +38,10 @@ returns-then-not-storable c = (
   λ e. absurd (true≢false (sym e)),
 )
 
-pub apply_events-requires : goal.apply_events-requires
-apply_events-requires c =
+pub invariant_of-said : goal.invariant_of-said
+invariant_of-said c =
     let p = parts c.args.evs.now c.args.kept.now (sym c.storable.ensures ∙ c.if-not-storable.false) in
-    (c.if-probe-ne-ROW.false, p.0, p.1, p.2)
+    record { events_fit = p.0; evaluations_fit = p.1; beside = p.2 }
 
 pub returns : goal.returns
 returns c = (

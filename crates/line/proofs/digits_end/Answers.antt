@@ -1,16 +1,13 @@
-use mathlib.Core.Path.{sym, ◌∙◌}
-use native.Mathlib.Omega.{arith}
+use Rattle.std.proofs.Common.{not, ap, ◌+◌, ℕ, rules, tests}
+use Rattle.std.proofs.lemmas.Iterator.{YieldsList-from_slice}
+use Rattle.std.proofs.lemmas.Iterator.Search.{position_from_yields_List}
 use Rattle.laws.specs.Decimal.{is_digit}
-use Rattle.markup.proofs.AtBytes.{run_yes, run_no, run_end}
+use Rattle.line.proofs.Reading.{run_by_position, part_on}
 use Rattle.line.proofs.digits_end.Goals as goal
 
-pub returns-then-not-is_digit : goal.returns-then-not-is_digit
-returns-then-not-is_digit c =
-    omega (arith, run_no is_digit c.args.s.now c.loop-at.at c.loop-at-test.true (sym c.is_digit.ensures ∙ c.if-not-is_digit.true))
-
-pub loop-at-preserved : goal.loop-at-preserved
-loop-at-preserved c =
-    omega (arith, run_yes is_digit c.args.s.now c.loop-at.at c.loop-at-test.true (sym c.is_digit.ensures ∙ c.if-not-is_digit.false))
-
 pub returns : goal.returns
-returns c = omega (arith, run_end is_digit c.args.s.now c.loop-at.at c.loop-at-test.false)
+returns c =
+    let rest = c.part-rest.result.now in
+    let found = position_from_yields_List (λ b. not (is_digit b)) _ _ c.position.result c.position.ensures.ran (YieldsList-from_slice rest cc) (λ x b q k. search (rules, tests)) in
+    let n = run_by_position is_digit rest found c.unwrap_or.ensures in
+    ap (λ (k : ℕ). c.args.from + k) (rw (c.part-rest.ensures, part_on c.args.s.now c.args.from) at n)

@@ -18,6 +18,6 @@ returns-then-peek-mark c =
 pub returns : goal.returns
 returns c =
     let m = sym c.peek.ensures ∙ c.if-peek-mark.false in
-    let v = c.read_digits-read.ensures.0 ∙ ap (λ x. up_to 9999 (decimal x)) c.part.ensures in
+    let v = c.read_digits-value.ensures.0 ∙ ap (λ x. up_to 9999 (decimal x)) c.part.ensures in
     let l = mark_inside c.args.s.now _ c.args.mark c.requires m in
     (number_is c.args.s.now c.args.from _ c.args.mark c.digits_end-end.ensures c.if-end-from.false c.if-end-from-gt4.false m v, (value_below _ v, omega arith, omega arith))

@@ -1,34 +1,23 @@
-use Prim.Native.Nat.{ℕ}
-use mathlib.Core.Path.{◌≡◌, ap, sym, ◌∙◌}
-use lib.ListN.{take}
-use lib.Seq.{take_all}
+use Rattle.std.proofs.Common.{◌≤◌, ℕ, length, take, ap, refl, ◌∙◌, arith}
+use Rattle.std.proofs.lemmas.List.{length-take, take_min}
+use Rattle.std.proofs.Math.Seq.{take_all}
+use Rattle.lines.specs.Lines.{answer_bytes}
 use Rattle.lines.proofs.LineLaws.{lines_none, lines_next, lines_end}
-use native.Mathlib.Omega.{arith}
 use Rattle.lines.proofs.record_lines.Goals as goal
 
 pub loop-i-init : goal.loop-i-init
-loop-i-init c = (omega arith, omega arith, lines_none c.args.at c.args.answers.now c.args.out.now)
-
-pub shape_of-out-then-records-i : goal.shape_of-out-then-records-i
-shape_of-out-then-records-i c = c.loop-i.invariant.2.put.long
-
-pub returns-then-records-i : goal.returns-then-records-i
-returns-then-records-i c =
-    let e : c.loop-i.i ≡ c.args.records = omega arith in
-    lines_end c.args.answers.now c.requires c.loop-i.invariant.2 c.args.records c.loop-i.invariant.0 (ap (λ (k : ℕ). take k c.args.answers.now) e)
+loop-i-init c = lines_none c.args.at (take c.min.result c.args.answers.now) c.args.out.now
 
 pub loop-i-preserved : goal.loop-i-preserved
-loop-i-preserved c = (
-  omega arith,
-  omega arith,
-  lines_next c.args.answers.now c.requires c.loop-i.invariant.2 c.loop-i-test.true c.wide-answer.ensures.0 c.wide-answer.ensures.1 c.record_line-next.ensures,
-)
-
-pub shape_of-out : goal.shape_of-out
-shape_of-out c = c.loop-i.invariant.2.put.long
+loop-i-preserved c =
+    let told = take c.min.result c.args.answers.now in
+    let few : length told ≤ answer_bytes = omega (arith, length-take c.min.result c.args.answers.now) in
+    lines_next told few c.loop-i.invariant c.loop-i-test.true refl (omega arith) c.record_line-next.ensures
 
 pub returns : goal.returns
 returns c =
-    let e : take c.loop-i.i c.args.answers.now ≡ take c.args.records c.args.answers.now
-    = take_all c.loop-i.i c.args.answers.now c.loop-i-test.false ∙ sym (take_all c.args.records c.args.answers.now (omega arith)) in
-    lines_end c.args.answers.now c.requires c.loop-i.invariant.2 c.args.records c.loop-i.invariant.0 e
+    let answers = c.args.answers.now in
+    let told = take c.min.result answers in
+    let few : length told ≤ answer_bytes = omega (arith, length-take c.min.result answers) in
+    let all = take_all c.loop-i.i told c.loop-i-test.false ∙ ap (λ (n : ℕ). take n answers) c.min.ensures ∙ take_min c.args.records answers in
+    lines_end told few c.loop-i.invariant c.loop-i.auto.i-end all

@@ -22,6 +22,6 @@ loop-preserved g c =
     let before = c.loop.invariant in
     record {
       within = read.fits;
-      one_each = omega (arith, before.one_each, c.if-n-eq0.false);
+      one_each = omega arith;
       given = grown _ _ _ c.loop.buf c.read_more.new.buf c.loop.done c.in_ok-n.n read.front before.given read.bytes;
     }

@@ -1,4 +1,3 @@
-use lib.ListN.{length-set}
 use Rattle.text.proofs.SpelledLaws.{spell_start, spell_room, spell_on, spell_end}
 use borrow.Author.Rules.{rules}
 use native.Mathlib.Omega.{arith}
@@ -12,9 +11,6 @@ overflow_sub-at c = let l = spell_room c.loop-rest.invariant c.loop-rest-test.tr
 
 pub loop-rest-preserved : goal.loop-rest-preserved
 loop-rest-preserved c = spell_on c.loop-rest.invariant c.loop-rest-test.true c.digit.ensures
-
-pub shape_of-text : goal.shape_of-text
-shape_of-text c = simp length-set (omega (arith, c.loop-rest.invariant.long, c.requires))
 
 pub returns : goal.returns
 returns c =

@@ -1,5 +1,3 @@
-use Prim.Native.Nat.{◌-◌}
-use lib.ListN.{length}
 use Rattle.register.specs.Search.{probe_key}
 use Rattle.home_care.specs.Row.{row_bytes, key_bits}
 use Rattle.apply.proofs.Emptying.{Emptying}
@@ -7,6 +5,3 @@ use Rattle.apply.proofs.cancel.cancel_events.Given as goal
 
 abbrev pub invariant-loop-j : goal.invariant-loop-j
 invariant-loop-j l = Emptying l.initial.reg (probe_key row_bytes key_bits l.probe) l.evs l.c l.n l.lo l.reg l.i l.j l.bound
-
-abbrev pub decreases-loop-j : goal.decreases-loop-j
-decreases-loop-j l = length l.evs - l.j

@@ -14,12 +14,12 @@ slice_bounds-pack_case-end-2 c = sym (length-take-le row_bytes c.shift_right.new
 
 pub pack_case-requires : goal.pack_case-requires
 pack_case-requires c =
-    (length-take-le row_bytes c.shift_right.new.part (omega (arith, c.shift_right.auto.part, c.requires.0)), c.requires.1, c.requires.2)
+    (length-take-le row_bytes c.shift_right.new.part (omega (arith, c.shift_right.auto.part, c.requires.0)), c.requires.1)
 
 pub returns : goal.returns
 returns c =
     let a = c.args in
     shifts_opened row_bytes a.part.now c.shift_right.new.part c.pack_case.new.out
-    (case_bytes (probe_key row_bytes key_bits a.probe.now) (case_with a.birth a.prevalente.now a.scales.now))
-    c.requires.0 (case_length (probe_key row_bytes key_bits a.probe.now) (case_with a.birth a.prevalente.now a.scales.now))
+    (case_bytes (probe_key row_bytes key_bits a.probe.now.row.now) (case_with a.f.now.birth a.f.now.prevalente.now a.f.now.scales.now))
+    c.requires.0 (case_length (probe_key row_bytes key_bits a.probe.now.row.now) (case_with a.f.now.birth a.f.now.prevalente.now a.f.now.scales.now))
     c.shift_right.ensures c.pack_case.ensures

@@ -10,5 +10,5 @@ use Rattle.apply.proofs.event_row.pack_event.Goals as goal
 pub returns : goal.returns
 returns c =
     let a = c.args in
-    row_packed (λ x. (x * 2 ^ event_bits + a.e) * 2 ^ evaluation_bits + a.v) (count a.key + event_bits + evaluation_bits) zero_bits a.probe.now a.out.now c.put_row.new.part c.set_event.new.out a.key _ (omega (arith, c.requires.1.bits)) c.requires.1 c.requires.0
+    row_packed (λ x. (x * 2 ^ event_bits + a.e) * 2 ^ evaluation_bits + a.v) (count a.probe.now.key + event_bits + evaluation_bits) zero_bits a.probe.now.row.now a.out.now c.put_row.new.part c.set_event.new.out a.probe.now.key _ (omega (arith, a.probe.now.keyed.bits)) a.probe.now.keyed c.requires.0
     c.put_row.ensures c.set_event.ensures.0 (c.set_event.auto.out ∙ c.put_row.auto.part ∙ c.requires.0) (fit_of 8 c.set_event.new.out (λ i. (c.type_inv.out i).fits))

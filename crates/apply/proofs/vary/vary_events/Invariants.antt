@@ -1,4 +1,3 @@
-use Prim.Native.Nat.{◌≤◌}
 use mathlib.Core.Path.{◌≡◌}
 use lib.ListN.{length}
 use Rattle.register.specs.Search.{probe_key}
@@ -7,7 +6,4 @@ use Rattle.apply.proofs.Varying.{OverFrom}
 use Rattle.apply.proofs.vary.vary_events.Given as goal
 
 abbrev pub invariant-loop-i : goal.invariant-loop-i
-invariant-loop-i l = (l.i ≤ length l.evs) × (length l.reg ≡ length l.initial.reg) × OverFrom (probe_key row_bytes key_bits l.probe) l.evs l.kept l.i l.initial.reg l.reg
-
-abbrev pub decreases-loop-i : goal.decreases-loop-i
-decreases-loop-i l = l.i
+invariant-loop-i l = (length l.reg ≡ length l.initial.reg) × OverFrom (probe_key row_bytes key_bits l.probe.row.now) l.said.evs.now l.said.kept.now l.i l.initial.reg l.reg

@@ -9,6 +9,6 @@ returns c =
     record {
       events = search rules;
       bytes = search rules;
-      replaced = ap (λ (b : Bool). c.args.s.replaced || b) c.replaces.ensures;
+      replaced = ap (λ (b : Bool). c.args.s.replaced || b) c.evaluates.ensures;
       small = omega (arith, c.event_length.ensures.1, c.requires.2);
     }

@@ -1,7 +1,6 @@
-use Rattle.days.specs.Table.{Firsts}
 use Rattle.days.proofs.Firsts.{firsts, first_entry}
 use Rattle.days.proofs.table.make.Goals as goal
 
-pub returns : goal.returns
-unfolding Firsts firsts
-returns c = λ k h. first_entry k h
+pub invariant_of-result : goal.invariant_of-result
+unfolding firsts
+invariant_of-result c = record { firsts_hold = λ k h. first_entry k h }

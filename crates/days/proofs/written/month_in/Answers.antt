@@ -1,15 +1,20 @@
-use native.Mathlib.Omega.{arith}
-use Rattle.days.proofs.WrittenDates.{search_month, search_up, search_down, search_ends}
+use Rattle.std.proofs.Common.{rules, length, ◌≡◌, ◌≤◌, ◌<◌, ◌-◌}
+use Rattle.std.proofs.lemmas.List.Sorted.{IsPartitionPoint-from_clause}
+use borrow.Author.Tests.{tests}
+use lib.Dec.{leb}
+use Rattle.days.specs.WrittenDates.{month_in}
+use Rattle.days.proofs.WrittenDates.{begun_before, begun_ends}
 use Rattle.days.proofs.written.month_in.Goals as goal
 
-pub loop-later-init : goal.loop-later-init
-loop-later-init c = search_month _
+-- what the search found
+found : (c : goal.After-partition_point) → (1 ≤ c.partition_point.result) × (c.partition_point.result - 1 ≡ month_in c.args.day) × (c.partition_point.result - 1 < 2400)
+found c =
+    let l : length c.args.t.now.firsts ≡ 2400 = search rules in
+    begun_ends c.args.t.now.firsts c.args.t.now.firsts_hold l c.args.day _ c.partition_point.ensures.bound
+    (IsPartitionPoint-from_clause (λ x. leb x c.args.day) c.args.t.now.firsts _ c.partition_point.ensures.partitioned (begun_before c.args.t.now.firsts c.args.t.now.firsts_hold l c.args.day) (λ a r q k. search (rules, tests)))
 
-pub loop-later-preserved-then-first_of-day : goal.loop-later-preserved-then-first_of-day
-loop-later-preserved-then-first_of-day c = search_up c.loop-later.invariant (omega arith) (omega (arith, c.first_of.ensures.0))
-
-pub loop-later-preserved : goal.loop-later-preserved
-loop-later-preserved c = search_down c.loop-later.invariant (omega arith) (omega arith) (omega (arith, c.first_of.ensures.0))
+pub overflow_sub-result : goal.overflow_sub-result
+overflow_sub-result c = (found c).0
 
 pub returns : goal.returns
-returns c = search_ends c.loop-later.invariant (omega arith)
+returns c = let f = found c in (f.1, f.2)

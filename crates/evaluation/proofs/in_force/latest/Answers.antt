@@ -5,7 +5,7 @@ use Rattle.evaluation.proofs.LatestRow.{keeps_one, row_is, started, passed_on, f
 use Rattle.evaluation.proofs.in_force.latest.Goals as goal
 
 pub loop-i-init : goal.loop-i-init
-loop-i-init c = started c.args.reg.now c.args.day c.args.lo c.args.hi c.place_by-i.ensures
+loop-i-init c = started c.args.reg.now c.args.day c.args.lo c.args.hi c.place_by-late.ensures
 
 pub returns-then-keeps : goal.returns-then-keeps
 returns-then-keeps c =

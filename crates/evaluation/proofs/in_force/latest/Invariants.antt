@@ -3,6 +3,3 @@ use Rattle.evaluation.proofs.in_force.latest.Given as goal
 
 abbrev pub invariant-loop-i : goal.invariant-loop-i
 invariant-loop-i l = Passed l.reg l.day l.lo l.hi l.i
-
-abbrev pub decreases-loop-i : goal.decreases-loop-i
-decreases-loop-i l = l.i

@@ -1,12 +1,10 @@
-use mathlib.Core.Bool.{◌&&◌}
-use native.Mathlib.Omega.{arith}
-use Rattle.laws.proofs.Folding.{fold_step, fold_end}
+use Rattle.std.proofs.Common.{rules, ◌&&◌, ◌∙◌}
+use Rattle.std.proofs.lemmas.Iterator.{YieldsList-from_slice}
+use Rattle.std.proofs.lemmas.Iterator.Consumers.{fold_from_yields_List}
+use Rattle.laws.proofs.Library.{fold_all}
 use Rattle.markup.specs.Bytes.{in_file, is_text}
 use Rattle.home_care.proofs.texts.all_text.Goals as goal
 
-pub loop-i-preserved : goal.loop-i-preserved
-loop-i-preserved c =
-    (omega arith, fold_step (λ b. in_file b && is_text b) c.args.s.now c.loop-i.i _ c.loop-i.good _ (omega arith) c.is_text-good.ensures c.loop-i.invariant.1)
-
 pub returns : goal.returns
-returns c = fold_end (λ b. in_file b && is_text b) c.args.s.now c.loop-i.i _ c.loop-i.good (omega arith) c.loop-i.invariant.1
+returns c =
+    fold_from_yields_List _ (λ a b. a && (in_file b && is_text b)) _ _ c.fold.ensures.ran (YieldsList-from_slice c.args.s.now cc) (λ a x b q k. search rules) ∙ fold_all _ _

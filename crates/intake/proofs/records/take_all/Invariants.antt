@@ -13,7 +13,7 @@ use Rattle.intake.proofs.SiadDriver.{Kind}
 use Rattle.intake.proofs.records.take_all.Given as goal
 
 abbrev pub invariant-loop-q : goal.invariant-loop-q
-invariant-loop-q l = (length l.reg ≡ length l.initial.reg) × (length l.answers ≡ length l.initial.answers) × ((i : Inside) → Holds below_root (part l.s l.name l.name_end) (drop l.from l.s) i → Going (siad_driver l.track (context_in l.l)) (Kind (context_in l.l)) l.tally l.reg l.answers (ends (siad_driver l.track (context_in l.l)) l.initial.tally l.initial.reg l.initial.answers (kids i)) (part l.s l.name l.name_end) (drop l.at l.s))
+invariant-loop-q l = (length l.reg ≡ length l.initial.reg) × (length l.answers ≡ length l.initial.answers) × ((i : Inside) → Holds below_root (part l.s l.inside.name l.inside.name_end) (drop l.inside.from l.s) i → Going (siad_driver l.track (context_in l.l)) (Kind (context_in l.l)) l.tally l.reg l.answers (ends (siad_driver l.track (context_in l.l)) l.initial.tally l.initial.reg l.initial.answers (kids i)) (part l.s l.inside.name l.inside.name_end) (drop l.at l.s))
 
 abbrev pub decreases-loop-q : goal.decreases-loop-q
 decreases-loop-q l = length l.s - l.at

@@ -1,11 +1,37 @@
-use native.Mathlib.Omega.{arith}
-use Rattle.judge.specs.View.{context_in}
-use Rattle.intake.proofs.Filing.{no_more, taken_says}
+use mathlib.Core.Path.{refl, sym, ◌∙◌}
+use lib.ListN.{length}
+use Rattle.intake.specs.FileAnswers.{call_of}
+use Rattle.intake.proofs.Submitting.{no_period, a_period, context_is, says_1, says_2, says_3, says_4, says_on}
 use Rattle.intake.proofs.submit.taken.Goals as goal
 
-pub overflow_sub-result : goal.overflow_sub-result
-overflow_sub-result c =
-    omega (arith, no_more c.args.track c.requires.0.1 (context_in c.args.l) (c.take_file-accepted.ensures c.requires.0.0 c.requires.0.1))
+-- Each test that was passed, told from the place after it.
 
-pub returns : goal.returns
-returns c = λ t x w e. taken_says c.args.track w (context_in c.args.l) (c.take_file-accepted.ensures t w) x e
+pub returns-in_default-clause-says : goal.returns-in_default-clause-says
+returns-in_default-clause-says c =
+    let a = c.args in
+    says_1 (call_of a.sub.now a.track a.year a.quarter a.answers.now) a.reg.now (no_period a.year a.quarter c.in_default.ensures.0) refl
+
+pub returns-then-not-track-clause-says : goal.returns-then-not-track-clause-says
+returns-then-not-track-clause-says c =
+    let a = c.args in
+    says_2 (call_of a.sub.now a.track a.year a.quarter a.answers.now) a.reg.now (a_period a.year a.quarter c.in-Some.ensures.0).0 c.if-not-track.true refl
+
+pub returns-then-not-is_sound-clause-says : goal.returns-then-not-is_sound-clause-says
+returns-then-not-is_sound-clause-says c =
+    let a = c.args in
+    says_3 (call_of a.sub.now a.track a.year a.quarter a.answers.now) a.reg.now (a_period a.year a.quarter c.in-Some.ensures.0).0 c.if-not-track.false (sym c.is_sound.ensures ∙ c.if-not-is_sound.true) refl
+
+pub returns-then-sub-gt-LONGEST-clause-says : goal.returns-then-sub-gt-LONGEST-clause-says
+returns-then-sub-gt-LONGEST-clause-says c =
+    let a = c.args in
+    says_4 (call_of a.sub.now a.track a.year a.quarter a.answers.now) a.reg.now (a_period a.year a.quarter c.in-Some.ensures.0).0 c.if-not-track.false (sym c.is_sound.ensures ∙ c.if-not-is_sound.false) c.if-sub-gt-LONGEST.true refl
+
+pub by_markup-requires : goal.by_markup-requires
+by_markup-requires c = (c.if-not-track.false, sym c.is_sound.ensures ∙ c.if-not-is_sound.false, c.room_of.ensures.0)
+
+pub returns-clause-says : goal.returns-clause-says
+returns-clause-says c =
+    let a = c.args in
+    let x = call_of a.sub.now a.track a.year a.quarter a.answers.now in
+    let d = a_period a.year a.quarter c.in-Some.ensures.0 in
+    says_on x a.reg.now d.0 c.if-not-track.false (sym c.is_sound.ensures ∙ c.if-not-is_sound.false) c.if-sub-gt-LONGEST.false (c.by_markup.ensures.says x (context_is x (length a.reg.now) d.1 d.2 c.room_of.ensures.0))

@@ -1,35 +1,36 @@
-use mathlib.Core.Path.{sym, ◌∙◌}
+use Rattle.std.proofs.Common.{arith}
+use Rattle.std.proofs.lemmas.Grind.{common_steps}
+use Rattle.judge.specs.Asked.{answer_admission}
 use Rattle.judge.specs.View.{context_in}
 use Rattle.judge.proofs.Told.{admission_told}
-use Rattle.judge.proofs.AdmissionWays.{at_10, at_11, at_12, at_13, at_case}
 use Rattle.judge.proofs.check_order.judge_admission.Goals as goal
 
 pub returns-then-out_of_quarter : goal.returns-then-out_of_quarter
+unfolding answer_admission
 returns-then-out_of_quarter c =
     let a = c.args in
-    λ h m i w sound. admission_told a.reg.now (context_in a.l) a.tipo a.taken a.probe.now _ _ _ _ _ _ 10 h m i w
-    (at_10 (context_in a.l) _ _ _ _ _ _ _ (sym c.out_of_quarter.ensures ∙ c.if-out_of_quarter.true))
+    λ g m i w sound. admission_told a.reg.now (context_in a.l) a.h.now.tipo a.h.now.taken a.h.now.probe _ _ _ _ _ _ 10 g m i w (grind (arith, common_steps))
 
 pub returns-then-bad_birth : goal.returns-then-bad_birth
+unfolding answer_admission
 returns-then-bad_birth c =
     let a = c.args in
-    λ h m i w sound. admission_told a.reg.now (context_in a.l) a.tipo a.taken a.probe.now _ _ _ _ _ _ 11 h m i w
-    (at_11 (context_in a.l) _ _ _ _ _ _ _ (sym c.out_of_quarter.ensures ∙ c.if-out_of_quarter.false) (sym (c.bad_birth.ensures h.key m.case i.taken w.birth) ∙ c.if-bad_birth.true))
+    λ g m i w sound. admission_told a.reg.now (context_in a.l) a.h.now.tipo a.h.now.taken a.h.now.probe _ _ _ _ _ _ 11 g m i w (let b = c.bad_birth.ensures g.key m.case i.taken w.birth in grind (arith, common_steps))
 
 pub returns-then-bad_residence : goal.returns-then-bad_residence
+unfolding answer_admission
 returns-then-bad_residence c =
     let a = c.args in
-    λ h m i w sound. admission_told a.reg.now (context_in a.l) a.tipo a.taken a.probe.now _ _ _ _ _ _ 12 h m i w
-    (at_12 (context_in a.l) _ _ _ _ _ _ _ (sym c.out_of_quarter.ensures ∙ c.if-out_of_quarter.false) (sym (c.bad_birth.ensures h.key m.case i.taken w.birth) ∙ c.if-bad_birth.false) (sym c.bad_residence.ensures ∙ c.if-bad_residence.true))
+    λ g m i w sound. admission_told a.reg.now (context_in a.l) a.h.now.tipo a.h.now.taken a.h.now.probe _ _ _ _ _ _ 12 g m i w (let b = c.bad_birth.ensures g.key m.case i.taken w.birth in grind (arith, common_steps))
 
 pub returns-then-zero_kept : goal.returns-then-zero_kept
+unfolding answer_admission
 returns-then-zero_kept c =
     let a = c.args in
-    λ h m i w sound. admission_told a.reg.now (context_in a.l) a.tipo a.taken a.probe.now _ _ _ _ _ _ 13 h m i w
-    (at_13 (context_in a.l) _ _ _ _ _ _ _ (sym c.out_of_quarter.ensures ∙ c.if-out_of_quarter.false) (sym (c.bad_birth.ensures h.key m.case i.taken w.birth) ∙ c.if-bad_birth.false) (sym c.bad_residence.ensures ∙ c.if-bad_residence.false) (sym c.zero_kept.ensures ∙ c.if-zero_kept.true))
+    λ g m i w sound. admission_told a.reg.now (context_in a.l) a.h.now.tipo a.h.now.taken a.h.now.probe _ _ _ _ _ _ 13 g m i w (let b = c.bad_birth.ensures g.key m.case i.taken w.birth in grind (arith, common_steps))
 
 pub returns : goal.returns
+unfolding answer_admission
 returns c =
     let a = c.args in
-    λ h m i w sound. admission_told a.reg.now (context_in a.l) a.tipo a.taken a.probe.now _ _ _ _ _ _ _ h m i w
-    (c.against_case.ensures sound ∙ at_case (context_in a.l) _ _ _ _ _ _ _ (sym c.out_of_quarter.ensures ∙ c.if-out_of_quarter.false) (sym (c.bad_birth.ensures h.key m.case i.taken w.birth) ∙ c.if-bad_birth.false) (sym c.bad_residence.ensures ∙ c.if-bad_residence.false) (sym c.zero_kept.ensures ∙ c.if-zero_kept.false))
+    λ g m i w sound. admission_told a.reg.now (context_in a.l) a.h.now.tipo a.h.now.taken a.h.now.probe _ _ _ _ _ _ _ g m i w (let b = c.bad_birth.ensures g.key m.case i.taken w.birth in let e = c.against_case.ensures sound in grind (arith, common_steps))

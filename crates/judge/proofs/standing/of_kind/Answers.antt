@@ -3,5 +3,5 @@ use Rattle.judge.proofs.standing.of_kind.Goals as goal
 
 pub returns : goal.returns
 returns c =
-    let a = c.args in
-    kind_rows a.reg.now a.lo a.hi a.kind _ _ c.place_by-a.ensures c.place_by-e.ensures
+    let r = c.args.rows in
+    kind_rows r.reg.now r.lo r.hi c.args.kind _ _ c.place_by-lo.ensures c.place_by-hi.ensures

@@ -6,8 +6,8 @@ use Rattle.markup.specs.Tags.{attributes_step, attributes}
 use Rattle.markup.specs.View.{ending_of}
 use Rattle.markup.proofs.Cursor.attributes.Given as goal
 
-abbrev pub invariant-loop-next : goal.invariant-loop-next
-invariant-loop-next l = (l.from ≤ l.at) × Reach refused attributes_step ending_of (ending_of (attributes (drop l.from l.s))) (drop l.at l.s)
+abbrev pub invariant-loop-attribute : goal.invariant-loop-attribute
+invariant-loop-attribute l = (l.fn.self.at ≤ l.here.at) × Reach refused attributes_step ending_of (ending_of (attributes (drop l.fn.self.at l.s))) (drop l.here.at l.s)
 
-abbrev pub decreases-loop-next : goal.decreases-loop-next
-decreases-loop-next l = length l.s - l.at
+abbrev pub decreases-loop-attribute : goal.decreases-loop-attribute
+decreases-loop-attribute l = length l.s - l.here.at

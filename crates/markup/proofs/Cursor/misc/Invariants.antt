@@ -6,7 +6,7 @@ use Rattle.markup.specs.Document.{misc_step, misc}
 use Rattle.markup.proofs.Cursor.misc.Given as goal
 
 abbrev pub invariant-loop-next : goal.invariant-loop-next
-invariant-loop-next l = (l.from ≤ l.at) × Reach refused misc_step (λ r. r) (misc (drop l.from l.s)) (drop l.at l.s) × (l.at - l.from ≤ length l.s - l.from)
+invariant-loop-next l = (l.fn.self.at ≤ l.here.at) × Reach refused misc_step (λ r. r) (misc (drop l.fn.self.at l.s)) (drop l.here.at l.s) × (l.here.at - l.fn.self.at ≤ length l.s - l.fn.self.at)
 
 abbrev pub decreases-loop-next : goal.decreases-loop-next
-decreases-loop-next l = length l.s - l.at
+decreases-loop-next l = length l.s - l.here.at

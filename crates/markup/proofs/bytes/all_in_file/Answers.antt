@@ -1,14 +1,10 @@
-use Rattle.laws.specs.Lists.{all}
-use Rattle.laws.proofs.Folding.{fold_step, fold_end}
+use Rattle.std.proofs.Common.{rules, ◌∙◌, ◌&&◌}
+use Rattle.std.proofs.lemmas.Iterator.{YieldsList-from_slice}
+use Rattle.std.proofs.lemmas.Iterator.Consumers.{fold_from_yields_List}
+use Rattle.laws.proofs.Library.{fold_all}
 use Rattle.markup.specs.Bytes.{in_file}
 use Rattle.markup.proofs.bytes.all_in_file.Goals as goal
 
-pub loop-i-preserved : goal.loop-i-preserved
-loop-i-preserved c =
-    let s = c.args.s.now in
-    fold_step in_file s c.loop-i.i (all in_file s) c.loop-i.ok c.in_file-ok.result c.loop-i-test.true c.in_file-ok.ensures c.loop-i.invariant
-
 pub returns : goal.returns
 returns c =
-    let s = c.args.s.now in
-    fold_end in_file s c.loop-i.i (all in_file s) c.loop-i.ok c.loop-i-test.false c.loop-i.invariant
+    fold_from_yields_List _ (λ a b. a && in_file b) _ _ c.fold.ensures.ran (YieldsList-from_slice c.args.s.now cc) (λ a x b q k. search rules) ∙ fold_all _ _

@@ -1,12 +1,9 @@
-use Prim.Native.Nat.{◌≤◌, ◌+◌, ◌-◌}
-use mathlib.Core.Path.{◌≡◌}
-use lib.ListN.{length, drop}
-use Rattle.markup.specs.Bytes.{run_length}
-use Rattle.markup.specs.Classes.{class}
+use Rattle.std.proofs.Common.{◌≡◌, ℕ, Bool, ◌+◌, ◌-◌, ◌≤◌, length, drop}
+use Rattle.markup.specs.Bytes.{IsTest, run_length}
 use Rattle.markup.proofs.bytes.run_end.Given as goal
 
 abbrev pub invariant-loop-at : goal.invariant-loop-at
-invariant-loop-at l = (l.from ≤ l.at) × (l.from + run_length (class l.k) (drop l.from l.s) ≡ l.at + run_length (class l.k) (drop l.at l.s))
+invariant-loop-at g l = (l.from ≤ l.at) × ((p : ℕ → Bool) → IsTest (goal.P-post g l.passes) p → l.from + run_length p (drop l.from l.s) ≡ l.at + run_length p (drop l.at l.s))
 
 abbrev pub decreases-loop-at : goal.decreases-loop-at
-decreases-loop-at l = length l.s - l.at
+decreases-loop-at g l = length l.s - l.at

@@ -1,6 +1,6 @@
 use mathlib.Core.Path.{sym, ◌∙◌, ap}
 use lib.ListN.{drop}
-use borrow.Author.Tests.{not-true, not-false}
+use borrow.Author.Tests.{not-true}
 use native.Mathlib.Omega.{arith}
 use Rattle.markup.specs.Elements.{element}
 use Rattle.markup.specs.Document.{document, was_read, in_markup}
@@ -11,68 +11,52 @@ pub returns-then-not-all_in_file : goal.returns-then-not-all_in_file
 unfolding document
 returns-then-not-all_in_file c = answer_none c.args.s.now (rw (← c.all_in_file.ensures, not-true c.all_in_file.result c.if-not-all_in_file.true-raw))
 
-pub returns-in_default : goal.returns-in_default
+pub returns-in_err-start : goal.returns-in_err-start
 unfolding document
-returns-in_default c =
-    let d = rw c.in_default.is at c.declaration.ensures.0 in
-    answer_none c.args.s.now (rw (← c.all_in_file.ensures, not-false c.all_in_file.result c.if-not-all_in_file.false-raw, ← d))
+returns-in_err-start c =
+    let b = sym c.all_in_file.ensures ∙ c.if-not-all_in_file.false in
+    rw c.from_residual.ensures (answer_none c.args.s.now (rw (b, ← c.in_err-start.ensures.0)))
 
-pub returns-in_default-misc : goal.returns-in_default-misc
+pub returns-in_err-root : goal.returns-in_err-root
 unfolding document
-returns-in_default-misc c =
-    let d = rw c.in-To.is at c.declaration.ensures.0 in
-    let m = rw c.in_default-misc.is at c.misc.ensures in
-    answer_none c.args.s.now (rw (← c.all_in_file.ensures, not-false c.all_in_file.result c.if-not-all_in_file.false-raw, ← d, ← m.0))
+returns-in_err-root c =
+    let b = sym c.all_in_file.ensures ∙ c.if-not-all_in_file.false in
+    rw c.from_residual-in_err-root.ensures (answer_none c.args.s.now (rw (b, ← c.in_ok-start.ensures.0, ← c.in_err-root.ensures.0)))
 
-pub returns-in_default-element : goal.returns-in_default-element
-returns-in_default-element c =
+pub returns-in_err-after : goal.returns-in_err-after
+returns-in_err-after c =
     let s = c.args.s.now in
     let b = sym c.all_in_file.ensures ∙ c.if-not-all_in_file.false in
-    let d = rw c.in-To.is at c.declaration.ensures.0 in
-    let m = rw c.in-To-misc.is at c.misc.ensures in
-    let r = document_root s b d m.0 in
-    let o = element 12 (drop c.in-To-misc.root.at s) in
-    let e = rw c.in_default-element.is at c.element.ensures in
-    answer_none s (root_none o e.0 ∙ sym r)
+    let r = document_root s b c.in_ok-start.ensures.0 c.in_ok-root.ensures.0 in
+    let o = element 12 (drop c.in_ok-root.root.at s) in
+    rw c.from_residual-in_err-after.ensures (answer_none s (root_none o c.in_err-after.ensures.0 ∙ sym r))
 
-pub returns-in_default-misc-2 : goal.returns-in_default-misc-2
-returns-in_default-misc-2 c =
+pub returns-in_err-last : goal.returns-in_err-last
+returns-in_err-last c =
     let s = c.args.s.now in
     let b = sym c.all_in_file.ensures ∙ c.if-not-all_in_file.false in
-    let d = rw c.in-To.is at c.declaration.ensures.0 in
-    let m = rw c.in-To-misc.is at c.misc.ensures in
-    let r = document_root s b d m.0 in
-    let o = element 12 (drop c.in-To-misc.root.at s) in
-    let l = drop c.in-To-element.after.at s in
-    let e = rw c.in-To-element.is at c.element.ensures in
-    let q = rw c.in_default-misc-2.is at c.misc-2.ensures in
-    answer_none s (root_refused l o e.0 q.0 ∙ sym r)
+    let r = document_root s b c.in_ok-start.ensures.0 c.in_ok-root.ensures.0 in
+    let o = element 12 (drop c.in_ok-root.root.at s) in
+    let l = drop c.in_ok-after.after.at s in
+    rw c.from_residual-in_err-last.ensures (answer_none s (root_refused l o c.in_ok-after.ensures.0 c.in_err-last.ensures.0 ∙ sym r))
 
-pub returns-then-at-s : goal.returns-then-at-s
-returns-then-at-s c =
+pub returns-then-last-s : goal.returns-then-last-s
+returns-then-last-s c =
     let s = c.args.s.now in
     let b = sym c.all_in_file.ensures ∙ c.if-not-all_in_file.false in
-    let d = rw c.in-To.is at c.declaration.ensures.0 in
-    let m = rw c.in-To-misc.is at c.misc.ensures in
-    let r = document_root s b d m.0 in
-    let o = element 12 (drop c.in-To-misc.root.at s) in
-    let l = drop c.in-To-element.after.at s in
-    let e = rw c.in-To-element.is at c.element.ensures in
-    let q = rw c.in-To-misc-2.is at c.misc-2.ensures in
-    answer_none s (root_more l s c.in-To-misc-2.last.at o e.0 q.0 c.if-at-s.true ∙ sym r)
+    let r = document_root s b c.in_ok-start.ensures.0 c.in_ok-root.ensures.0 in
+    let o = element 12 (drop c.in_ok-root.root.at s) in
+    let l = drop c.in_ok-after.after.at s in
+    answer_none s (root_more l s c.in_ok-last.last.at o c.in_ok-after.ensures.0 c.in_ok-last.ensures.0 c.if-last-s.true ∙ sym r)
 
 pub returns : goal.returns
 unfolding in_markup
 returns c =
     let s = c.args.s.now in
     let b = sym c.all_in_file.ensures ∙ c.if-not-all_in_file.false in
-    let d = rw c.in-To.is at c.declaration.ensures.0 in
-    let m = rw c.in-To-misc.is at c.misc.ensures in
-    let r = document_root s b d m.0 in
-    let o = element 12 (drop c.in-To-misc.root.at s) in
-    let l = drop c.in-To-element.after.at s in
-    let e = rw c.in-To-element.is at c.element.ensures in
-    let q = rw c.in-To-misc-2.is at c.misc-2.ensures in
-    let w = root_end l s c.in-To-misc-2.last.at o e.0 q.0 c.if-at-s.false ∙ sym r in
-    let i = ap was_read (sym w) ∙ root_taken o l e.0 in
-    (w, rw i, (omega arith, i, rw (← d) (sym m.0)))
+    let r = document_root s b c.in_ok-start.ensures.0 c.in_ok-root.ensures.0 in
+    let o = element 12 (drop c.in_ok-root.root.at s) in
+    let l = drop c.in_ok-after.after.at s in
+    let w = root_end l s c.in_ok-last.last.at o c.in_ok-after.ensures.0 c.in_ok-last.ensures.0 c.if-last-s.false ∙ sym r in
+    let i = ap was_read (sym w) ∙ root_taken o l c.in_ok-after.ensures.0 in
+    (w, rw i, (omega (arith, c.in_ok-after.ensures), i, rw (← c.in_ok-start.ensures.0) (sym c.in_ok-root.ensures.0)))

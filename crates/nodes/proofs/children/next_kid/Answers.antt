@@ -1,45 +1,28 @@
-use mathlib.Core.List.{List}
 use native.Mathlib.Omega.{arith}
-use Rattle.markup.specs.Elements.{Tree}
-use Rattle.nodes.proofs.Walking.{holds_bad, holds_kid, look_close, look_note, look_start, look_words}
+use Rattle.nodes.proofs.Walking.{holds_bad, holds_kid, look_close, look_note, look_words}
 use Rattle.nodes.proofs.children.next_kid.Goals as goal
 
 -- The invariant: the children ahead are the children from the start on.
 
-pub loop-end-init : goal.loop-end-init
-loop-end-init c = (omega arith, λ d i w. look_start (λ (ts : List Tree). ts) w)
-
-pub returns-in-Refused : goal.returns-in-Refused
-returns-in-Refused c =
-    let p = rw c.in-Refused.is at c.next_piece.ensures in
-    (λ d i w. holds_bad (c.loop-end.invariant.1 d i w).holds p.0, tt)
+pub returns-in_err-end : goal.returns-in_err-end
+returns-in_err-end c = rw c.from_residual.ensures (λ d i w. holds_bad (c.loop-end.invariant.1 d i w).holds c.in_err-end.ensures.0, tt)
 
 pub returns-in-Close : goal.returns-in-Close
 returns-in-Close c =
-    let p = rw c.in-Close.is at c.next_piece.ensures in
+    let p = rw c.in-Close.is at c.in_ok-end.ensures in
     (λ d i w. look_close (c.loop-end.invariant.1 d i w) p.0, tt)
-
-pub loop-end-smaller-in-Words : goal.loop-end-smaller-in-Words
-loop-end-smaller-in-Words c =
-    let p = rw c.in-Words.is at c.next_piece.ensures in
-    omega arith
 
 pub loop-end-preserved-in-Words : goal.loop-end-preserved-in-Words
 loop-end-preserved-in-Words c =
-    let p = rw c.in-Words.is at c.next_piece.ensures in
+    let p = rw c.in-Words.is at c.in_ok-end.ensures in
     (omega arith, λ d i w. look_words (c.loop-end.invariant.1 d i w) p.0)
-
-pub loop-end-smaller : goal.loop-end-smaller
-loop-end-smaller c =
-    let p = rw c.in-Aside.is at c.next_piece.ensures in
-    omega arith
 
 pub loop-end-preserved : goal.loop-end-preserved
 loop-end-preserved c =
-    let p = rw c.in-Aside.is at c.next_piece.ensures in
+    let p = rw c.in-Aside.is at c.in_ok-end.ensures in
     (omega arith, λ d i w. look_note (c.loop-end.invariant.1 d i w) p.0)
 
 pub returns-in-Kid : goal.returns-in-Kid
 returns-in-Kid c =
-    let p = rw c.in-Kid.is at c.next_piece.ensures in
+    let p = rw c.in-Kid.is at c.in_ok-end.ensures in
     (λ d i w. let k = c.loop-end.invariant.1 d i w in rw k.same (holds_kid k.holds p.0).0, c.loop-end.invariant.0)

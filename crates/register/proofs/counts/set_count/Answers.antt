@@ -1,10 +1,13 @@
-use lib.ListN.{length-set}
-use Rattle.register.proofs.Header.{count_set}
-use native.Mathlib.Omega.{arith}
+use Rattle.std.proofs.Common.{ap, ap₂, ◌∙◌, List, ℕ, ◌+◌, ◌++◌, take, drop, arith}
+use borrow.Rule.Slice.PartMut.{Post-is}
+use Rattle.register.proofs.Header.{last_two}
+use Rattle.register.specs.Moves.{with_count}
 use Rattle.register.proofs.counts.set_count.Goals as goal
 
-pub bounds-reg-at-2 : goal.bounds-reg-at-2
-bounds-reg-at-2 c = simp length-set (omega arith)
-
 pub returns : goal.returns
-returns c = count_set c.args.reg.now c.args.at c.requires c.args.v
+unfolding with_count
+returns c =
+    let a = c.args in
+    ap₂ (λ (two past : List ℕ). take a.at a.reg.now ++ (two ++ past))
+    (c.copy_from_slice.ensures.after ∙ ap (λ (bytes : List ℕ). take 2 (drop 6 bytes)) c.to_be_bytes.ensures ∙ last_two a.v)
+    (Post-is a.at (a.at + 2) a.reg.now (omega arith))

@@ -4,15 +4,6 @@ use Rattle.register.specs.Moves.{on_part}
 use native.Mathlib.Omega.{arith}
 use Rattle.register.proofs.moving.remove_rows.Goals as goal
 
-pub overflow_mul-from : goal.overflow_mul-from
-overflow_mul-from c = let p = c.requires in omega (arith, mul-le-mul_left c.args.w p.0)
-
-pub overflow_add-from : goal.overflow_add-from
-overflow_add-from c = let p = c.requires in omega (arith, mul-le-mul_left c.args.w p.0)
-
-pub slice_bounds-close_rows-start : goal.slice_bounds-close_rows-start
-slice_bounds-close_rows-start c = let p = c.requires in omega (arith, mul-le-mul_left c.args.w p.0)
-
 pub close_rows-requires : goal.close_rows-requires
 close_rows-requires c = simp (length-take, length-drop) (omega (arith, mul-le-mul_left c.args.w c.requires.0))
 

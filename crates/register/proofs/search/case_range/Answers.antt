@@ -1,12 +1,6 @@
-use mathlib.Core.Path.{sym, ◌∙◌}
 use Rattle.register.specs.Search.{key_at, probe_key}
-use Rattle.register.proofs.Halving.{between, nowhere}
+use Rattle.register.proofs.Halving.{between}
 use Rattle.register.proofs.search.case_range.Goals as goal
-
-pub returns-then-not-stands : goal.returns-then-not-stands
-returns-then-not-stands c =
-    let g = c.args in
-    nowhere (key_at g.w g.kbits g.reg.now) (probe_key g.w g.kbits g.probe.now) g.lo g.hi c.place-a.result c.place-a.ensures (sym c.stands.ensures ∙ c.if-not-stands.true)
 
 pub returns : goal.returns
 returns c =

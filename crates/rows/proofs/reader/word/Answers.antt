@@ -1,45 +1,39 @@
-use Prim.Native.Nat.{ℕ, ◌+◌, ◌-◌, ◌*◌}
-use mathlib.Core.Path.{◌≡◌, sym, ap, ◌∙◌}
-use native.Mathlib.Nat.{add-zero, mul-one}
-use lib.ListN.{take, get_or}
+use Rattle.std.proofs.Common.{◌≡◌, ℕ, List, ◌+◌, ◌-◌, ◌*◌, ◌^◌, length, take, drop, get_or, refl, ap, sym, ◌∙◌, arith}
 use lib.Pow.{pow_pos}
-use native.Mathlib.Omega.{arith}
-use Rattle.rows.specs.Packing.{num}
-use Rattle.rows.proofs.Bytes.{num-take}
-use Rattle.rows.proofs.Steps.{more, more_lt, within}
+use lib.Seq.{take_all}
+use borrow.Rule.Slice.PartMut.{mid_len}
+use Rattle.rows.specs.Packing.{num, packs}
+use Rattle.rows.proofs.Bytes.{num-take, num_mid, fit_of, fit_at, fit_take, fit_drop}
+use Rattle.rows.proofs.Steps.{more_lt, within}
 use Rattle.rows.proofs.reader.word.Goals as goal
 
-pub loop-i-init : goal.loop-i-init
-loop-i-init c =
-    let z : 8 * (c.args.first - c.args.first) ≡ 0 = omega arith in
-    (omega arith, omega arith, pow_pos _, rw z (sym (add-zero _ ∙ mul-one _)))
+pub loop-byte-init : goal.loop-byte-init
+unfolding packs
+loop-byte-init c = (pow_pos 0, refl)
 
 pub overflow_mul-acc : goal.overflow_mul-acc
-overflow_mul-acc c = omega (arith, within c.loop-i.acc (8 * (c.loop-i.i - c.args.first)) 56 c.loop-i.invariant.2 (omega arith))
+overflow_mul-acc c =
+    let long = mid_len c.args.first c.args.end c.args.row.now c.requires.2 in
+    omega (arith, within c.loop-byte.acc (8 * c.loop-byte.byte-index) 56 c.loop-byte.invariant.0 (omega arith))
 
-pub overflow_cast-acc : goal.overflow_cast-acc
-overflow_cast-acc c = omega (arith, c.type_inv.row c.loop-i.i)
-
-pub overflow_add-acc : goal.overflow_add-acc
-overflow_add-acc c =
-    let l = c.loop-i in
-    omega (arith, within l.acc (8 * (l.i - c.args.first)) 56 l.invariant.2 (omega arith), c.type_inv.row l.i)
-
-pub loop-i-preserved : goal.loop-i-preserved
-loop-i-preserved c =
-    let l = c.loop-i in
+pub loop-byte-preserved : goal.loop-byte-preserved
+loop-byte-preserved c =
     let a = c.args in
-    let e : 8 * (l.i + 1 - a.first) ≡ 8 * (l.i - a.first) + 8 = omega arith in (
-      omega arith,
-      omega arith,
-      rw e (more_lt l.acc (get_or a.row.now l.i 0) (8 * (l.i - a.first)) 8 l.invariant.2 (c.type_inv.row l.i).fits),
-      rw e
-          (num-take a.row.now l.i (omega arith)
-          ∙ ap (λ (n : ℕ). n * 256 + get_or a.row.now l.i 0) l.invariant.3
-          ∙ sym (more (num (take a.first a.row.now)) l.acc (get_or a.row.now l.i 0) (8 * (l.i - a.first)) 8)),
+    let l = c.loop-byte in
+    let xs : List ℕ = take (a.end - a.first) (drop a.first a.row.now) in
+    let small = fit_at 8 xs l.byte-index (fit_take 8 (a.end - a.first) _ (fit_drop 8 a.first a.row.now (fit_of 8 a.row.now (λ i. (c.type_inv.row i).fits)))) c.loop-byte-test.true in
+    let e : 8 * (l.byte-index + 1) ≡ 8 * l.byte-index + 8 = omega arith in
+    rw c.from.ensures (
+      rw e (more_lt l.acc (get_or xs l.byte-index 0) (8 * l.byte-index) 8 l.invariant.0 small),
+      ap (λ (n : ℕ). n * 256 + get_or xs l.byte-index 0) l.invariant.1 ∙ sym (num-take xs l.byte-index c.loop-byte-test.true),
     )
 
 pub returns : goal.returns
 returns c =
-    let e : c.loop-i.i ≡ c.args.end = omega arith in
-    (rw e at c.loop-i.invariant.2, rw e at c.loop-i.invariant.3)
+    let a = c.args in
+    let l = c.loop-byte in
+    let xs : List ℕ = take (a.end - a.first) (drop a.first a.row.now) in
+    let long : length (take (a.end - a.first) (drop a.first a.row.now)) ≡ a.end - a.first = mid_len a.first a.end a.row.now c.requires.2 in
+    let e : l.byte-index ≡ a.end - a.first = omega arith in
+    let whole : l.acc ≡ num xs = l.invariant.1 ∙ ap num (take_all l.byte-index xs c.loop-byte-test.false) in
+    (rw e at l.invariant.0, num_mid a.row.now a.first a.end c.requires.0 c.requires.2 ∙ ap (λ (n : ℕ). num (take a.first a.row.now) * 2 ^ (8 * (a.end - a.first)) + n) (sym whole))

@@ -1,14 +1,24 @@
-use Rattle.schema.proofs.Whole.{answer_good, answer_over, answer_bad}
-use native.Mathlib.Omega.{arith}
+use Rattle.std.proofs.Common.{arith}
+use Rattle.std.proofs.lemmas.Result.{err_from_is_err_and}
+use Rattle.schema.proofs.Whole.{answer_good, answer_over}
 use Rattle.schema.proofs.file.answer.Goals as goal
 
-pub returns-then-over-eq0 : goal.returns-then-over-eq0
-returns-then-over-eq0 c =
-    record { tells = λ sc. answer_good sc c.in-Good.is c.if-over-eq0.true; places = λ s at h e. let w = rw c.in-Good.is at h in omega arith }
+pub returns-in_err-records : goal.returns-in_err-records
+returns-in_err-records c =
+    let p = err_from_is_err_and c.from_residual.result c.from_residual.ensures.1 in
+    rw (p.1, p.2)
+    record { tells = λ sc at h. rw c.in_err-records.was; places = λ s at h e. let w = rw c.in_err-records.was at h in omega arith }
 
-pub returns-else-over-eq0 : goal.returns-else-over-eq0
-returns-else-over-eq0 c =
-    record { tells = λ sc. answer_over sc c.in-Good.is c.if-over-eq0.false; places = λ s at h e. let w = rw c.in-Good.is at h in omega arith }
+pub returns-in-Some : goal.returns-in-Some
+returns-in-Some c =
+    record {
+      tells = λ sc at h. let w = rw (c.in_ok-records.was, c.in-Some.is) at h in rw c.in_ok-records.was (answer_over sc c.in_ok-records.records c.in-Some.number c.in-Some.is w.1.0);
+      places = λ s at h e. let w = rw (c.in_ok-records.was, c.in-Some.is) at h in omega arith;
+    }
 
-pub returns-in-Bad : goal.returns-in-Bad
-returns-in-Bad c = record { tells = λ sc. answer_bad sc c.in-Bad.is; places = λ s at h e. let w = rw c.in-Bad.is at h in omega arith }
+pub returns-in-None : goal.returns-in-None
+returns-in-None c =
+    record {
+      tells = λ sc at h. rw c.in_ok-records.was (answer_good sc c.in_ok-records.records c.in-None.is);
+      places = λ s at h e. let w = rw c.in_ok-records.was at h in omega arith;
+    }

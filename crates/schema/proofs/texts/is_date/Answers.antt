@@ -1,11 +1,9 @@
-use Rattle.schema.proofs.Fitting.{date_other, date_yes, date_no}
+use Rattle.std.proofs.Common.{length}
+use borrow.Author.Tests.{ne_eqb}
+use Rattle.days.specs.Dates.{is_date}
 use Rattle.schema.proofs.texts.is_date.Goals as goal
 
-pub returns-then-text-ne10 : goal.returns-then-text-ne10
-returns-then-text-ne10 c = date_other c.args.text.now c.if-text-ne10.true
-
-pub returns-in-Is : goal.returns-in-Is
-returns-in-Is c = let x = rw c.in-Is.is at c.date_parts.ensures in date_yes c.args.text.now c.if-text-ne10.false x.0.date
-
-pub returns-in-Refused : goal.returns-in-Refused
-returns-in-Refused c = let x = rw c.in-Refused.is at c.date_parts.ensures in date_no c.args.text.now c.if-text-ne10.false x
+-- a date is ten bytes
+pub returns-else-text-eq10 : goal.returns-else-text-eq10
+unfolding is_date
+returns-else-text-eq10 c = rw (ne_eqb (length c.args.text.now) 10 c.if-text-eq10.false)

@@ -1,12 +1,5 @@
 use Rattle.soundness.proofs.FindPlace.{found_at, found_not}
-use native.Mathlib.Omega.{arith}
 use Rattle.soundness.proofs.find.find_key.Goals as goal
-
-pub place-i-requires : goal.place-i-requires
-place-i-requires c = (omega arith, rw c.count-cases.ensures.0 c.requires.2, c.requires.3, omega (arith, c.requires.0.least), omega arith)
-
-pub stands-requires : goal.stands-requires
-stands-requires c = (rw c.count-cases.ensures.0 c.requires.2, c.requires.3, omega (arith, c.requires.0.least))
 
 pub returns-then-not-stands : goal.returns-then-not-stands
 returns-then-not-stands c =

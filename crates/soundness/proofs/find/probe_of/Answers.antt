@@ -1,24 +1,27 @@
-use mathlib.Core.Bool.{false≢true}
-use Rattle.soundness.proofs.ProbeTexts.{lengths_bad, content_bad, refused, allowed, key_fits, key_made}
-use native.Mathlib.Omega.{arith}
+use Rattle.std.proofs.Common.{ℕ, rules}
+use lib.ListN.{length-replicate}
+use Rattle.soundness.proofs.KeyTexts.{lengths_bad, date_refused, all_read}
+use Rattle.soundness.proofs.ProbeTexts.{key_sized, key_made}
 use Rattle.soundness.proofs.find.probe_of.Goals as goal
 
-pub returns-then-asl-date : goal.returns-then-asl-date
-returns-then-asl-date c =
-    (lengths_bad c.args.region.now c.args.asl.now c.args.date.now c.args.id.now c.if-asl-date.true, λ e. absurd (false≢true e))
+pub returns-then-texts : goal.returns-then-texts
+returns-then-texts g c =
+    let x = c.args.texts.now in
+    lengths_bad x.region.now x.asl.now x.date.now x.id.now c.if-texts.true
 
-pub returns-then-not-is_region-all_alnum : goal.returns-then-not-is_region-all_alnum
-returns-then-not-is_region-all_alnum c =
-    (content_bad c.args.region.now c.args.asl.now c.args.date.now c.args.id.now c.if-asl-date.false _ _ _ _ c.region_of-number.ensures c.is_region.ensures c.all_alnum.ensures c.all_id.ensures c.if-not-is_region-all_alnum.true-raw, λ e. absurd (false≢true e))
+pub returns-in_err-taken : goal.returns-in_err-taken
+returns-in_err-taken g c =
+    let x = c.args.texts.now in
+    rw c.from_residual-in_err-taken.ensures (date_refused x.region.now x.asl.now x.date.now x.id.now _ c.in_ok-region.ensures _ _ _ c.is_region.ensures c.all_alnum.ensures c.all_id.ensures c.if-texts.false c.in_err-taken.ensures.0)
 
-pub pack_key-requires : goal.pack_key-requires
-pack_key-requires c =
-    record { key_fits = key_fits c.args.region.now c.args.asl.now c.args.date.now c.args.id.now c.if-asl-date.false _ _ _ _ c.region_of-number.ensures c.is_region.ensures c.all_alnum.ensures c.all_id.ensures c.if-not-is_region-all_alnum.false-raw c.read_date-read.result c.read_date-read.ensures.0 _ _ c.in-Day.is c.read_date-read.ensures.1; key_bits_bound = omega arith }
+pub pack_key-requires-clause-key_fits : goal.pack_key-requires-clause-key_fits
+pack_key-requires-clause-key_fits g c =
+    let x = c.args.texts.now in
+    let r = all_read x.region.now x.asl.now x.date.now x.id.now _ c.in_ok-region.ensures _ _ _ c.is_region.ensures c.all_alnum.ensures c.all_id.ensures c.if-texts.false c.if-not-is_region-all_alnum.false _ c.in_ok-taken.ensures.0 in
+    rw (r.number, r.day) (key_sized x.region.now x.asl.now x.date.now x.id.now r.allowed)
 
-pub returns-in-Day : goal.returns-in-Day
-returns-in-Day c =
-    (allowed c.args.region.now c.args.asl.now c.args.date.now c.args.id.now c.if-asl-date.false _ _ _ _ c.region_of-number.ensures c.is_region.ensures c.all_alnum.ensures c.all_id.ensures c.if-not-is_region-all_alnum.false-raw c.read_date-read.result c.read_date-read.ensures.0 _ _ c.in-Day.is c.read_date-read.ensures.1, λ e. key_made c.args.region.now c.args.asl.now c.args.date.now c.args.id.now c.if-asl-date.false _ _ _ _ c.region_of-number.ensures c.is_region.ensures c.all_alnum.ensures c.all_id.ensures c.if-not-is_region-all_alnum.false-raw c.read_date-read.result c.read_date-read.ensures.0 _ _ c.in-Day.is c.read_date-read.ensures.1 _ _ c.pack_key.ensures)
-
-pub returns-in-Refused : goal.returns-in-Refused
-returns-in-Refused c =
-    (refused c.args.region.now c.args.asl.now c.args.date.now c.args.id.now c.if-asl-date.false _ _ _ _ c.region_of-number.ensures c.is_region.ensures c.all_alnum.ensures c.all_id.ensures c.if-not-is_region-all_alnum.false-raw c.read_date-read.result c.read_date-read.ensures.0 c.in-Refused.is, λ e. absurd (false≢true e))
+pub returns : goal.returns
+returns g c =
+    let x = c.args.texts.now in
+    let r = all_read x.region.now x.asl.now x.date.now x.id.now _ c.in_ok-region.ensures _ _ _ c.is_region.ensures c.all_alnum.ensures c.all_id.ensures c.if-texts.false c.if-not-is_region-all_alnum.false _ c.in_ok-taken.ensures.0 in
+    (r.allowed, search rules, key_made x.region.now x.asl.now x.date.now x.id.now r.allowed _ _ (rw (length-replicate {A = ℕ} g.row.N 0, r.number, r.day) at c.pack_key.ensures))

@@ -1,5 +1,5 @@
-use Rattle.tracks.proofs.Filling.{padded_is}
+use Rattle.tracks.proofs.Filling.{filled_up}
 use Rattle.tracks.proofs.record.filled.Goals as goal
 
 pub returns : goal.returns
-returns c = rw (c.peek.ensures, c.peek-2.ensures, c.peek-3.ensures, c.peek-4.ensures, c.peek-5.ensures) (padded_is c.args.x.now)
+returns c = rw c.copy_from_slice.ensures.after (filled_up c.args.x.now c.min-n.result c.min-n.ensures)

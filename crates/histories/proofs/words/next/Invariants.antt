@@ -1,9 +1,0 @@
--- The place only grows.
-use Rattle.std.proofs.Common.{length, ◌-◌, ◌≤◌}
-use Rattle.histories.proofs.words.next.Given as goal
-
-abbrev pub invariant-loop-at : goal.invariant-loop-at
-invariant-loop-at l = l.fn.from ≤ l.at
-
-abbrev pub decreases-loop-at : goal.decreases-loop-at
-decreases-loop-at l = length l.s - l.at

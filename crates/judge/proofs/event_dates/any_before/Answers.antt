@@ -1,0 +1,14 @@
+use borrow.Author.Rules.{rules}
+use borrow.Author.Tests.{tests}
+use mathlib.Core.Path.{◌∙◌}
+use lib.Dec.{ltb}
+use Rattle.home_care.specs.Row.{date_of}
+use Rattle.std.proofs.lemmas.Iterator.{YieldsList-from_slice}
+use Rattle.std.proofs.lemmas.Iterator.Search.{any_from_yields_List}
+use Rattle.laws.proofs.Library.{any_is}
+use Rattle.judge.proofs.event_dates.any_before.Goals as goal
+
+pub returns : goal.returns
+returns c =
+    let evs = c.args.evs.now in
+    any_from_yields_List (λ e. ltb (date_of e) c.args.taken) _ _ _ c.any.ensures.ran (YieldsList-from_slice evs (search rules)) (λ x b q k. search (rules, tests)) ∙ any_is _ evs
