@@ -1,4 +1,5 @@
-// An event's row: the key that its case's probe holds, then the event and its evaluation.
+// An event's row: the key that its case's probe holds, then the event and its evaluation. That both have their bits is a clause here, and a fact of the list
+// that they come from (`Listed`): a pair of them would be made anew for each.
 ghost use Rattle.std.specs.Prelude.{◌≡◌, ◌+◌, ◌*◌, ◌^◌, ◌≤◌, ◌<◌, length};
 ghost use Rattle.register.specs.Moves.{replaced};
 ghost use Rattle.register.specs.Search.{probe_key};

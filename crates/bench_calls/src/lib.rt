@@ -37,7 +37,7 @@ fn all_below(ns: &[u64], past: u64) -> bool
     ns.iter().all(|n| *n < past)
 }
 
-// Whether each event has an event's 52 bits, and there is an evaluation of 47 bits for each.
+// Whether each event has an event's 52 bits, and there is an evaluation of 47 bits for each. C lends the two lists.
 fn storable(evs: &[u64], kept: &[u64]) -> bool
     ensures { result ≡ (all (λ e. ltb e (2 ^ event_bits)) evs.now && (all (λ v. ltb v (2 ^ evaluation_bits)) kept.now && eqb (length kept.now) (length evs.now))) }
 {

@@ -20,7 +20,8 @@ use Rattle.judge.specs.CaseRows.{OfCase}
 use Rattle.cancellation.specs.Chosen.{those, dated_in, chosen}
 use Rattle.cancellation.specs.FileText.{CaseTexts}
 use Rattle.cancellation.specs.CancelFile.{Written, case_told, unwritten, of_chosen, of_found, cancel_file, CancelTold}
-use Rattle.cancellation.specs.View.{RowsIn, chosen_in}
+use Rattle.cancellation.specs.Rows.{RowsIn}
+use Rattle.cancellation.specs.View.{chosen_in}
 use Rattle.cancellation.proofs.CaseFields.{texts_told}
 use Rattle.cancellation.proofs.WriteWays.{says_as, says_unwritten, Sized}
 

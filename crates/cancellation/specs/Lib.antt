@@ -1,4 +1,5 @@
 pub mod Chosen
 pub mod FileText
 pub mod CancelFile
+pub mod Rows
 pub mod View

@@ -8,35 +8,24 @@ use Rattle.markup.specs.Tags.{Pair}
 use Rattle.markup.specs.Elements.Inside.{end}
 use Rattle.reading.specs.Print.{print_on}
 use Rattle.schemas.specs.Parts.{most_events}
-use Rattle.register.specs.View.{most_counted}
-use Rattle.register.specs.Layout.{row_at}
-use Rattle.home_care.specs.Row.{siad, day_bits}
+use Rattle.home_care.specs.Row.{day_bits}
 use Rattle.soundness.specs.declared.find.CaseTexts.{CaseTexts as Texts}
 use Rattle.judge.specs.CaseRows.{standing_in}
 use Rattle.cancellation.specs.Chosen.{those, dated_in, replaces}
 use Rattle.cancellation.specs.FileText.{CaseTexts, case_texts, event_on, events_on, records_on}
 use Rattle.cancellation.specs.declared.event_text.Value.{Value}
 use Rattle.cancellation.specs.declared.event_text.Value.TheVariants.{Day, Number}
-use Rattle.cancellation.specs.declared.survey.Choice.{Choice}
+use Rattle.cancellation.specs.declared.choice.Choice.{Choice}
 use Rattle.cancellation.specs.declared.survey.Extent.{Extent}
 use Rattle.cancellation.specs.declared.records.Reached.{Reached}
 use Rattle.cancellation.specs.declared.write.NotWritten.{NotWritten}
 use Rattle.cancellation.specs.declared.write.NotWritten.TheVariants as refused
-
--- the rows from lo up to hi stand in the register
-pub record RowsIn (reg : List ℕ) (lo hi : ℕ) : Type 0 where
-  pub order : lo ≤ hi
-  pub inside : row_at siad hi ≤ length reg
-  pub few : hi < most_counted
 
 -- of the events in these rows, those between two days
 abbrev pub chosen_in : List ℕ → (first last : ℕ) → (lo hi : ℕ) → List ℕ
 chosen_in reg first last lo hi = those (dated_in first last) (standing_in reg lo hi)
 
 -- the same, as the code holds the rows and the days
-abbrev pub Lends : Choice → Type 0
-Lends c = RowsIn c.reg.now c.lo c.hi
-
 abbrev pub chosen_by : Choice → List ℕ
 chosen_by c = chosen_in c.reg.now c.first c.last c.lo c.hi
 

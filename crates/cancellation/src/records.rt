@@ -2,10 +2,11 @@
 ghost use Rattle.std.specs.Prelude.{◌≡◌, [], ◌∷◌, length};
 ghost use Rattle.text.specs.Put.{Put};
 ghost use Rattle.cancellation.specs.FileText.{shares, record_count, file_text};
-ghost use Rattle.cancellation.specs.View.{Lends, chosen_by, texts_of, events_text, head_text, records_text, PutsShare};
+ghost use Rattle.cancellation.specs.View.{chosen_by, texts_of, events_text, head_text, records_text, PutsShare};
 
+use crate::choice::Choice;
 use crate::event_text::put_event;
-use crate::survey::{Choice, dated_in};
+use crate::survey::dated_in;
 use days::table::Table;
 use judge::standing::event_at;
 use soundness::find::CaseTexts;
@@ -23,7 +24,6 @@ pub struct Reached {
 
 // At most 128 of the chosen events.
 fn put_events(t: &Table, choice: &Choice, out: &mut [u8], at: usize) -> Reached
-    requires { Lends choice.now }
     ensures { PutsShare choice.now at out.old out.new events_text result }
 {
     let mut next = at;
@@ -69,7 +69,6 @@ fn put_head(out: &mut [u8], at: usize, texts: &CaseTexts) -> usize
 
 // A record with at most 128 of the chosen events.
 fn put_record(t: &Table, choice: &Choice, texts: &CaseTexts, out: &mut [u8], at: usize) -> Reached
-    requires { Lends choice.now }
     ensures { PutsShare choice.now at out.old out.new (λ es. records_text (texts_of texts.now) (es ∷ [])) result }
 {
     let a = put_head(out, at, texts);
@@ -89,14 +88,18 @@ fn put_records(
     out: &mut [u8],
     at: usize,
 ) -> usize
-    requires { Lends choice.now × (records ≡ record_count (length (chosen_by choice.now))) }
+    requires { records ≡ record_count (length (chosen_by choice.now)) }
     ensures { Put at (records_text (texts_of texts.now) (shares (chosen_by choice.now))) out.old out.new result }
 {
     let mut done = Reached { row: choice.lo, at };
     for _ in 0..records {
+        // Each field by its name: a struct that holds a fact takes no `..`.
         let rest = Choice {
+            reg: choice.reg,
             lo: done.row,
-            ..*choice
+            hi: choice.hi,
+            first: choice.first,
+            last: choice.last,
         };
         done = put_record(t, &rest, texts, out, done.at);
     }
@@ -111,7 +114,7 @@ pub fn put_file(
     records: usize,
     out: &mut [u8],
 ) -> usize
-    requires { Lends choice.now × (records ≡ record_count (length (chosen_by choice.now))) }
+    requires { records ≡ record_count (length (chosen_by choice.now)) }
     ensures { Put 0 (file_text (texts_of texts.now) (chosen_by choice.now)) out.old out.new result }
 {
     let a = put_text(out, 0, b"<FlsAssDom_2>");

@@ -3,22 +3,13 @@ ghost use Rattle.std.specs.Prelude.{◌≡◌, ◌*◌, ◌≤◌, ◌<◌, ◌^
 ghost use Rattle.register.specs.View.{most_counted};
 ghost use Rattle.home_care.specs.Row.{event_bits};
 ghost use Rattle.cancellation.specs.Chosen.{dated_in};
-ghost use Rattle.cancellation.specs.View.{Lends, chosen_by, Surveyed, OneMore};
+ghost use Rattle.cancellation.specs.View.{chosen_by, Surveyed, OneMore};
 
+use crate::choice::Choice;
 use crate::event_text::event_length;
 use home_care::evaluation::evaluates;
 use judge::event_dates::day_for;
 use judge::standing::event_at;
-
-// The rows of a case's events in the register, from lo up to hi, and the two days between which an event is chosen.
-#[derive(Clone, Copy)]
-pub struct Choice<'a> {
-    pub reg: &'a [u8],
-    pub lo: usize,
-    pub hi: usize,
-    pub first: u64,
-    pub last: u64,
-}
 
 #[derive(Clone, Copy)]
 pub struct Extent {
@@ -49,7 +40,6 @@ fn with(s: Extent, e: u64) -> Extent
 
 // The chosen events: the first pass over their rows.
 pub fn survey(choice: &Choice) -> Extent
-    requires { Lends choice.now }
     ensures { Surveyed (chosen_by choice.now) result }
 {
     let mut s = Extent {

@@ -3,10 +3,11 @@ ghost use Rattle.std.specs.Prelude.{◌≡◌, length};
 ghost use Rattle.soundness.specs.View.{number_of as missing_number};
 ghost use Rattle.cancellation.specs.CancelFile.{of_chosen, of_found, cancel_file, CancelTold};
 ghost use Rattle.cancellation.specs.FileText.{case_texts};
-ghost use Rattle.cancellation.specs.View.{Lends, chosen_by, texts_of, number_of, answer_of, length_of};
+ghost use Rattle.cancellation.specs.View.{chosen_by, texts_of, number_of, answer_of, length_of};
 
+use crate::choice::Choice;
 use crate::records::{MOST_EVENTS, put_file};
-use crate::survey::{Choice, survey};
+use crate::survey::survey;
 use days::quarters::{Quarter, quarter_in};
 use days::table::{Table, make};
 use home_care::layout::ROW;
@@ -56,7 +57,7 @@ fn write_chosen(
     texts: &CaseTexts,
     out: &mut [u8],
 ) -> Result<usize, NotWritten>
-    requires { Lends choice.now × (length texts.now.region.now ≡ 3) × (length texts.now.asl.now ≡ 3) × (length texts.now.date.now ≡ 10) × (length texts.now.id.now ≡ 88) }
+    requires { (length texts.now.region.now ≡ 3) × (length texts.now.asl.now ≡ 3) × (length texts.now.date.now ≡ 10) × (length texts.now.id.now ≡ 88) }
     ensures { CancelTold (of_chosen (texts_of texts.now) (chosen_by choice.now) out.old) (answer_of result) (length_of result) out.new }
 {
     let s = survey(choice);

@@ -1,4 +1,4 @@
-// The type of a record: I, V or C.
+// The type of a record: I, V or C. It stays a byte: `type_of` says of every byte which it is, and an enum would refuse some.
 ghost use Rattle.std.specs.Prelude.{◌≡◌};
 ghost use Rattle.model.specs.Transmission.{is_insert, is_cancel};
 ghost use Rattle.home_care.specs.Record.{type_of};

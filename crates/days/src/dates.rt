@@ -23,7 +23,8 @@ pub struct Parts {
     pub day: u32,
 }
 
-// The number that n digits write, and 0 where one is no digit: no part of a date is 0.
+// The number that a text of few digits writes, and 0 where one is no digit: no part of a date is 0. `read_digits` goes on where one is no digit, and tracks' `number`
+// is of digits alone: one function of the three would have the clauses of all.
 fn digits(s: &[u8]) -> u32
     requires { length s.now ≤ 4 }
     ensures { (result ≡ cond (all is_digit s.now) (decimal s.now) 0) × (result < 10000) }

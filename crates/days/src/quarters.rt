@@ -60,6 +60,7 @@ pub fn quarter_in(t: &Table, year: u64, quarter: u64) -> Option<Quarter>
     quarter_by(year, quarter, |y, m, d| day_number(t, y, m, d))
 }
 
+// judge and cancellation ask the same of wider days, each in its own comparison: one generic over both would name the bound that makes it one.
 pub fn within(first: u32, last: u32, day: u32) -> bool
     ensures { result ≡ leb first day && leb day last }
 {

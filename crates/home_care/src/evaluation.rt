@@ -1,4 +1,4 @@
-// An evaluation: six scales and a prevalente as one number of 47 bits (RULES.md, R32 to R34).
+// An evaluation: six scales and a prevalente as one number of 47 bits (RULES.md, R32 to R34). Here a row is told by its length alone, which `row_at` gives.
 ghost use Rattle.std.specs.Prelude.{◌≡◌, ◌^◌, ◌<◌, length};
 ghost use Rattle.home_care.specs.Row.{row_bytes, evaluation_bits, evaluation_number, evaluation_in, «evaluates»};
 ghost use Rattle.home_care.specs.Fits.{EvaluationFits, evaluation_with, as_event};

@@ -1,4 +1,5 @@
-// The fields of an event's 52 bits, an event in its row, and two events that share a day.
+// The fields of an event's 52 bits, an event in its row, and two events that share a day. An event stays a number: these answer for every number, and only what
+// packs a row asks that it has 52 bits.
 ghost use Rattle.std.specs.Prelude.{◌≡◌, ◌+◌, ◌≤◌, ◌-◌, ◌<◌, ◌^◌, eqb, length};
 ghost use Rattle.rows.specs.Packing.{field_at};
 ghost use Rattle.home_care.specs.Row.{day_bits, key_bits, event_bits, own_bits, past_own, kind_of, date_of, code_of, end_of, accesses_of, conferma_of, event_key_of, event_number_in_wide};

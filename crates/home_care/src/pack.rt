@@ -1,4 +1,4 @@
-// The rows of the table, packed: into a buffer of any length that has room for the fields.
+// The rows of the table, packed: into a buffer of any length that has room for the fields, which stays a clause, since no type says "at least so long".
 ghost use Rattle.std.specs.Prelude.{◌≡◌, ◌+◌, ◌-◌, ◌*◌, ◌^◌, ◌≤◌, ◌<◌, length};
 ghost use Rattle.rows.specs.Packing.{num, row_number};
 ghost use Rattle.rows.specs.Writer.{so_far, count, Wrote, start};

@@ -8,7 +8,7 @@ ghost use Rattle.home_care.specs.Allowed.{prevalente_allowed};
 fn is_text(b: u8) -> bool
     ensures { result ≡ in_file b && is_text b }
 {
-    (((b == 9) | ((b == 10) | (b == 13))) | ((32 <= b) & (b <= 126))) & (b != b'&') & (b != b'<')
+    markup::bytes::in_file(b) & markup::bytes::is_text(b)
 }
 
 pub fn all_text(s: &[u8]) -> bool

@@ -1,5 +1,5 @@
 // A record's head, as judging and storing want it.
-ghost use Rattle.std.specs.Prelude.{◌<◌};
+ghost use Rattle.std.specs.Prelude.{ℕ, ◌<◌};
 ghost use Rattle.days.specs.DayNumbers.{day_count};
 ghost use Rattle.markup.specs.Elements.{Tree};
 ghost use Rattle.tracks.specs.RecordFields.{head_of};
@@ -15,8 +15,8 @@ use tracks::record::{Top, head};
 
 // The record of either track whose children are at hand: its type and taking in, and its case's key packed into a row.
 pub fn heading(t: &Table, s: &[u8], top: Top) -> Heading
-    requires { (track : _) × (a : Tree) × Here track s.now top a }
-    ensures { ((track : _) (a : Tree) → Here track s.now top a → IsOf result.probe result.tipo result.taken (head_of a)) × (result.taken < day_count) }
+    requires { (track : ℕ) × (a : Tree) × Here track s.now top a }
+    ensures { ((track : ℕ) (a : Tree) → Here track s.now top a → IsOf result.probe result.tipo result.taken (head_of a)) × (result.taken < day_count) }
 {
     let h = head(t, s, top);
     let asl = part(s, h.asl, h.asl + 3);

@@ -11,7 +11,7 @@ pub mod track2;
 ghost use Rattle.std.specs.Prelude.{◌≡◌};
 ghost use Rattle.intake.specs.Told.{told_by};
 
-// The file's answer, the record number, the counts, and the place.
+// The file's answer, the record number, the counts, and the place: numbers, as `siad_submit` tells them to C (host/siad.h).
 #[derive(Clone, Copy)]
 pub struct Report {
     pub answer: u64,

@@ -1,4 +1,5 @@
-// The records of a file, each judged against the register that the earlier ones left.
+// The records of a file, each judged against the register that the earlier ones left. What a call lends goes singly: two fields of one struct that are lent to be
+// written can't be lent on at once.
 ghost use Rattle.std.specs.Prelude.{◌≡◌, true, length, drop};
 ghost use Rattle.markup.specs.Elements.{Inside, Tree, kids};
 ghost use Rattle.markup.specs.View.{part};

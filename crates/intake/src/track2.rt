@@ -27,6 +27,7 @@ pub fn take_events(t: &Table, l: Limits, s: &[u8], top: Top, reg: &mut [u8]) -> 
     ensures { (a : Tree) → Here 2 s.now top a → Took (siad_driver 2 (context_in l)) reg.old a (answer_of result) reg.new }
 {
     let h = heading(t, s, top);
+    // two arrays and a number, since no memory is taken but stack, and `events` fills what it is lent
     let mut evs = [0u64; MOST_EVENTS];
     let mut kept = [0u64; MOST_EVENTS];
     let read = events(t, s, top, &mut evs, &mut kept);

@@ -1,4 +1,5 @@
-// A record's case in a sound register.
+// A record's case in a sound register. That its counts end within it stays a clause on `reg`: the register is written between two records, so a struct that held
+// it would be made anew for each, and docs/ names the functions that take any such bytes.
 ghost use Rattle.std.specs.Prelude.{◌≡◌, true, ◌+◌, ◌≤◌, ◌<◌, length};
 ghost use Rattle.model.specs.Map.{has};
 ghost use Rattle.register.specs.Layout.{row_at, cases_held, events_held};

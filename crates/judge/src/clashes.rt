@@ -55,7 +55,8 @@ pub fn clash_standing(number: u64, evs: &[u64], a: u64, b: u64) -> bool
     !key_among(evs, b)
 }
 
-// Whether two of the record's events clash, or one of them and one that stands and is not replaced; left as soon as two do.
+// Whether two of the record's events clash, or one of them and one that stands and is not replaced; left as soon as two do. Labelled loops and no chain: a form that
+// was asked for (docs/DECISIONS.md, "Forms asked for").
 pub fn clashes(number: u64, evs: &[u64], rows: CaseRows) -> bool
     ensures { Settled rows.entry.reg.now rows.entry.lo rows.entry.hi → result ≡ fresh (clash number) evs.now (standing_in rows.entry.reg.now rows.entry.lo rows.entry.hi) }
 {

@@ -26,7 +26,7 @@ pub fn is_name(b: u8) -> bool
     is_name_start(b) | (((b'0' <= b) & (b <= b'9')) | ((b == b'-') | ((b == b'.') | (b == b':'))))
 }
 
-fn in_file(b: u8) -> bool
+pub fn in_file(b: u8) -> bool
     ensures { result ≡ in_file b }
 {
     (((b == 9) | ((b == 10) | (b == 13))) | ((32 <= b) & (b <= 126))) & (b != b'&')

@@ -50,7 +50,8 @@ impl Cursor {
     }
 
     // The same for an element whose name is one: an end tag is held against its bytes. A longer name is refused
-    // without being read, since it goes on with a byte that is neither white space nor `>`.
+    // without being read, since it goes on with a byte that is neither white space nor `>`. It can't go on by `known_piece`, which promises nothing of what is
+    // refused.
     pub fn own_piece(self, s: &[u8], name: usize, name_end: usize) -> Option<Piece>
         ensures { (WholeName (part s.now name name_end) → view_piece s.now self.at result ≡ piece (part s.now name name_end) (drop self.at s.now)) × ok_piece s.now self.at result }
     {

@@ -23,6 +23,7 @@ pub struct Span {
     pub end: usize,
 }
 
+// The text of what is missing: empty, as `text_of` and `attr_of` have it.
 pub const EMPTY: Span = Span { start: 0, end: 0 };
 
 // What stands in an element: the places of its name, the place after its start tag, and the levels that its children have at most.

@@ -13,7 +13,7 @@ use markup::bytes::{part, same};
 use markup::{Cursor, Piece, TagStep};
 use reading::skips::head;
 
-// The value of the attribute x, from the place after a tag's name.
+// The value of the attribute x, from the place after a tag's name: by markup's step itself, one test of what it gives, as schema's private reader is.
 fn value_from(s: &[u8], after: usize, x: &[u8]) -> Option<Span>
     ensures { ((a : Attributes) (m : List ℕ) → attributes (drop after s.now) ≡ read a m → Valued s.now x.now a.pairs result) × ok_value s.now result }
 {

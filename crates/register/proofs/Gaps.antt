@@ -300,11 +300,9 @@ key_here w k p a row e = rw e
 
 -- the field that was read from the row as the code cuts it out
 pub field_got : (w i at k r : ℕ) (reg : List ℕ) → 4 + w * (i + 1) ≤ length reg →
-    HeldAt (take (4 + w * i + w - (4 + w * i)) (drop (4 + w * i) reg)) at k r → r ≡ field_in w at k reg i
+    HeldAt (take w (drop (4 + w * i) reg)) at k r → r ≡ field_in w at k reg i
 unfolding field_in
 field_got w i at k r reg h g =
-    let e : 4 + w * i + w - (4 + w * i) ≡ w = omega arith in
     let n : length (bytes_at w reg i) ≡ w = length-take-le w (drop (4 + w * i) reg) (rw length-drop (omega arith)) in
     g.value
-    ∙ ap (λ (j : ℕ). field_at (8 * length (take j (drop (4 + w * i) reg)) - (at + k)) k (num (take j (drop (4 + w * i) reg)))) e
     ∙ ap (λ (j : ℕ). field_at (8 * j - (at + k)) k (num (bytes_at w reg i))) n

@@ -21,13 +21,12 @@ use Rattle.register.specs.Search.{key_at, probe_key}
 use Rattle.register.specs.TakenOutBytes.{stands_at}
 
 -- the first bits of row i, as the code cuts it out
-pub row_key : (w k i : ℕ) (reg : List ℕ) → 4 + w * (i + 1) ≤ length reg → first_bits k (take (4 + w * i + w - (4 + w * i)) (drop (4 + w * i) reg)) ≡ key_at w k reg i
+pub row_key : (w k i : ℕ) (reg : List ℕ) → 4 + w * (i + 1) ≤ length reg → first_bits k (take w (drop (4 + w * i) reg)) ≡ key_at w k reg i
 unfolding key_at
 row_key w k i reg h =
-    let e : 4 + w * i + w - (4 + w * i) ≡ w = omega arith in
     let t : List ℕ = take w (drop (4 + w * i) reg) in
     let n : length t ≡ w = length-take-le w (drop (4 + w * i) reg) (rw length-drop (omega arith)) in
-    ap (λ (j : ℕ). first_bits k (take j (drop (4 + w * i) reg))) e ∙ ap (λ (j : ℕ). num t / 2 ^ (8 * j - k)) n
+    ap (λ (j : ℕ). num t / 2 ^ (8 * j - k)) n
 
 pub probe_key_lem : (w k : ℕ) (probe : List ℕ) → length probe ≡ w → first_bits k probe ≡ probe_key w k probe
 unfolding probe_key

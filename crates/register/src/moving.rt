@@ -1,4 +1,5 @@
 // A part of the register moved on, moved back and cleared. It is lent from a row on: earlier rows are untouched by construction.
+// How far a move goes is bounded by the part that is lent, from one call to the next another: no type holds that.
 ghost use Rattle.std.specs.Prelude.{◌≡◌, ◌++◌, ◌+◌, ◌-◌, ◌*◌, ◌≤◌, ◌<◌, length, take, drop, replicate};
 ghost use Rattle.register.specs.Moves.{closed_up, removed, removed_rows};
 

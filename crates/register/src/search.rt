@@ -1,9 +1,12 @@
 // Rows found by binary search, by the first bits of a probe row.
+// Probe, its bits and the rows' width stay parameters with a clause: what `place` answers is a bound on a key or on one more than a key, by t, and a struct of
+// the three would be made anew for each of a caller's two searches, at a width that is a constant there. So do the bounds of a search: another span at each.
 ghost use Rattle.std.specs.Prelude.{◌≡◌, ℕ, Bool, ◌&&◌, ◌+◌, ◌*◌, ◌≤◌, ◌<◌, ltb, eqb, length};
 ghost use Rattle.rows.specs.Ordering.{order_of};
 ghost use Rattle.register.specs.Gap.{field_in};
 ghost use Rattle.register.specs.Search.{key_at, probe_key, Placed, Ranged};
 
+use crate::row::row_at;
 use rows::reader::{compare, get};
 use std::cmp::Ordering;
 
@@ -12,9 +15,7 @@ pub fn compare_row(reg: &[u8], w: usize, i: usize, probe: &[u8], kbits: usize) -
     requires { (4 + w * (i + 1) ≤ length reg.now) × (length probe.now ≡ w) × (kbits ≤ 8 * w) }
     ensures { result ≡ order_of (key_at w kbits reg.now i) (probe_key w kbits probe.now) }
 {
-    let from = 4 + w * i;
-    let to = from + w;
-    compare(&reg[from..to], probe, kbits)
+    compare(row_at(reg, w, i), probe, kbits)
 }
 
 // Whether the key of row i is below the probe's, or, with t 1, not above it.
@@ -29,7 +30,8 @@ pub fn below(reg: &[u8], w: usize, i: usize, probe: &[u8], kbits: usize, t: usiz
     }
 }
 
-// The first place from lo up to hi that is not below, or hi, by halving what is left: of numbers that don't fall, where `below` tells which are below v.
+// The first place from lo up to hi that is not below, or hi, by halving what is left: of numbers that don't fall, where `below` tells which are below v. By hand:
+// `partition_point` is a slice's, and the bytes of rows are no slice of rows.
 fn halved<F: Fn(usize) -> bool>(lo: usize, hi: usize, below: F) -> usize
     requires order { lo ≤ hi }
     requires callable { (i : ℕ) → lo ≤ i → i < hi → F.pre below i }
@@ -98,9 +100,7 @@ pub fn field_in(reg: &[u8], w: usize, i: usize, at: usize, wide: usize) -> u64
     requires { (4 + w * (i + 1) ≤ length reg.now) × (wide ≤ 56) × (at + wide ≤ 8 * w) }
     ensures { result ≡ field_in w at wide reg.now i }
 {
-    let from = 4 + w * i;
-    let to = from + w;
-    get(&reg[from..to], at, wide)
+    get(row_at(reg, w, i), at, wide)
 }
 
 // The first row from lo up to hi whose `wide` bits after the first `at` are not below v, or hi.

@@ -28,6 +28,7 @@ fn image(rt: &impl Print, reg: &[u8]) -> io::Result<()> {
     find(rt, reg)
 }
 
+// As in markup_cases and shape_cases: a common one would take the printing in its midst as a closure, with the clause that says when that may be called.
 fn one(rt: &(impl Files + Print), path: &str) -> io::Result<()> {
     print!(rt; "{path}")?;
     let mut text = [0u8; 65536];

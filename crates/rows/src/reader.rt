@@ -1,4 +1,4 @@
-// Fields read back out of a row, and rows compared by their first bits.
+// Fields read back out of a row, and rows compared by their first bits. How many bits a call reads is bounded in its clause: at each call it is another field.
 ghost use Rattle.std.specs.Prelude.{◌≡◌, ◌+◌, ◌-◌, ◌*◌, ◌^◌, ◌≤◌, ◌<◌, length, take};
 ghost use Rattle.rows.specs.Packing.{num, first_bits, HeldAt, each_at};
 ghost use Rattle.rows.specs.Ordering.{order_of};

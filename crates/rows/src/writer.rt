@@ -1,4 +1,4 @@
-// A bit writer over a lent buffer, most significant bit first.
+// A bit writer over a lent buffer, most significant bit first. How many bits a call writes is bounded in its clause: at each call it is another field.
 ghost use Rattle.std.specs.Prelude.{◌^◌, ◌<◌};
 
 // `at` bytes are written, and `have` bits, fewer than 8, wait in `acc`. It lends no buffer, so that one that has written a key serves many rows.
@@ -38,6 +38,7 @@ impl Bits {
         let mut acc = (self.acc << w) + v;
         let mut have = self.have + w;
         let mut at = self.at;
+        // a `while`: how many bytes leave is told by the bits that wait
         while 8 <= have {
             have -= 8;
             out[at] = (acc >> have) as u8;

@@ -21,11 +21,11 @@ use Rattle.schema.specs.Schema.{particle_of, Schema}
 use Rattle.schema.specs.Shape.{attrs_fit, enough, first_fault, fault_in, fault_of, named_in, Shape, faulty, first_bad, records_of, shape_of}
 use Rattle.schema.specs.CountedElements.{count_of, first_over, Held, good, bad, over, held_by, held_of}
 use Rattle.schema.specs.Table.{number_cell, first_cell, many_cell, cell, name_at, head_at, node_at, schema_at}
-use Rattle.std.specs.Prelude.{Option, None, Some, Result, Ok, Err}
+use Rattle.std.specs.Prelude.{Option, None, Some, Result, Ok, Err, IfSome}
 use Rattle.std.specs.Option.{option_or}
 use Rattle.schema.specs.declared.file.Records.{Records}
 use Rattle.schema.specs.declared.file.BadRecord.{BadRecord}
-use Rattle.schema.specs.View.{nodes_from, view_over, ok_over, held_after, ok_seen, held_inside}
+use Rattle.schema.specs.View.{nodes_from, view_over, ok_over, held_after, ok_seen, FromOne, held_inside}
 use Rattle.schema.proofs.Heads.{head_is, nodes_start}
 use Rattle.schema.proofs.Group.{Quiet}
 use Rattle.schema.proofs.Tagged.{Tagged, tagged}
@@ -85,6 +85,15 @@ module _ (table pool ranges : List ℕ) {each : ℕ} (a : each ≡ cell table po
 pub further_on : (k : Result Records BadRecord) {a b : ℕ} → a ≤ b → ok_seen a k → ok_seen b k
 further_on (Ok r) h e = (omega arith, e.1)
 further_on (Err b) h e = omega arith
+
+-- what is known counts records from 1
+pub from_one : (at : ℕ) (k : Result Records BadRecord) → ok_seen at k → FromOne k
+from_one at (Ok r) h = go r.over h.1
+  where
+    go : (o : Option ℕ) → ok_over r.number o → IfSome o (λ k. 0 < k)
+    go (Some k) e = e.0
+    go None e = tt
+from_one at (Err b) h = tt
 
 -- after all of them
 module _ (sc : Schema) where

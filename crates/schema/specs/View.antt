@@ -1,5 +1,5 @@
 -- What the code's answers say.
-use Rattle.std.specs.Prelude.{ℕ, ◌+◌, ◌-◌, ◌<◌, ◌≤◌, ◌≡◌, ◌⊎◌, Bool, true, false, cond, not, ◌&&◌, List, [], ◌∷◌, eqb, leb, length, drop, Option, None, Some, Result, Ok, Err}
+use Rattle.std.specs.Prelude.{ℕ, ◌+◌, ◌-◌, ◌<◌, ◌≤◌, ◌≡◌, ◌⊎◌, Bool, true, false, cond, not, ◌&&◌, List, [], ◌∷◌, eqb, leb, length, drop, Option, None, Some, Result, Ok, Err, IfSome}
 use Rattle.laws.specs.Decimal.{is_digit, decimal}
 use Rattle.laws.specs.Lists.{all, same}
 use Rattle.markup.specs.Bytes.{is_ws}
@@ -227,9 +227,14 @@ ok_seen at (Err b) = b.number ≤ at
 abbrev pub held_inside : Schema → ℕ → Inside → Held
 held_inside s z i = cond (eqb (fault_in s.nodes 0 z i) 0) (held_after s (Ok (record { number = 0; over = None })) (kids i)) (bad 0 z)
 
+-- records are counted from 1
+abbrev pub FromOne : Result Records BadRecord → Type 0
+FromOne (Ok r) = IfSome r.over (λ k. 0 < k)
+FromOne (Err b) = Unit
+
 -- what is known at a place after all records, as an answer
 pub record Answers (last : Result Records BadRecord) (r : Result ℕ ShapeFault) : Type 0 where
-  pub tells : (sc : Schema) (at : ℕ) → ok_seen at last → view_shape r ≡ held_after sc last []
+  pub tells : (sc : Schema) → FromOne last → view_shape r ≡ held_after sc last []
   pub places : (s : List ℕ) (at : ℕ) → ok_seen at last → at ≤ length s → ok_shape s r
 
 -- the element at a place, of any number of levels, has the name of a row

@@ -1,5 +1,5 @@
 // The attributes of a start tag, from the place after its name on.
-ghost use Rattle.std.specs.Prelude.{◌≡◌, not, ◌||◌, List, [], ℕ, ◌<◌, drop};
+ghost use Rattle.std.specs.Prelude.{◌≡◌, not, ◌||◌, List, [], ℕ, drop};
 ghost use Rattle.laws.specs.Lists.{all, any, same};
 ghost use Rattle.markup.specs.View.{OfPairs};
 ghost use Rattle.schema.specs.Texts.{fits_text};
@@ -11,7 +11,7 @@ use crate::table::{LEAST, Rows, Tables};
 use markup::bytes::{begins, part, peek, same};
 use markup::{Attribute, Cursor, TagStep};
 
-// A name is that of a key, or, if it is free, how the key begins.
+// A name is that of a key, or, if it is free, how the key begins. By markup's `same`, not `==`: its clause is in the rules' words, so that this proves alone.
 fn takes(free: bool, name: &[u8], key: &[u8]) -> bool
     ensures { result ≡ takes free name.now key.now }
 {
@@ -35,7 +35,6 @@ fn next_attribute(s: &[u8], here: Cursor) -> Option<Attribute>
 impl Tables<'_> {
     // One of the names of the rows takes the key.
     fn is_known(&self, rows: Rows, free: bool, key: &[u8]) -> bool
-        requires { (rows.first < 65536) × (rows.n < 65536) }
         ensures { (ranges : List ℕ) → result ≡ any (λ x. takes free x key.now) (names_at self.now.table.now self.now.pool.now ranges rows.first rows.n) }
     {
         for k in 0..rows.n {
@@ -47,7 +46,6 @@ impl Tables<'_> {
     }
 
     fn all_known(&self, rows: Rows, free: bool, s: &[u8], after: usize) -> bool
-        requires { (rows.first < 65536) × (rows.n < 65536) }
         ensures { (ranges : List ℕ) → OfPairs (all (λ p. any (λ x. takes free x p.key) (names_at self.now.table.now self.now.pool.now ranges rows.first rows.n))) (drop after s.now) result }
     {
         if peek(s, after) == b'>' {
@@ -94,7 +92,6 @@ impl Tables<'_> {
     }
 
     fn all_attrs(&self, rows: Rows, s: &[u8], after: usize) -> bool
-        requires { (rows.first < 65536) × (rows.n < 65536) }
         ensures { OfPairs (λ ps. all (attr_fits ps) (attrs_at self.now.table.now self.now.pool.now self.now.ranges.now rows.first rows.n)) (drop after s.now) result }
     {
         for k in 0..rows.n {

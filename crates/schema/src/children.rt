@@ -1,11 +1,11 @@
 // The children of a group, held against the rows of its nodes.
-ghost use Rattle.std.specs.Prelude.{◌≡◌, List, ℕ, ◌<◌};
+ghost use Rattle.std.specs.Prelude.{◌≡◌, List, ℕ};
 ghost use Rattle.schema.specs.Shape.{may_come, enough};
 ghost use Rattle.schema.specs.Table.{head_at};
 ghost use Rattle.schema.specs.View.{nodes_from, Sought, Spotted};
 
+use crate::name_at;
 use crate::table::{LEAST, MOST, Rows, Tables};
-use markup::Cursor;
 use markup::bytes::part;
 
 // Where a child stands: the item of its group's rows, and how many of that item have been before.
@@ -30,7 +30,6 @@ impl Tables<'_> {
 
     // The item of a name, from an item on of which so many have been.
     fn seek(&self, rows: Rows, from: Spot, x: &[u8]) -> Option<Spot>
-        requires { (rows.first < 65536) × (rows.n < 65536) }
         ensures { Sought self.now.table.now self.now.pool.now x.now rows.first rows.n from.item from.count result }
     {
         let mut count = from.count;
@@ -49,7 +48,6 @@ impl Tables<'_> {
 
     // None that must come is left, from an item on of which so many have been.
     pub fn enough(&self, rows: Rows, from: Spot) -> bool
-        requires { (rows.first < 65536) × (rows.n < 65536) }
         ensures { (pool ranges : List ℕ) (d : ℕ) → result ≡ enough (nodes_from self.now.table.now pool ranges d rows.first rows.n from.item) from.count }
     {
         let mut count = from.count;
@@ -64,14 +62,9 @@ impl Tables<'_> {
 
     // Where the child at a place stands.
     pub fn spot_of(&self, s: &[u8], at: usize, rows: Rows, from: Spot) -> Option<Spot>
-        requires { (rows.first < 65536) × (rows.n < 65536) }
         ensures { Spotted self.now.table.now self.now.pool.now s.now at rows.first rows.n from.item from.count result }
     {
-        if s.len() <= at {
-            return None;
-        }
-        let first = Cursor { at: at + 1 };
-        let name = first.name(s)?;
+        let name = name_at(s, at)?;
         self.seek(rows, from, part(s, name.start, name.end))
     }
 }

@@ -5,12 +5,12 @@ ghost use Rattle.schema.specs.View.{ok_seen, ok_leaf, faulty_of, Answers, HasNam
 use crate::children::Spot;
 use crate::steps::Step;
 use crate::table::{BELOW_ROOT, Kind, NUMBER, Tables};
-use crate::{Fault, Name, Past};
+use crate::{Fault, Name, Past, name_at};
+use markup::Ending;
 use markup::bytes::{part, same};
-use markup::{Cursor, Ending};
 
-// A file that is not of the shape: the number of the record at fault, 0 for none, and the bytes left at the `<` of the element at fault; or the number of the
-// first record with too many counted elements.
+// A file that is not of the shape: the number of the record at fault, 0 for none as the report tells it, and the bytes left at the `<` of the element at fault;
+// or the number of the first record with too many counted elements.
 #[derive(Clone, Copy)]
 pub enum ShapeFault {
     Faulty { number: usize, from: usize },
@@ -68,15 +68,11 @@ fn answer(seen: Result<Records, BadRecord>) -> Result<usize, ShapeFault>
 }
 
 impl Tables<'_> {
-    // The element at a place has the name of a row.
+    // The element at a place has the name of a row: by markup's `same`, as in `shape`, in the rules' words, where `==` owes a lemma at each of seven exits.
     fn has_name(&self, row: usize, s: &[u8], at: usize) -> bool
         ensures { HasName self.now.table.now self.now.pool.now s.now at row result }
     {
-        if s.len() <= at {
-            return false;
-        }
-        let first = Cursor { at: at + 1 };
-        match first.name(s) {
+        match name_at(s, at) {
             Some(name) => same(self.name_of(row), part(s, name.start, name.end)),
             None => false,
         }
@@ -180,15 +176,11 @@ impl Tables<'_> {
     pub fn shape(&self, s: &[u8], root: usize) -> Result<usize, ShapeFault>
         ensures { HeldFile self.now.table.now self.now.pool.now self.now.ranges.now s.now root result }
     {
-        if s.len() <= root {
-            return Ok(0);
-        }
-        let from = s.len() - root;
-        let outside = ShapeFault::Faulty { number: 0, from };
-        let first = Cursor { at: root + 1 };
-        let Some(text) = first.name(s) else {
+        let Some(text) = name_at(s, root) else {
             return Ok(0);
         };
+        let from = s.len() - root;
+        let outside = ShapeFault::Faulty { number: 0, from };
         if !same(self.name_of(0), part(s, text.start, text.end)) {
             return Err(outside);
         }

@@ -1,6 +1,10 @@
 // The shape of a file: one interpreter of schema tables, over any table that is lent.
 #![tactic(auto)]
 
+ghost use Rattle.std.specs.Prelude.{◌≡◌, ◌+◌, drop};
+ghost use Rattle.markup.specs.NamesAndValues.{name};
+ghost use Rattle.markup.specs.View.{view_got, ok_got};
+
 pub mod attrs;
 pub mod children;
 pub mod elements;
@@ -10,6 +14,8 @@ pub mod steps;
 pub mod table;
 pub mod texts;
 pub mod too_many;
+
+use markup::{Cursor, Text};
 
 // An element that has no fault: the place past it, and how many counted elements stand in it.
 #[derive(Clone, Copy)]
@@ -29,4 +35,15 @@ pub struct Fault {
 pub struct Name {
     pub start: usize,
     pub end: usize,
+}
+
+// The name of the element at a place, read from past its `<` on.
+fn name_at(s: &[u8], at: usize) -> Option<Text>
+    ensures { (view_got s.now result ≡ name (drop (at + 1) s.now)) × ok_got s.now (at + 1) result }
+{
+    if s.len() <= at {
+        return None;
+    }
+    let first = Cursor { at: at + 1 };
+    first.name(s)
 }

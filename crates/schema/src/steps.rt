@@ -1,5 +1,4 @@
 // One step through what stands in a group: the next piece, held against the rows of the group's nodes.
-ghost use Rattle.std.specs.Prelude.{◌<◌};
 ghost use Rattle.schema.specs.View.{Stepped};
 
 use crate::Name;
@@ -20,7 +19,6 @@ pub enum Step {
 impl Tables<'_> {
     // The step from a place in a group of a name, by the group's rows, at an item of which so many have been; None for a fault that is the group's.
     pub fn advance(&self, s: &[u8], at: usize, name: Name, rows: Rows, from: Spot) -> Option<Step>
-        requires { (rows.first < 65536) × (rows.n < 65536) }
         ensures { Stepped self.now.table.now self.now.pool.now s.now at name.start name.end rows.first rows.n from.item from.count result }
     {
         let here = Cursor { at };

@@ -10,6 +10,7 @@ use markup::bytes::part;
 // limit, the first child or range and how many, the first attribute's row and how many.
 pub const CELLS: usize = 11;
 
+// The places stay numbers: they are columns of a table that is data, not kinds of anything.
 pub const NAME: usize = 0;
 
 pub const LENGTH: usize = 1;
@@ -64,14 +65,16 @@ impl From<u16> for Kind {
     }
 }
 
-// So many rows, or ranges, from the first on. That both are below 65,536 stays a clause: docs/ names `spot_of` and `advance`, which take any such numbers.
+// So many rows, or ranges, from the first on: both are numbers that a cell holds.
 #[derive(Clone, Copy)]
 pub struct Rows {
     pub first: usize,
     pub n: usize,
+    pub ghost first_small: { first < 65536 },
+    pub ghost few: { n < 65536 },
 }
 
-// A schema's tables: its rows, the pool of its names and the pool of its ranges.
+// A schema's tables: its rows, the pool of its names and the pool of its ranges. The file and the place in it go beside: another place at each call.
 #[derive(Clone, Copy)]
 pub struct Tables<'a> {
     pub table: &'a [u16],
@@ -119,23 +122,27 @@ impl<'a> Tables<'a> {
         part(self.pool, start, start + n)
     }
 
-    // The rows of the children in a group, or the ranges of a leaf.
-    pub fn children(&self, row: usize) -> Rows
-        ensures { (result.first ≡ cell self.now.table.now [] [] row first_cell) × (result.n ≡ cell self.now.table.now [] [] row many_cell) × (result.first < 65536) × (result.n < 65536) }
+    // The rows that two of a row's cells tell.
+    fn rows_at(&self, row: usize, first: usize, many: usize) -> Rows
+        ensures { (result.first ≡ cell self.now.table.now [] [] row first) × (result.n ≡ cell self.now.table.now [] [] row many) }
     {
         Rows {
-            first: self.cell(row, FIRST) as usize,
-            n: self.cell(row, MANY) as usize,
+            first: self.cell(row, first) as usize,
+            n: self.cell(row, many) as usize,
         }
     }
 
-    pub fn attributes(&self, row: usize) -> Rows
-        ensures { (result.first ≡ cell self.now.table.now [] [] row attr_cell) × (result.n ≡ cell self.now.table.now [] [] row attrs_cell) × (result.first < 65536) × (result.n < 65536) }
+    // The rows of the children in a group, or the ranges of a leaf.
+    pub fn children(&self, row: usize) -> Rows
+        ensures { (result.first ≡ cell self.now.table.now [] [] row first_cell) × (result.n ≡ cell self.now.table.now [] [] row many_cell) }
     {
-        Rows {
-            first: self.cell(row, ATTR) as usize,
-            n: self.cell(row, ATTRS) as usize,
-        }
+        self.rows_at(row, FIRST, MANY)
+    }
+
+    pub fn attributes(&self, row: usize) -> Rows
+        ensures { (result.first ≡ cell self.now.table.now [] [] row attr_cell) × (result.n ≡ cell self.now.table.now [] [] row attrs_cell) }
+    {
+        self.rows_at(row, ATTR, ATTRS)
     }
 
     // A number of the ranges' pool.

@@ -64,7 +64,6 @@ impl Tables<'_> {
 
     // A number in one of the ranges; so is every number that is as large as no range reaches.
     fn in_ranges(&self, rows: Rows, x: usize) -> bool
-        requires { (rows.first < 65536) × (rows.n < 65536) }
         ensures { (t p : List ℕ) (y : ℕ) → Near x y → result ≡ in_ranges (ranges_at t p self.now.ranges.now rows.first rows.n) y }
     {
         for k in 0..rows.n {
@@ -77,14 +76,12 @@ impl Tables<'_> {
     }
 
     fn all_in_ranges(&self, rows: Rows, text: &[u8]) -> bool
-        requires { (rows.first < 65536) × (rows.n < 65536) }
         ensures { (t p : List ℕ) → result ≡ all (in_ranges (ranges_at t p self.now.ranges.now rows.first rows.n)) text.now }
     {
         text.iter().all(|b| self.in_ranges(rows, *b as usize))
     }
 
     fn digits_in(&self, rows: Rows, text: &[u8]) -> bool
-        requires { (rows.first < 65536) × (rows.n < 65536) }
         ensures { (t p : List ℕ) → result ≡ digits_in (ranges_at t p self.now.ranges.now rows.first rows.n) text.now }
     {
         match number_of(text) {
@@ -95,7 +92,6 @@ impl Tables<'_> {
 
     // After `-` only 0 may stand.
     fn zero_in(&self, rows: Rows, text: &[u8]) -> bool
-        requires { (rows.first < 65536) × (rows.n < 65536) }
         ensures { (t p : List ℕ) → result ≡ digits_in (ranges_at t p self.now.ranges.now rows.first rows.n) text.now && eqb (decimal text.now) 0 }
     {
         match number_of(text) {
@@ -105,7 +101,6 @@ impl Tables<'_> {
     }
 
     fn signed_in(&self, rows: Rows, text: &[u8]) -> bool
-        requires { (rows.first < 65536) × (rows.n < 65536) }
         ensures { (t p : List ℕ) → result ≡ signed_in (ranges_at t p self.now.ranges.now rows.first rows.n) text.now }
     {
         match text {

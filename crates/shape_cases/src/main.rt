@@ -34,6 +34,7 @@ fn track_of(name: &[u8]) -> u64 {
     2
 }
 
+// As in markup_cases and register_cases, whose lines tell of it: the printing in the midst is another.
 fn one(rt: &(impl Files + Print), path: &str) -> io::Result<()> {
     print!(rt; "{path}")?;
     let mut text = [0u8; 65536];

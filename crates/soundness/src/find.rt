@@ -77,23 +77,40 @@ fn find_key(reg: &[u8], w: usize, probe: &[u8]) -> Result<usize, Missing>
     Ok(4 + w * i)
 }
 
+// The probe row of the texts' key over a lent buffer, where they are allowed. A bool beside the buffer, since it may have any length that holds a key;
+// `probe_of` is the same for a row of its own.
+pub fn put_probe(t: &Table, out: &mut [u8], texts: &CaseTexts) -> bool
+    requires { key_bits ≤ 8 * length out.old }
+    ensures { (result ≡ texts_allowed texts.now.region.now texts.now.asl.now texts.now.date.now texts.now.id.now)
+        × (result ≡ true → probe_key (length out.old) key_bits out.new ≡ key_number (key_of_texts texts.now.region.now texts.now.asl.now texts.now.date.now texts.now.id.now)) }
+{
+    if (texts.asl.len() != 3) | ((texts.date.len() != 10) | (texts.id.len() != 88)) {
+        return false;
+    }
+    let Some(region) = region_of(texts.region) else {
+        return false;
+    };
+    if !(codes::code_lists::is_region(region)
+        & (codes::characters::all_alnum(texts.asl) & codes::characters::all_id(texts.id)))
+    {
+        return false;
+    }
+    let Some(taken) = read_date(t, texts.date, 0) else {
+        return false;
+    };
+    home_care::pack::pack_key(out, region, texts.asl, taken.day as u64, texts.id);
+    true
+}
+
 // The probe row, of N bytes, of the texts' key, where they are allowed.
 pub fn probe_of<const N: usize>(t: &Table, texts: &CaseTexts) -> Option<[u8; N]>
     requires { key_bits ≤ 8 * N }
     ensures { ProbeTold N result texts.now.region.now texts.now.asl.now texts.now.date.now texts.now.id.now }
 {
-    if (texts.asl.len() != 3) | ((texts.date.len() != 10) | (texts.id.len() != 88)) {
-        return None;
-    }
-    let region = region_of(texts.region)?;
-    if !(codes::code_lists::is_region(region)
-        & (codes::characters::all_alnum(texts.asl) & codes::characters::all_id(texts.id)))
-    {
-        return None;
-    }
-    let taken = read_date(t, texts.date, 0)?;
     let mut probe = [0u8; N];
-    home_care::pack::pack_key(&mut probe, region, texts.asl, taken.day as u64, texts.id);
+    if !put_probe(t, &mut probe, texts) {
+        return None;
+    }
     Some(probe)
 }
 

@@ -14,7 +14,7 @@ use home_care::row::RowBytes;
 use register::row::row_at;
 use register::search::stands;
 
-// What a case's events so far ask of the next: the least key, the event before it and the latest day; zeros at first.
+// What a case's events so far ask of the next: the least key, the event before it and the latest day; zeros at first, which clash with no event.
 #[derive(Clone, Copy)]
 struct Before {
     least: u64,

@@ -1,5 +1,6 @@
 // Text put into a lent buffer, from a place on: bytes as they are, and numbers in decimal. Where the buffer ends nothing more is written. Each function answers
 // the place after what it put, so that pieces are put one after the other; what they leave together is one law (`put_on`, proofs/PutLaws.antt).
+// Buffer and place go singly: the place is the answer, and a struct that lends the buffer would be taken apart and made again at each piece.
 #![tactic(auto)]
 
 ghost use Rattle.std.specs.Prelude.{◌≡◌, ◌<◌, length, drop};

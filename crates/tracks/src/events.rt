@@ -182,7 +182,8 @@ fn events_from(
     }
 }
 
-// The events of a record: their 52 bits in order and the evaluations beside them, as many as a buffer has room for, their number, and the two tests.
+// The events of a record: their 52 bits in order and the evaluations beside them, as many as a buffer has room for, their number, and the two tests. Two lent
+// buffers and no list of pairs: no memory is taken, and C lends two (`bench_store_events`).
 pub fn events(t: &Table, s: &[u8], top: Top, out: &mut [u64], beside: &mut [u64]) -> EventsRead
     requires { (a : Tree) × OfShape 2 s.now top a }
     ensures { (a : Tree) → OfShape 2 s.now top a → IsEvents result out.old out.new beside.old beside.new (all_said a) }

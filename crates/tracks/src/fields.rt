@@ -66,7 +66,7 @@ pub fn attr_day(t: &Table, s: &[u8], n: Node, x: &[u8]) -> u64
     day_of(t, attr_text(s, n, x))
 }
 
-// The day of an attribute that may be missing, as it is where the name is empty.
+// The day of an attribute that may be missing, as it is where the name is empty: then the number that a row keeps for it.
 pub fn attr_end(t: &Table, s: &[u8], n: Node, x: &[u8]) -> u64
     requires { Found s.now n (λ tree. stands_at x.now tree ≡ true → is_date (value_at x.now tree) ≡ true) }
     ensures { (tree : Tree) → Stands n.levels (drop n.at s.now) tree → result ≡ cond (stands_at x.now tree) (day_of (value_at x.now tree)) never }
@@ -80,7 +80,7 @@ pub fn attr_end(t: &Table, s: &[u8], n: Node, x: &[u8]) -> u64
     }
 }
 
-// The number of an attribute; 0 where it is missing, as it is where the name is empty.
+// The number of an attribute; 0 where it is missing, as it is where the name is empty: that is what a row keeps.
 pub fn attr_number(s: &[u8], n: Node, x: &[u8]) -> u64
     requires { Found s.now n (λ tree. IsNumber (value_at x.now tree)) }
     ensures { (tree : Tree) → Stands n.levels (drop n.at s.now) tree → result ≡ decimal (value_at x.now tree) }

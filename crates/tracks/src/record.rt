@@ -123,7 +123,7 @@ pub fn filled(x: &[u8]) -> [u8; 5]
     out
 }
 
-// A scale from 1 to 3, and 0 where it is missing.
+// A scale from 1 to 3, and 0 where it is missing, as a row keeps it.
 fn scale(s: &[u8], n: Node) -> u8
     requires { Found s.now n (λ tree. IsScale (text_of tree)) }
     ensures { (tree : Tree) → Stands n.levels (drop n.at s.now) tree → result ≡ decimal (text_of tree) }

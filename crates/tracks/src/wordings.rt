@@ -2,7 +2,7 @@
 use codes::code_lists::{CONCLUSION, REVALUATION, SERVICE, SUSPENSION};
 
 // An event's element and the attributes of its fields; a code may be a child's text instead; a kind lacks the fields whose names are empty,
-// as in specs/EventElements.
+// as in specs/EventElements, which has `child` too.
 #[derive(Clone, Copy)]
 pub struct Wording<'a> {
     pub kind: u64,

@@ -6,7 +6,7 @@ use Rattle.cancellation.proofs.records.put_events.Goals.{then-dated_in, else-dat
 -- The first n of the chosen events were put, and the others are in the rows that are left.
 
 pub loop-row-init : goal.loop-row-init
-loop-row-init c = none_put c.requires.order
+loop-row-init c = none_put c.args.choice.now.rows_in.order
 
 pub shape_of-out-then-n-eq-MOST_EVENTS : goal.shape_of-out-then-n-eq-MOST_EVENTS
 shape_of-out-then-n-eq-MOST_EVENTS c = c.loop-row.invariant.put.long

@@ -7,12 +7,12 @@ use Rattle.cancellation.proofs.survey.survey.Goals.{then-dated_in, else-dated_in
 -- What was surveyed so far, together with the rows that are left, gives the whole.
 
 pub loop-i-init : goal.loop-i-init
-loop-i-init c = survey_start c.requires.order
+loop-i-init c = survey_start c.args.choice.now.rows_in.order
 
 pub with-s-requires : goal.with-s-requires
 with-s-requires c =
     let v = c.loop-i.invariant in
-    (c.event_at-e.ensures.1, omega (arith, v.few, c.requires.few), v.small)
+    (c.event_at-e.ensures.1, omega (arith, v.few, c.args.choice.now.rows_in.few), v.small)
 
 pub loop-i-preserved : goal.loop-i-preserved
 loop-i-preserved c =

@@ -14,11 +14,13 @@ case_events-rows-requires c =
     let k = rw c.unwrap-probe.ensures at c.probe_of.ensures in
     (w.0, w.1, k.1)
 
+pub invariant_of-choice : goal.invariant_of-choice
+invariant_of-choice c = record { rows_in = case_inside c.args.reg.now (texts_of c.args.texts.now) c.in_ok-find.ensures c.case_events-rows.ensures }
+
 pub write_chosen-requires : goal.write_chosen-requires
 write_chosen-requires c =
-    let x = texts_of c.args.texts.now in
-    let z = are_sized c.args.reg.now x c.in_ok-find.ensures in
-    (case_inside c.args.reg.now x c.in_ok-find.ensures c.case_events-rows.ensures, z.region, z.asl, z.date, z.id)
+    let z = are_sized c.args.reg.now (texts_of c.args.texts.now) c.in_ok-find.ensures in
+    (z.region, z.asl, z.date, z.id)
 
 pub returns : goal.returns
 returns c =

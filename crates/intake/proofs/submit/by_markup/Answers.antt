@@ -1,5 +1,4 @@
 use mathlib.Core.Path.{refl}
-use native.Mathlib.Omega.{arith}
 use Rattle.judge.specs.View.{context_in}
 use Rattle.intake.specs.Steps.{call_with}
 use Rattle.intake.proofs.Filing.{no_more, taken_says}

@@ -7,18 +7,18 @@ pub returns-in_err-records : goal.returns-in_err-records
 returns-in_err-records c =
     let p = err_from_is_err_and c.from_residual.result c.from_residual.ensures.1 in
     rw (p.1, p.2)
-    record { tells = λ sc at h. rw c.in_err-records.was; places = λ s at h e. let w = rw c.in_err-records.was at h in omega arith }
+    record { tells = λ sc h. rw c.in_err-records.was; places = λ s at h e. let w = rw c.in_err-records.was at h in omega arith }
 
 pub returns-in-Some : goal.returns-in-Some
 returns-in-Some c =
     record {
-      tells = λ sc at h. let w = rw (c.in_ok-records.was, c.in-Some.is) at h in rw c.in_ok-records.was (answer_over sc c.in_ok-records.records c.in-Some.number c.in-Some.is w.1.0);
+      tells = λ sc h. rw c.in_ok-records.was (answer_over sc c.in_ok-records.records c.in-Some.number c.in-Some.is (rw (c.in_ok-records.was, c.in-Some.is) at h));
       places = λ s at h e. let w = rw (c.in_ok-records.was, c.in-Some.is) at h in omega arith;
     }
 
 pub returns-in-None : goal.returns-in-None
 returns-in-None c =
     record {
-      tells = λ sc at h. rw c.in_ok-records.was (answer_good sc c.in_ok-records.records c.in-None.is);
+      tells = λ sc h. rw c.in_ok-records.was (answer_good sc c.in_ok-records.records c.in-None.is);
       places = λ s at h e. let w = rw c.in_ok-records.was at h in omega arith;
     }

@@ -1,16 +1,13 @@
-use Rattle.schema.proofs.Tagged.{not_past, head_named, head_refused}
+use Rattle.schema.proofs.Tagged.{head_named, head_refused}
 use mathlib.Core.Bool.{false≢true}
+use native.Mathlib.Omega.{arith}
 use Rattle.schema.proofs.table.Tables.has_name.Goals as goal
-
-pub returns-then-s-at : goal.returns-then-s-at
-returns-then-s-at c =
-    record { tells = λ d t m e. absurd (not_past d c.args.s.now c.args.at t m e c.if-s-at.true); places = λ h. absurd (false≢true h) }
 
 pub returns-in-Some : goal.returns-in-Some
 returns-in-Some c =
     record {
       tells = λ d t m e. rw (head_named d c.args.s.now c.args.at t m e c.in-Some.ensures.0, ← c.name_of.ensures, ← c.part.ensures) c.same.ensures;
-      places = λ h. c.if-s-at.false;
+      places = λ h. omega (arith, c.in-Some.ensures.1);
     }
 
 pub returns-in-None : goal.returns-in-None

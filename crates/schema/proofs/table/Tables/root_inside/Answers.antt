@@ -7,7 +7,7 @@ use Rattle.schema.specs.Table.{schema_at}
 use Rattle.schema.specs.View.{held_after}
 use Rattle.schema.proofs.Heads.{nodes_start}
 use Rattle.schema.proofs.Group.{walk_past, walk_wrong, walk_on, walk_fault, walk_child}
-use Rattle.schema.proofs.Whole.{inside_bad, inside_good, held_quiet, further_on}
+use Rattle.schema.proofs.Whole.{inside_bad, inside_good, held_quiet, further_on, from_one}
 use Rattle.schema.proofs.table.Tables.root_inside.Goals as goal
 
 -- The loop's invariant: the fault in what is left is that in all that stands in the root, and what is known says of the children that are left what is said of
@@ -48,7 +48,7 @@ returns-in-Some-Past c =
           let o = b.invariant.2 i m e in
           let w = y.tells t.ranges.now below_root o.left m o.reads in
           let k = walk_past o w.0 w.1 in
-          inside_good sc a.from i k.0 (c.answer.ensures.tells sc b.at b.invariant.1 ∙ k.1);
+          inside_good sc a.from i k.0 (c.answer.ensures.tells sc (from_one b.at _ b.invariant.1) ∙ k.1);
       places = c.answer.ensures.places a.s.now b.at b.invariant.1 (omega arith);
     }
 

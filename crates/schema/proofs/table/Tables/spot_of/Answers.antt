@@ -1,11 +1,8 @@
-use Rattle.schema.proofs.Tagged.{not_past, head_named, head_refused}
+use Rattle.schema.proofs.Tagged.{head_named, head_refused}
 use Rattle.schema.specs.Shape.{seek as seek_in}
 use Rattle.schema.specs.View.{nodes_from}
 use Rattle.std.proofs.Common.{List, ℕ, sym, ap, ◌∙◌}
 use Rattle.schema.proofs.table.Tables.spot_of.Goals as goal
-
-pub returns-then-s-at : goal.returns-then-s-at
-returns-then-s-at c = record { tells = λ r d e t m i. absurd (not_past e c.args.s.now c.args.at t m i c.if-s-at.true); places = tt }
 
 pub returns-in_err-name : goal.returns-in_err-name
 returns-in_err-name c =
