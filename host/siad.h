@@ -7,7 +7,7 @@
    NULL was tried for each slice (host/test.c), and was answered as an empty buffer is; nothing promises that.
    Threads: no state is kept between calls (the archive has no writable data) and no memory is taken but stack, so calls
    over buffers of their own may run at the same time.
-   Stack: measured, not proved: siad_submit at most 14,904 bytes on the files that bench/stack makes, hostile ones among
+   Stack: measured, not proved: siad_submit at most 14,968 bytes on the files that bench/stack makes, hostile ones among
    them; siad_cancel_file 11,544, for 1 to 1,274 events (bench/cancel); siad_evaluation 10,728 and siad_convert 10,040,
    for 1 to 4,095 events (bench/evaluation). Of the archive that the older toolchain made (docs/PORT.md), not measured
    again: siad_sound 10,111 and siad_find 10,479, each on a register of 4,096 rows, a case and its reassessments. Keep

@@ -17,7 +17,7 @@ const MORE: usize = 6;
 pub struct Probe<'a> {
     pub row: &'a [u8],
     pub key: Bits,
-    ghost keyed: { Keyed row.now key (probe_key row_bytes key_bits row.now) },
+    pub ghost keyed: { Keyed row.now key (probe_key row_bytes key_bits row.now) },
 }
 
 pub fn key_in(row: &[u8]) -> Probe

@@ -187,8 +187,8 @@ const FIRSTS: [u32; 2400] = [
     72865, 72896, 72927, 72957, 72988, 73018,
 ];
 
-// The numbers of the firsts of the months, and the fact that they are: large, so it is lent and never copied.
-#[derive(Drop)]
+// The numbers of the firsts of the months, and the fact that they are: large, so it is lent, though it may be copied as an array may.
+#[derive(Clone, Copy)]
 pub struct Table {
     pub firsts: [u32; 2400],
     pub ghost firsts_hold: { Firsts firsts },

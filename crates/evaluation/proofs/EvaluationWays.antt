@@ -68,12 +68,12 @@ module _ (reg region asl date id day : List ℕ) where
   says v e a f = (a ∙ ap (λ (w : Evaluated). w.answer) (sym e), f ∙ ap (λ (w : Evaluated). w.fields) (sym e))
 
   -- the register isn't sound
-  says_3 : record { answer = 3; place = 0 } ≡ found reg region asl date id → wanted ≡ without 3
+  pub says_3 : record { answer = 3; place = 0 } ≡ found reg region asl date id → wanted ≡ without 3
   unfolding found evaluated
   says_3 e = rw (told_3 (is_sound reg) (allowed && stands) 0 spot e)
 
   -- no such case stands
-  says_30 : record { answer = 30; place = 0 } ≡ found reg region asl date id → wanted ≡ without 30
+  pub says_30 : record { answer = 30; place = 0 } ≡ found reg region asl date id → wanted ≡ without 30
   unfolding found evaluated
   says_30 e =
       let t = told_30 (is_sound reg) (allowed && stands) 0 spot e in

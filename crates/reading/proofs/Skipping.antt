@@ -297,7 +297,7 @@ module _ (s : List ℕ) (at q c : ℕ) (k : q ≡ at + run_length is_text (drop 
               let y = open_left j.1.d j.1.g j.1.z j.1.holds (sym p.0) in
               pend_text (within j.1.d j.1.g.named z j.1.i (rw p.1 y) (within d n j.0 j.2 j.3 x))
 
-      pend_no_tag : {A : Type 0} → v ≡ refused → A
+      pub pend_no_tag : {A : Type 0} → v ≡ refused → A
       pend_no_tag {A} u = go r text_here t
         where
           go : {o : ℕ} {l : List ℕ} → Pending o l m → l ≡ drop q s → 1 ≤ o → A
@@ -308,7 +308,7 @@ module _ (s : List ℕ) (at q c : ℕ) (k : q ≡ at + run_length is_text (drop 
               never cc
 
 -- nothing stands at the end of the input
-pend_none : {A : Type 0} (s : List ℕ) (at q o : ℕ) (m : List ℕ) → q ≡ at + run_length is_text (drop at s) → length s ≤ q → 1 ≤ o → Pending o (after is_text (drop at s)) m → A
+pub pend_none : {A : Type 0} (s : List ℕ) (at q o : ℕ) (m : List ℕ) → q ≡ at + run_length is_text (drop at s) → length s ≤ q → 1 ≤ o → Pending o (after is_text (drop at s)) m → A
 unfolding piece
 pend_none {A} s at q o m k h t r = go r (sym (run_after is_text s at q k) ∙ drop_of_length-le s h) t
   where

@@ -1,12 +1,14 @@
 -- In a record of Track 1 without a fault the birth year and the scales are of their types.
 use Prim.Native.Nat.{ℕ}
-use mathlib.Core.Path.{refl}
+use mathlib.Core.Path.{◌≡◌, refl}
 use mathlib.Core.List.{List, []}
 use lib.ListN.{drop}
 use Rattle.laws.specs.Lists.{same, bytes}
 use Rattle.reading.specs.Many.{below_root}
-use Rattle.markup.specs.Elements.{Tree}
+use Rattle.markup.specs.NamesAndValues.Read.{read}
+use Rattle.markup.specs.Elements.{Tree, element}
 use Rattle.schema.specs.Schema.{Node, none, ◌▸◌}
+use Rattle.schema.specs.Shape.{fault_of}
 use Rattle.nodes.specs.Lookup.{text_of}
 use Rattle.nodes.proofs.Present.{node_of, owed}
 use Rattle.nodes.proofs.Placed.{Placed}
@@ -51,8 +53,10 @@ module _ (a : Tree) (m : Clean Track1.assistenza a) where
   unfolding node_of owed same
   birth = year_number (text_of (a ▹ "Assistito" ▹ "DatiAnagrafici" ▹ "AnnoNascita")) (leaf_in person (bytes "AnnoNascita") _ FieldTexts.anno refl refl)
 
-pub case_in : {s : List ℕ} {top : Top} {a : Tree} → OfShape 1 s top a → CaseShaped a
+pub case_shaped : (a : Tree) (d : ℕ) (l m : List ℕ) → element d l ≡ read a m → fault_of (Track1.track1).each a ≡ 0 → CaseShaped a
 unfolding Track1.track1
-case_in {s} {a = a} x =
-    let c = clean Track1.assistenza below_root (drop x.at s) a x.tops.after x.tops.reads x.clean in
-    record { birth = birth a c; scales = (rated Placed far graded_1 (value a c)).scaled }
+case_shaped a d l m e f = let c = clean Track1.assistenza d l a m e f in record { birth = birth a c; scales = (rated Placed far graded_1 (value a c)).scaled }
+
+-- the same of a record whose children a walk has
+pub case_in : {s : List ℕ} {top : Top} {a : Tree} → OfShape 1 s top a → CaseShaped a
+case_in {s} {a = a} x = case_shaped a below_root (drop x.at s) x.tops.after x.tops.reads x.clean

@@ -6,10 +6,12 @@ use mathlib.Core.List.{List, [], ◌∷◌}
 use lib.ListN.{drop}
 use Rattle.laws.specs.Lists.{any, same, bytes}
 use Rattle.reading.specs.Many.{below_root}
-use Rattle.markup.specs.Elements.{Tree, kids}
+use Rattle.markup.specs.NamesAndValues.Read.{read}
+use Rattle.markup.specs.Elements.{Tree, element, kids}
 use Rattle.reading.specs.Everywhere.{Every}
 use Rattle.reading.proofs.Places.{every_map}
 use Rattle.schema.specs.Schema.{group}
+use Rattle.schema.specs.Shape.{fault_of}
 use Rattle.nodes.proofs.Present.{node_of, owed, group_taken}
 use Rattle.nodes.proofs.Placed.{Placed}
 use Rattle.schemas.specs.Track2
@@ -21,7 +23,7 @@ use Rattle.tracks.specs.RecordFields.{◌▹◌, main_of, said_of, is_event, sai
 use Rattle.tracks.specs.Top.{OfShape}
 use Rattle.tracks.specs.declared.record.Top.{Top}
 use Rattle.tracks.specs.Typed.{Worded, Each, WordedByName}
-use Rattle.tracks.specs.WellRead.{WellEach}
+use Rattle.tracks.specs.WellRead.{WellEach, WellRead}
 use Rattle.tracks.proofs.Fits.{said_main_fits}
 use Rattle.tracks.proofs.Scales.{graded_2, rated_maybe}
 use Rattle.tracks.proofs.Worded.{worded}
@@ -62,6 +64,10 @@ events_by a m r =
     (each_child Placed (λ w t. MainFits t → Worded w t) evaluable wordings kinds (group_taken Placed far (group_in m (bytes "Eventi") events_2 refl refl))))
 
 -- THE EVENTS OF A RECORD WITHOUT A FAULT can be read
-pub events_in : {s : List ℕ} {top : Top} {a : Tree} → OfShape 2 s top a → Every WordedByName (kids (a ▹ "Eventi").inside)
+pub events_worded : (a : Tree) (d : ℕ) (l m : List ℕ) → element d l ≡ read a m → fault_of (Track2.track2).each a ≡ 0 → WellRead (record_of 2 a) → Every WordedByName (kids (a ▹ "Eventi").inside)
 unfolding Track2.track2 record_of
-events_in {s} {a = a} x = events_by a (clean Track2.assistenza below_root (drop x.at s) a x.tops.after x.tops.reads x.clean) x.well.1
+events_worded a d l m e f w = events_by a (clean Track2.assistenza d l a m e f) w.1
+
+-- the same of a record whose children a walk has
+pub events_in : {s : List ℕ} {top : Top} {a : Tree} → OfShape 2 s top a → Every WordedByName (kids (a ▹ "Eventi").inside)
+events_in {s} {a = a} x = events_worded a below_root (drop x.at s) x.tops.after x.tops.reads x.clean x.well

@@ -109,12 +109,13 @@ fn event(t: &Table, s: &[u8], n: Node, w: &Wording) -> EventRead
     )
 }
 
-// The event that a child of Eventi is, if it is one.
+// The event that a child of Eventi is, if it is one. The wordings are bound before they are lent, as the names in record.rt are.
 fn event_at(t: &Table, s: &[u8], at: usize, levels: usize) -> Option<EventRead>
     requires { (tree : Tree) × (m : List ℕ) × (element levels (drop at s.now) ≡ read tree m) × WordedByName tree }
     ensures { (tree : Tree) (m : List ℕ) → element levels (drop at s.now) ≡ read tree m → result ≡ happened_at tree }
 {
-    for w in &WORDINGS {
+    let wordings = WORDINGS;
+    for w in &wordings {
         if is_named(s, at, w.element) {
             return Some(event(t, s, Node { at, levels }, w));
         }

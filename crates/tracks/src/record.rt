@@ -63,16 +63,14 @@ pub struct TopFound {
     pub rest: Option<usize>,
 }
 
-// The children of the record at a place that its fields are read from, in one walk.
+// The children of the record at a place that its fields are read from, in one walk. Here and below the names are bound before they are lent: references that
+// are lent as they are written become data that a linker may leave writable, and the archive has none (host/README.md).
 pub fn top_of(s: &[u8], at: usize) -> TopFound
     ensures { ((a : Tree) (m : List ℕ) → element below_root (drop at s.now) ≡ read a m → TopOf s.now at a result.found × Unfinished s.now result.rest m) × IfSome result.rest (λ p. at ≤ p) }
 {
     let node = Node { at, levels: 11 };
-    let walked = walk::<4>(
-        s,
-        node,
-        &[b"Trasmissione", b"Assistito", b"Erogatore", b"Eventi"],
-    );
+    let names: [&[u8]; 4] = [b"Trasmissione", b"Assistito", b"Erogatore", b"Eventi"];
+    let walked = walk::<4>(s, node, &names);
     let [transmission, patient, provider, events] = walked.found;
     TopFound {
         found: Top {
@@ -145,19 +143,17 @@ pub fn valued(s: &[u8], value: Node) -> ValueRead
     requires { Found s.now value Scaled }
     ensures { (tree : Tree) → Stands value.levels (drop value.at s.now) tree → (part s.now result.main.start result.main.end ≡ main_of tree) × (result.scales ≡ scales_of tree) }
 {
+    let names: [&[u8]; 6] = [
+        b"Patologia",
+        b"Autonomia",
+        b"GradoMobilita",
+        b"Disturbi",
+        b"SupportoSociale",
+        b"RischioInfettivo",
+    ];
     let [illness, autonomy, mobility, troubles, support, infection] = walk::<6>(
-        s,
-        value,
-        &[
-            b"Patologia",
-            b"Autonomia",
-            b"GradoMobilita",
-            b"Disturbi",
-            b"SupportoSociale",
-            b"RischioInfettivo",
-        ],
-    )
-    .found;
+        s, value, &names,
+    ).found;
     let cognitive = child(s, troubles, b"Cognitivi");
     let behaviour = child(s, troubles, b"Comportamentali");
     ValueRead {
@@ -179,12 +175,10 @@ pub fn admission(s: &[u8], top: Top) -> AdmissionRead
     ensures { (a : Tree) → OfShape 1 s.now top a → IsAdmission s.now result (admission_of a) }
 {
     let person = child(s, top.patient, b"DatiAnagrafici");
-    let [birth, home] = walk::<2>(s, person, &[b"AnnoNascita", b"Residenza"]).found;
-    let [region, asl, comune, stato] = walk::<4>(
-        s,
-        home,
-        &[b"Regione", b"ASL", b"Comune", b"StatoEstero"],
-    ).found;
+    let names: [&[u8]; 2] = [b"AnnoNascita", b"Residenza"];
+    let [birth, home] = walk::<2>(s, person, &names).found;
+    let names: [&[u8]; 4] = [b"Regione", b"ASL", b"Comune", b"StatoEstero"];
+    let [region, asl, comune, stato] = walk::<4>(s, home, &names).found;
     let value = valued(s, child(s, top.events, b"Valutazione"));
     let prevalente = filled(part(s, value.main.start, value.main.end));
     let scales = value.scales;
