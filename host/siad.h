@@ -9,9 +9,8 @@
    over buffers of their own may run at the same time.
    Stack: measured, not proved: siad_submit at most 14,968 bytes on the files that bench/stack makes, hostile ones among
    them; siad_cancel_file 11,544, for 1 to 1,274 events (bench/cancel); siad_evaluation 10,728 and siad_convert 10,040,
-   for 1 to 4,095 events (bench/evaluation). Of the archive that the older toolchain made (docs/PORT.md), not measured
-   again: siad_sound 10,111 and siad_find 10,479, each on a register of 4,096 rows, a case and its reassessments. Keep
-   16 KB free. */
+   for 1 to 4,095 events (bench/evaluation); siad_find 10,472 and siad_sound 10,024, each on a register of 4,096 rows, a
+   case and its reassessments. Keep 16 KB free. */
 #ifndef SIAD_H
 #define SIAD_H
 #include <stddef.h>
